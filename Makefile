@@ -1,0 +1,41 @@
+# orgviews: a proved Org agenda engine. `make run` builds and shows the first example, `make test` is the whole gate.
+PROGRAM = crates/orgviews/out/orgviews
+SOURCES = $(shell find crates -name out -prune -o -type f \( -name '*.rt' -o -name '*.antt' \) -print) crates.txt
+PREFIX ?= /usr/local
+
+.PHONY: run build check test rows bench install clean
+
+# Builds the program where it isn't fresh, and runs the first example.
+run: $(PROGRAM)
+	@$(PROGRAM) --at "2024-02-28 10:30" < tests/rows/first-run
+
+build: $(PROGRAM)
+
+# `rt run` proves every crate below the program before it builds it, and then runs it on no input.
+$(PROGRAM): $(SOURCES)
+	@echo "orgviews: proving every crate and building the program (about 8 minutes on two cores; later builds only what changed)"
+	@cd crates/orgviews && rt run -- --at "2024-02-28 10:30" < /dev/null
+	@touch $(PROGRAM)
+
+# Every crate, over what earlier checks kept.
+check:
+	rt all check
+
+# The gate: proofs from nothing, must-fail edits, tests, both builds of the program; then the worked streams.
+test:
+	@sh tests/gate.sh
+
+# The worked streams alone, over the program as it was last built.
+rows: $(PROGRAM)
+	@sh tests/rows.sh $(PROGRAM)
+
+bench: $(PROGRAM)
+	@sh bench/run.sh $(PROGRAM)
+
+install: $(PROGRAM)
+	@mkdir -p "$(PREFIX)/bin"
+	@cp $(PROGRAM) "$(PREFIX)/bin/orgviews"
+	@sha256sum "$(PREFIX)/bin/orgviews"
+
+clean:
+	rm -rf crates/*/out

@@ -1,0 +1,4 @@
+pub mod Codes
+pub mod Counts
+pub mod FileName
+pub mod Words

@@ -1,0 +1,10 @@
+//! The lines of a text.
+//!
+//! The items of `Lines` are the lines of the span, in order; a line is lent where it lies in one piece of the text.
+#![tactic(auto)]
+
+mod lines;
+#[cfg(test)]
+mod tests;
+
+pub use lines::{Line, Lines, line_starts};

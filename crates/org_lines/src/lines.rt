@@ -1,0 +1,170 @@
+//! An iterator over the lines of a part of a text.
+ghost use Rattle.std.specs.Prelude.{map, ◌≡◌, ◌≢◌, ◌+◌, ◌-◌, ◌^◌, ◌<◌, ◌≤◌, ◌↔◌, ℕ, [], ◌∷◌, length, slice_index, IfOk, IfErr, IsTrue, MatchOption, MatchResult, IsOk, IsOkUnless};
+ghost use Rattle.std.specs.List.{slice_range, concat, All};
+ghost use Rattle.std.specs.Str.{IsUtf8, IsCharBoundary};
+ghost use Rattle.std.specs.Cow.{cow_slice_items, IsBorrowedSlice};
+ghost use Rattle.std.specs.Iterator.{at_most};
+ghost use Rattle.org_base.specs.declared.code.Code.TheVariants.{Memory};
+ghost use Rattle.org_base.specs.declared.fault.Fault.TheVariants.{Plain};
+ghost use Rattle.org_lines.specs.Cuts.{lines, cuts, starts};
+
+use memchr::memchr;
+use org_base::{Fault, Span};
+use org_text::Text;
+use std::alloc::Global;
+use std::borrow::CowSlice;
+use std::marker::Model;
+
+/// A line with its line feed, if it has one.
+#[derive(Drop)]
+pub struct Line<'a> {
+    /// Where it stands in the text.
+    pub span: Span,
+    /// Its bytes: borrowed where they lie in one piece of the text, assembled otherwise.
+    pub bytes: CowSlice<'a, u8>,
+}
+
+/// The lines of a span that are still to come. A line that can't be lent takes memory; where that is refused the
+/// fault is the last item.
+#[derive(Drop)]
+pub struct Lines<'a, T: Text> {
+    alloc: Global,
+    text: &'a T,
+    left: Span,
+}
+
+impl<'a, T: Text> Model for Lines<'a, T> {
+    ghost use Rattle.std.specs.Prelude.{List, ◌+◌, ◌≤◌, ◌<◌, ◌^◌, length};
+    ghost use Rattle.std.specs.List.{slice_range};
+    ghost use Rattle.org_lines.specs.Cuts.{Cut, cuts, lines};
+
+    ghost Value = { List Cut };
+
+    ghost view = { λ s. cuts (T.run_len s.text.now) s.left.at (lines (slice_range (T.content s.text.now) s.left.at (s.left.at + s.left.len))) };
+
+    ghost invariant = { λ s. (s.left.at + s.left.len ≤ length (T.content s.text.now)) × (s.left.at + s.left.len < 2 ^ 32) };
+}
+
+impl<'a, T: Text> Lines<'a, T> {
+    /// The lines of the span: its bytes cut behind each line feed.
+    pub fn new(alloc: Global, text: &'a T, span: Span) -> Lines<'a, T>
+        requires { span.at + span.len ≤ length (T.content text.now) }
+        ensures cuts { result ≡ cuts (T.run_len text.now) span.at (lines (slice_range (T.content text.now) span.at (span.at + span.len))) }
+        ensures lines { map (λ c. c.bytes) result ≡ lines (slice_range (T.content text.now) span.at (span.at + span.len)) }
+        ensures joined { concat (map (λ c. c.bytes) result) ≡ slice_range (T.content text.now) span.at (span.at + span.len) }
+        ensures utf8 { IsCharBoundary (T.content text.now) span.at → IsCharBoundary (T.content text.now) (span.at + span.len) → All IsUtf8 (map (λ c. c.bytes) result) }
+        ensures few { length result ≤ span.len }
+    {
+        let _len = text.len();
+        Lines {
+            alloc,
+            text,
+            left: span,
+        }
+    }
+}
+
+impl<'a, T: Text> Iterator for Lines<'a, T> {
+    type Item = Result<Line<'a>, Fault>;
+
+    ghost use Rattle.org_lines.specs.Coming.{LineComes};
+
+    ghost next_gives = { LineComes };
+
+    ghost remaining = { λ s. at_most (length s) };
+
+    fn next(&mut self) -> Option<Result<Line<'a>, Fault>> {
+        if self.left.len == 0 {
+            return None;
+        }
+        let at = self.left.at as usize;
+        let end = at + self.left.len as usize;
+        let len = first_len(self.text, at, end);
+        let span = Span {
+            at: self.left.at,
+            len: len as u32,
+        };
+        match bytes_at(self.alloc, self.text, at, len) {
+            Ok(bytes) => {
+                self.left = Span {
+                    at: span.at + span.len,
+                    len: self.left.len - span.len,
+                };
+                Some(Ok(Line { span, bytes }))
+            }
+            Err(fault) => {
+                self.left.len = 0;
+                Some(Err(fault))
+            }
+        }
+    }
+}
+
+/// Where the lines of the span begin. Want of memory is the only refusal.
+pub fn line_starts<T: Text>(alloc: Global, text: &T, span: Span) -> Result<Vec<u32>, Fault>
+    requires { span.at + span.len ≤ length (T.content text.now) }
+    ensures starts { IfOk result (λ v. v.items ≡ starts span.at (lines (slice_range (T.content text.now) span.at (span.at + span.len)))) }
+    ensures memory { IsOkUnless result (Plain Memory) }
+{
+    let _len = text.len();
+    let mut out = Vec::new(alloc);
+    let mut left = span;
+    while left.len > 0 {
+        out.push(left.at)?;
+        let end = left.at as usize + left.len as usize;
+        let len = first_len(text, left.at as usize, end) as u32;
+        left = Span {
+            at: left.at + len,
+            len: left.len - len,
+        };
+    }
+    Ok(out)
+}
+
+// The length of the first line from `at` on, no further than `end`.
+fn first_len<T: Text>(text: &T, at: usize, end: usize) -> usize
+    requires some { at < end }
+    requires within { end ≤ length (T.content text.now) }
+    ensures some { 0 < result }
+    ensures within { at + result ≤ end }
+    ensures one { (k : ℕ) → at ≤ k → k + 1 < at + result → slice_index (T.content text.now) k ≢ 10 }
+    ensures ends { at + result < end → slice_index (T.content text.now) (at + result - 1) ≡ 10 }
+{
+    let mut here = at;
+    while here < end {
+        let piece = text.piece_at(here);
+        let piece = &piece[..piece.len().min(end - here)];
+        match memchr(b'\n', piece) {
+            Some(i) => return here + i + 1 - at,
+            None => here += piece.len(),
+        }
+    }
+    end - at
+}
+
+// The bytes from `at` on, lent where they lie in one piece.
+fn bytes_at<'a, T: Text>(
+    alloc: Global,
+    text: &'a T,
+    at: usize,
+    len: usize,
+) -> Result<CowSlice<'a, u8>, Fault>
+    requires within { at + len ≤ length (T.content text.now) }
+    requires fits { at + len < 2 ^ 32 }
+    ensures bytes { IfOk result (λ b. cow_slice_items b ≡ slice_range (T.content text.now) at (at + len)) }
+    ensures lent { IfOk result (λ b. IsBorrowedSlice b ↔ (len ≤ T.run_len text.now at)) }
+    ensures lends_always { len ≤ T.run_len text.now at → IsOk result }
+    ensures memory { IsOkUnless result (Plain Memory) }
+{
+    let piece = text.piece_at(at);
+    if piece.len() >= len {
+        return Ok(CowSlice::Borrowed(&piece[..len]));
+    }
+    let mut out = Vec::with_capacity(alloc, len)?;
+    while out.len() < len {
+        let piece = text.piece_at(at + out.len());
+        let more = piece.len().min(len - out.len());
+        out.extend_from_slice(&piece[..more])?;
+    }
+    Ok(CowSlice::Owned(out))
+}
