@@ -1,0 +1,298 @@
+//! Measures `orgviews` beside the same work in plain Rust, std alone. Built by `rustc -O`; see `bench/run.sh`.
+//!
+//!     bench measure PROGRAM      the table: both programs in turn, the least of several runs
+//!     bench plain                answers the commands `add`, `text` and `todo` of standard input
+//!     bench text BYTES           an Org file of that many bytes
+use std::collections::HashSet;
+use std::fs::File;
+use std::io::{self, BufRead, BufReader, Read, Write};
+use std::os::unix::process::ExitStatusExt;
+use std::process::{Child, Command, Stdio};
+use std::time::Instant;
+
+const MIB: usize = 1 << 20;
+const SIZES: [usize; 3] = [MIB, 4 * MIB, 8 * MIB];
+const RUNS: usize = 7;
+const QUESTIONS: usize = 10;
+
+fn main() -> io::Result<()> {
+    let args: Vec<String> = std::env::args().collect();
+    match args.get(1).map(String::as_str) {
+        Some("measure") => measure(&args[2], &args[0]),
+        Some("plain") => plain(),
+        Some("text") => io::stdout().write_all(text(args[2].parse().unwrap()).as_bytes()),
+        _ => panic!("bench measure PROGRAM | plain | text BYTES"),
+    }
+}
+
+// A generator of numbers with a fixed start, so that each run measures the same files.
+struct Numbers(u64);
+
+impl Numbers {
+    fn below(&mut self, n: u64) -> usize {
+        self.0 ^= self.0 << 13;
+        self.0 ^= self.0 >> 7;
+        self.0 ^= self.0 << 17;
+        (self.0 % n) as usize
+    }
+
+    fn words(&mut self, count: usize) -> String {
+        const WORDS: [&str; 16] = [
+            "milk", "report", "call", "plan", "review", "budget", "garden", "train", "ticket",
+            "letter", "meeting", "draft", "paper", "window", "north", "quiet",
+        ];
+        let words: Vec<&str> = (0..count).map(|_| WORDS[self.below(16)]).collect();
+        words.join(" ")
+    }
+}
+
+// An ordinary Org file: headings of four levels, two in five with the keyword TODO, a third with tags, some text.
+fn text(bytes: usize) -> String {
+    let mut numbers = Numbers(88172645463325252);
+    let mut out = String::with_capacity(bytes);
+    while out.len() < bytes {
+        out.push_str(&"*".repeat(1 + numbers.below(4)));
+        out.push_str([" TODO ", " TODO ", " DONE ", " ", " "][numbers.below(5)]);
+        out.push_str(["[#A] ", "[#C] ", "", "", "", ""][numbers.below(6)]);
+        let count = 3 + numbers.below(5);
+        out.push_str(&numbers.words(count));
+        out.push_str(["", "", "", "", " :work:", " :home:urgent:"][numbers.below(6)]);
+        out.push('\n');
+        if numbers.below(3) == 0 {
+            out.push_str(&format!("SCHEDULED: <2024-02-{:02} Wed>\n", 1 + numbers.below(28)));
+        }
+        for _line in 0..numbers.below(5) {
+            let count = 5 + numbers.below(8);
+            out.push_str(&numbers.words(count));
+            out.push('\n');
+        }
+    }
+    out.truncate(bytes - 1);
+    out.push('\n');
+    out
+}
+
+// What one run took.
+#[derive(Clone, Copy)]
+struct Cost {
+    seconds: f64,
+    kib: u64,
+}
+
+impl Cost {
+    fn least(self, other: Cost) -> Cost {
+        Cost {
+            seconds: self.seconds.min(other.seconds),
+            kib: self.kib.min(other.kib),
+        }
+    }
+}
+
+#[repr(C)]
+#[derive(Default)]
+struct Usage {
+    times: [i64; 4],
+    max_rss_kib: i64,
+    rest: [i64; 13],
+}
+
+extern "C" {
+    fn wait4(pid: i32, status: *mut i32, options: i32, usage: *mut Usage) -> i32;
+}
+
+fn finish(child: Child) -> u64 {
+    let (mut status, mut usage) = (0, Usage::default());
+    unsafe { wait4(child.id() as i32, &mut status, 0, &mut usage) };
+    assert!(std::process::ExitStatus::from_raw(status).success(), "a run failed");
+    usage.max_rss_kib as u64
+}
+
+fn cost(command: &mut Command, stream: &str) -> io::Result<Cost> {
+    command.stdin(File::open(stream)?).stdout(Stdio::null());
+    let start = Instant::now();
+    let child = command.spawn()?;
+    let kib = finish(child);
+    Ok(Cost {
+        seconds: start.elapsed().as_secs_f64(),
+        kib,
+    })
+}
+
+fn both(program: &str, own: &str, stream: &str) -> io::Result<(Cost, Cost)> {
+    let mut least = None;
+    for _run in 0..RUNS {
+        let proved = cost(Command::new(program).args(["--at", "2024-02-28 10:30"]), stream)?;
+        let plain = cost(Command::new(own).arg("plain"), stream)?;
+        least = Some(match least {
+            None => (proved, plain),
+            Some((a, b)) => (proved.least(a), plain.least(b)),
+        });
+    }
+    Ok(least.unwrap())
+}
+
+fn write_stream(path: &str, text: &str, questions: usize) -> io::Result<()> {
+    let mut file = File::create(path)?;
+    write!(file, "add a.org {}\n{text}", text.len())?;
+    file.write_all("todo\n".repeat(questions).as_bytes())
+}
+
+fn row(size: usize, what: &str, proved: Cost, plain: Cost) {
+    let mib = size as f64 / MIB as f64;
+    println!(
+        "{mib:>4.0} MiB  {what:<13} {:>8.4} s {:>7.0} MiB/s {:>6.1} MiB   plain {:>8.4} s {:>6.1} MiB   ratio {:.2}",
+        proved.seconds,
+        mib / proved.seconds,
+        proved.kib as f64 / 1024.0,
+        plain.seconds,
+        plain.kib as f64 / 1024.0,
+        proved.seconds / plain.seconds
+    );
+}
+
+fn measure(program: &str, own: &str) -> io::Result<()> {
+    let folder = std::env::temp_dir().join(format!("orgviews-bench-{}", std::process::id()));
+    std::fs::create_dir_all(&folder)?;
+    let stream = folder.join("stream").to_string_lossy().into_owned();
+    println!("least of {RUNS} runs; seconds, speed and peak memory of a whole process; `todo` is a tenth of ten questions");
+    let mut together = Vec::new();
+    for size in SIZES {
+        let text = text(size);
+        write_stream(&stream, &text, 0)?;
+        let add = both(program, own, &stream)?;
+        write_stream(&stream, &text, 1)?;
+        let once = both(program, own, &stream)?;
+        write_stream(&stream, &text, QUESTIONS)?;
+        let often = both(program, own, &stream)?;
+        let one = |often: Cost, add: Cost| Cost {
+            seconds: (often.seconds - add.seconds) / QUESTIONS as f64,
+            kib: often.kib,
+        };
+        row(size, "add", add.0, add.1);
+        row(size, "todo", one(often.0, add.0), one(often.1, add.1));
+        row(size, "add and todo", once.0, once.1);
+        together.push(once.0.seconds);
+    }
+    println!("time of add and todo, 8 MiB over 1 MiB: {:.1}", together[2] / together[0]);
+    std::fs::remove_dir_all(&folder)
+}
+
+// The same work in plain Rust: files in a list, everything read anew at each question.
+fn plain() -> io::Result<()> {
+    let mut input = BufReader::with_capacity(1 << 16, io::stdin().lock());
+    let mut output = io::stdout().lock();
+    let mut files: Vec<(String, String)> = Vec::new();
+    let mut line = String::new();
+    loop {
+        line.clear();
+        if input.read_line(&mut line)? == 0 {
+            return Ok(());
+        }
+        let words: Vec<&str> = line.trim_end_matches('\n').split(' ').collect();
+        match words[..] {
+            ["add", name, len] => {
+                let len: usize = len.parse().expect("a number");
+                let mut bytes = Vec::with_capacity(len);
+                input.by_ref().take(len as u64).read_to_end(&mut bytes)?;
+                let text = String::from(std::str::from_utf8(&bytes).expect("UTF-8"));
+                files.push((name.to_string(), text));
+                writeln!(output, "ok {}", files.len())?;
+            }
+            ["text", name] => {
+                let text = files.iter().find(|file| file.0 == name).map_or("", |file| &file.1);
+                write!(output, "view {}\n{text}", text.len())?;
+            }
+            ["todo"] => {
+                let view = todo(&files);
+                write!(output, "view {}\n{view}", view.len())?;
+            }
+            _ => writeln!(output, "err 2 command")?,
+        }
+        output.flush()?;
+    }
+}
+
+fn todo(files: &[(String, String)]) -> String {
+    let mut rows: Vec<(u32, String)> = Vec::new();
+    for (name, text) in files {
+        let base = name.rsplit('/').next().unwrap_or("");
+        let category = match base.rsplit_once('.') {
+            Some((stem, _)) if !stem.is_empty() => stem,
+            _ => base,
+        };
+        let label = format!("{category}:");
+        let column = format!("  {label:<11} ");
+        for line in text.lines() {
+            if let Some((priority, head)) = open_heading(line) {
+                rows.push((priority, format!("{column}{head}\n")));
+            }
+        }
+    }
+    rows.sort_by_key(|row| row.0);
+    rows.into_iter().map(|row| row.1).collect()
+}
+
+fn first_word(text: &str) -> (&str, &str) {
+    let text = text.trim_start();
+    let end = text.find([' ', '\t', '\r']).unwrap_or(text.len());
+    text.split_at(end)
+}
+
+fn priority_of(cookie: &str) -> Option<u32> {
+    let value = cookie.strip_prefix("[#")?.strip_suffix(']')?;
+    match value.as_bytes() {
+        [letter @ b'A'..=b'Z'] => Some(u32::from(*letter)),
+        _ => value.parse().ok().filter(|n| *n <= 64),
+    }
+}
+
+fn is_tags(word: &str) -> bool {
+    word.len() > 1
+        && word.starts_with(':')
+        && word.ends_with(':')
+        && word.chars().any(|c| c != ':')
+        && word.chars().all(|c| c.is_alphanumeric() || "_@#%:".contains(c))
+}
+
+fn open_heading(line: &str) -> Option<(u32, String)> {
+    let stars = line.bytes().take_while(|b| *b == b'*').count();
+    let rest = line[stars..].strip_prefix(' ').filter(|_| stars > 0)?;
+    let (keyword, rest) = first_word(rest);
+    if keyword != "TODO" {
+        return None;
+    }
+    let (mut parts, mut rest, mut priority) = (vec![keyword], rest, 66);
+    let (word, behind) = first_word(rest);
+    if let Some(number) = priority_of(word) {
+        parts.push(word);
+        (rest, priority) = (behind, number);
+    }
+    if first_word(rest).0 == "COMMENT" {
+        return None;
+    }
+    let rest = rest.trim();
+    let last = rest.rsplit([' ', '\t', '\r']).next().unwrap_or("");
+    let (title, tags) = if is_tags(last) {
+        (rest[..rest.len() - last.len()].trim_end(), last)
+    } else {
+        (rest, "")
+    };
+    if !title.is_empty() {
+        parts.push(title);
+    }
+    let mut seen = HashSet::new();
+    let mut own = Vec::new();
+    for tag in tags.split(':').filter(|tag| !tag.is_empty()) {
+        if tag == "ARCHIVE" {
+            return None;
+        }
+        if seen.insert(tag) {
+            own.push(tag);
+        }
+    }
+    let shown = format!(":{}:", own.join(":"));
+    if !own.is_empty() {
+        parts.push(&shown);
+    }
+    Some((priority, parts.join(" ")))
+}

@@ -1,0 +1,13 @@
+#!/bin/sh
+# Measures a program beside the same work in plain Rust. Prints the machine, its load, the commit and the kit first.
+program=$1
+cd "$(dirname "$0")/.." || exit 2
+if ! command -v rustc > /dev/null; then
+    echo "bench: rustc is needed for the program that orgviews is compared with"
+    exit 2
+fi
+mkdir -p bench/out
+rustc -O -o bench/out/bench bench/bench.rs || exit 2
+echo "machine: $(nproc) processors, $(sed -n 's/^model name.*: //p' /proc/cpuinfo | head -n 1), load $(cut -d' ' -f1 /proc/loadavg)"
+echo "commit: $(git rev-parse --short HEAD 2>/dev/null), kit: $(rt version 2>/dev/null)"
+exec bench/out/bench measure "$program"

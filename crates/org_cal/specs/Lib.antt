@@ -1,0 +1,10 @@
+pub mod Added
+pub mod Blocks
+pub mod Days
+pub mod Faults
+pub mod Laws
+pub mod Minutes
+pub mod Parts
+pub mod Pieces
+pub mod Texts
+pub mod Weeks

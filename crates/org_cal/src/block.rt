@@ -1,0 +1,158 @@
+//! Blocks of time by their names.
+ghost use Rattle.std.specs.Prelude.{◌≡◌, ◌^◌, ◌<◌, ◌≤◌};
+ghost use Rattle.std.specs.Option.{option_map};
+ghost use Rattle.org_cal.specs.Added as Added;
+ghost use Rattle.org_cal.specs.Blocks as blocks;
+
+use crate::day::Day;
+use crate::digits::{four_digits, two_digits};
+use crate::period::Period;
+use jiff_core::civil;
+
+/// The block that a text names on a day.
+pub fn named(text: &[u8], today: Day) -> Option<Period>
+    ensures value { option_map (λ period. (period.first, period.last)) result ≡ blocks.block_of text.now today }
+{
+    if text == b"today".as_slice() {
+        day_block(today.number())
+    } else if text == b"yesterday".as_slice() {
+        day_block(today.number() - 1)
+    } else if text == b"thisweek".as_slice() {
+        week_from(today.monday().number())
+    } else if text == b"lastweek".as_slice() {
+        week_from(today.monday().number().saturating_sub(7))
+    } else if text == b"thismonth".as_slice() {
+        months_from(this_month(today), 1)
+    } else if text == b"lastmonth".as_slice() {
+        months_from(this_month(today) - 1, 1)
+    } else if text == b"thisyear".as_slice() {
+        year_block(today.parts().0)
+    } else if text == b"lastyear".as_slice() {
+        year_block(today.parts().0 - 1)
+    } else {
+        dated_block(text)
+    }
+}
+
+/// `YYYY`, `YYYY-MM`, `YYYY-Qn`, `YYYY-Www` or `YYYY-MM-DD`.
+fn dated_block(text: &[u8]) -> Option<Period>
+    ensures value { option_map (λ period. (period.first, period.last)) result ≡ blocks.dated_block text.now }
+{
+    match text {
+        [a, b, c, d] => year_block(four_digits(*a, *b, *c, *d)?),
+        [a, b, c, d, b'-', m, n] => part_of_year(four_digits(*a, *b, *c, *d)?, *m, *n),
+        [a, b, c, d, b'-', b'W', m, n] => {
+            let year = four_digits(*a, *b, *c, *d)?;
+            week_block(year, two_digits(*m, *n)?)
+        }
+        _ => day_block(Day::spelled(text)?.number()),
+    }
+}
+
+/// `MM`, or `Q1` to `Q4`.
+fn part_of_year(year: u16, m: u8, n: u8) -> Option<Period>
+    requires { year < 10_000 }
+    ensures value { option_map (λ period. (period.first, period.last)) result ≡ blocks.part_of_year year m n }
+{
+    if m == b'Q' {
+        quarter_block(year, two_digits(b'0', n)?)
+    } else {
+        month_block(year, two_digits(m, n)?)
+    }
+}
+
+fn year_block(year: u16) -> Option<Period>
+    ensures value { option_map (λ period. (period.first, period.last)) result ≡ blocks.year_block year }
+{
+    months_from(12 * year as u32, 12)
+}
+
+fn quarter_block(year: u16, quarter: u8) -> Option<Period>
+    ensures value { option_map (λ period. (period.first, period.last)) result ≡ blocks.quarter_block year quarter }
+{
+    if quarter < 1 || quarter > 4 {
+        return None;
+    }
+    months_from(12 * year as u32 + 3 * (quarter as u32 - 1), 3)
+}
+
+fn month_block(year: u16, month: u8) -> Option<Period>
+    ensures value { option_map (λ period. (period.first, period.last)) result ≡ blocks.month_block year month }
+{
+    if month < 1 || month > 12 {
+        return None;
+    }
+    months_from(12 * year as u32 + (month as u32 - 1), 1)
+}
+
+/// The week of a year (ISO 8601): the week with 4 January is the first.
+fn week_block(year: u16, week: u8) -> Option<Period>
+    ensures value { option_map (λ period. (period.first, period.last)) result ≡ blocks.week_block year week }
+{
+    let fourth = Day::made(year, 1, 4)?;
+    let weeks = week.saturating_sub(1) as u32;
+    let period = week_from(fourth.monday().number() + 7 * weeks)?;
+    if period.first.iso_week() == (year, week) {
+        Some(period)
+    } else {
+        None
+    }
+}
+
+fn day_block(number: u32) -> Option<Period>
+    ensures value { option_map (λ period. (period.first, period.last)) result ≡ blocks.day_block number }
+{
+    let day = Day::of_number(number as u64)?;
+    Some(Period {
+        first: day,
+        last: day,
+    })
+}
+
+/// The week that a Monday begins.
+fn week_from(monday: u32) -> Option<Period>
+    requires { monday < 2 ^ 31 }
+    ensures value { option_map (λ period. (period.first, period.last)) result ≡ blocks.week_from monday }
+{
+    let first = Day::of_number(monday as u64)?;
+    let last = Day::of_number(monday as u64 + 6)?;
+    Some(Period { first, last })
+}
+
+/// The months from January of the year 0 to the day's.
+fn this_month(day: Day) -> u32
+    ensures value { result ≡ blocks.this_month day }
+    ensures first { 12 ≤ result }
+    ensures last { result < 120_000 }
+{
+    let (year, month, _) = day.parts();
+    12 * year as u32 + (month as u32 - 1)
+}
+
+/// So many months, the first counted from January of the year 0.
+fn months_from(index: u32, count: u32) -> Option<Period>
+    requires some { 1 ≤ count }
+    requires within_year { count ≤ 12 }
+    requires small { index < 2 ^ 31 }
+    ensures value { option_map (λ period. (period.first, period.last)) result ≡ blocks.months_from index count }
+{
+    if index < 12 || index + count > 120_000 {
+        return None;
+    }
+    let first = day_of_month(index, 1);
+    let last = day_of_month(index + count - 1, 31);
+    Some(Period { first, last })
+}
+
+/// The day of a month, or its last day where the month is shorter.
+fn day_of_month(index: u32, day: u8) -> Day
+    requires first { 12 ≤ index }
+    requires last { index < 120_000 }
+    requires some { 1 ≤ day }
+    ensures value { result ≡ Added.day_of_month index day }
+{
+    let year = (index / 12) as u16;
+    let month = (index % 12) as u8 + 1;
+    let last = civil::days_in_month(year as i16, month);
+    Day::of(year, month, day.min(last)).unwrap()
+}

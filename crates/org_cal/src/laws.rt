@@ -1,0 +1,38 @@
+//! Laws of the definitions. Each is a function without parameters whose contract is the law.
+ghost use Rattle.org_cal.specs.Laws.{DatesHaveNumbers, FirstWeekHasFourth, FirstWeekHasThursday, NumbersHaveDates, WeeksGoOn, WeeksHaveMondays, WeeksHaveSevenDays};
+
+/// Each day's number is that of its year, month and day of the month.
+pub fn numbers_have_dates()
+    ensures { NumbersHaveDates }
+{}
+
+/// Each date of the years 1 to 9999 has a number, and that number's date is this one.
+pub fn dates_have_numbers()
+    ensures { DatesHaveNumbers }
+{}
+
+/// Two days have the same year and number of the week exactly where the Mondays of their weeks are the same
+/// (ISO 8601).
+pub fn weeks_have_mondays()
+    ensures { WeeksHaveMondays }
+{}
+
+/// The week of a Monday begins there and has seven days (ISO 8601).
+pub fn weeks_have_seven_days()
+    ensures { WeeksHaveSevenDays }
+{}
+
+/// 4 January lies in the first week of its year (ISO 8601).
+pub fn first_week_has_fourth()
+    ensures { FirstWeekHasFourth }
+{}
+
+/// The year's first Thursday lies in its first week (ISO 8601).
+pub fn first_week_has_thursday()
+    ensures { FirstWeekHasThursday }
+{}
+
+/// The week after a week is the next of its year, or the first of the next year (ISO 8601).
+pub fn weeks_go_on()
+    ensures { WeeksGoOn }
+{}

@@ -1,0 +1,29 @@
+//! The calendar: days, times of day, minutes, units and periods of the years 0001 to 9999.
+//!
+//! A day is its number, 1 for 0001-01-01; its date, weekday and ISO week are functions of that number. No call but
+//! those that append to a text takes memory.
+#![tactic(auto)]
+
+mod block;
+mod day;
+mod digits;
+pub mod laws;
+mod minute;
+mod moment;
+mod period;
+mod steps;
+#[cfg(test)]
+mod tests;
+mod text;
+mod time_of_day;
+mod unit;
+
+pub use day::Day;
+pub use digits::two_digits;
+pub use minute::Minute;
+pub use moment::Moment;
+pub use period::Period;
+pub use steps::{Step, Steps};
+pub use text::{day_name, push_date, push_time, push_two};
+pub use time_of_day::TimeOfDay;
+pub use unit::Unit;

@@ -1,0 +1,45 @@
+//! Minutes of civil time.
+ghost use Rattle.std.specs.Prelude.{◌≡◌, ◌<◌};
+ghost use Rattle.org_cal.specs.Minutes.{minute_of};
+
+use crate::day::Day;
+use crate::time_of_day::TimeOfDay;
+use std::marker::Model;
+
+/// A minute of civil time without a zone: contracts see the minutes since 0001-01-01 00:00. The last one,
+/// 9999-12-31 23:59, is more than a `u32` holds.
+#[derive(Clone, Copy, Debug, PartialEq, Eq, PartialOrd, Ord, Hash)]
+pub struct Minute {
+    minutes: u64,
+}
+
+impl Model for Minute {
+    ghost use Rattle.std.specs.Prelude.{ℕ, ◌<◌};
+
+    ghost Value = { ℕ };
+
+    ghost view = { λ a. a.minutes };
+
+    ghost invariant = { λ a. a.minutes < 5_258_964_960 };
+
+    ghost inverse = { λ n. record { minutes = n } };
+}
+
+impl Minute {
+    /// The minute of a day at a time.
+    pub fn at(day: Day, time: TimeOfDay) -> Minute
+        ensures value { result ≡ minute_of day time }
+    {
+        Minute {
+            minutes: (day.number() as u64 - 1) * 1440 + time.minutes() as u64,
+        }
+    }
+
+    /// The minutes since 0001-01-01 00:00.
+    pub fn number(self) -> u64
+        ensures value { result ≡ self }
+        ensures below { result < 5_258_964_960 }
+    {
+        self.minutes
+    }
+}

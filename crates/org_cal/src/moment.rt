@@ -1,0 +1,38 @@
+//! A day and a time of it.
+ghost use Rattle.std.specs.Prelude.{◌≡◌, ◌⊎◌, Some, None, IfOk, IfErr};
+ghost use Rattle.org_cal.specs.Faults.{date_fault};
+ghost use Rattle.org_cal.specs.Minutes.{minute_of};
+ghost use Rattle.org_cal.specs.Texts.{date_of, time_of};
+
+use crate::day::Day;
+use crate::minute::Minute;
+use crate::time_of_day::TimeOfDay;
+use org_base::{Code, Fault};
+
+/// A day and a minute of it, in civil time without a zone. Later moments are greater.
+#[derive(Clone, Copy, Debug, PartialEq, Eq, PartialOrd, Ord, Hash)]
+pub struct Moment {
+    pub day: Day,
+    pub minute: TimeOfDay,
+}
+
+impl Moment {
+    /// The moment that two texts spell: `YYYY-MM-DD`, and one `H:MM` or `HH:MM`. `Date` where either can't be read.
+    pub fn read(date: &[u8], time: &[u8]) -> Result<Moment, Fault>
+        ensures value { IfOk result (λ moment. (date_of date.now ≡ Some moment.day) × (time_of time.now ≡ Some moment.minute)) }
+        ensures date { IfErr result (λ fault. (fault ≡ date_fault) × ((date_of date.now ≡ None) ⊎ (time_of time.now ≡ None))) }
+    {
+        let day = Day::read(date)?;
+        match TimeOfDay::read(time) {
+            Some(minute) => Ok(Moment { day, minute }),
+            None => Err(Fault::Plain(Code::Date)),
+        }
+    }
+
+    /// The minutes since 0001-01-01 00:00.
+    pub fn minute(self) -> Minute
+        ensures value { result ≡ minute_of self.day self.minute }
+    {
+        Minute::at(self.day, self.minute)
+    }
+}

@@ -1,0 +1,6 @@
+pub mod CategoryLemmas
+pub mod FilesLemmas
+pub mod GatherLemmas
+pub mod StepLemmas
+pub mod TagLemmas
+pub mod TodoLemmas

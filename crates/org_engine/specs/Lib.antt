@@ -1,0 +1,9 @@
+pub mod World
+pub mod Files
+pub mod Category
+pub mod Tags
+pub mod Layout
+pub mod TodoList
+pub mod Gathered
+pub mod Step
+pub mod Questions

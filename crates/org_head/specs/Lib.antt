@@ -1,0 +1,9 @@
+pub mod Settings
+pub mod Heading
+pub mod Priority
+pub mod Parts
+pub mod Spans
+pub mod Tags
+pub mod Head
+pub mod HeadParts
+pub mod Laws

@@ -1,0 +1,37 @@
+-- The words that are parts of a heading line (Org Syntax, Headings; which characters are alphanumeric: profile).
+use Rattle.std.specs.Prelude.{ℕ, ◌-◌, Bool, ◌&&◌, ◌||◌, not, ◌==◌, nat_lt, List, length, drop, slice_index, bytes_eq, codes, chars, is_some}
+use Rattle.std.specs.List.{list_any, list_all, suffix_len}
+use Rattle.std.specs.Str.{is_utf8}
+use Rattle.unicode.specs.Binary.{is_alphabetic}
+use Rattle.ucd_category.specs.GeneralCategory.{general_category, general_category_number}
+use Rattle.org_base.specs.Words.{is_letter}
+use Rattle.org_head.specs.Settings.{Keyword, keyword_place}
+
+abbrev pub is_keyword : List Keyword → List ℕ → Bool
+is_keyword keywords w = is_some (keyword_place keywords w)
+
+abbrev pub is_comment_word : List ℕ → Bool
+is_comment_word w = bytes_eq w (codes "COMMENT")
+
+-- alphabetic, or a decimal digit (general category Nd)
+abbrev pub is_alphanumeric : ℕ → Bool
+is_alphanumeric c = is_alphabetic c || (general_category_number (general_category c) == 8)
+
+-- what may stand in a tag: alphanumerics and _@#%
+abbrev pub is_tag_char : ℕ → Bool
+is_tag_char c = is_alphanumeric c || ((c == 95) || (c == 64) || (c == 35) || (c == 37))
+
+abbrev pub is_colon : ℕ → Bool
+is_colon c = c == 58
+
+-- characters of tags and colons alone
+abbrev pub are_tag_chars : List ℕ → Bool
+are_tag_chars w = list_all (λ c. is_tag_char c || is_colon c) (chars w)
+
+-- :a:b:, the tags of a heading: at least one isn't empty
+abbrev pub is_tag_word : List ℕ → Bool
+is_tag_word w = nat_lt 1 (length w) && is_colon (slice_index w 0) && is_colon (slice_index w (length w - 1)) && list_any (λ b. not (is_colon b)) w && is_utf8 w && are_tag_chars w
+
+-- the last word of a text at whose end no gap stands
+abbrev pub last_word : List ℕ → List ℕ
+last_word t = drop (length t - suffix_len is_letter t) t

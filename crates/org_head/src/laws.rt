@@ -1,0 +1,13 @@
+//! Laws of the definitions. Each is a function without parameters whose contract is the law.
+ghost use Rattle.org_head.specs.Laws.{PartsAreThose, PartsAreDetermined};
+
+/// Each heading line is the spelling of the parts that are read.
+#[tactic(auto, using(crate::proofs::PartsHold::has_parts))]
+pub fn heading_line_has_its_parts()
+    ensures { PartsAreThose }
+{}
+
+/// A heading line is the spelling of no other parts.
+pub fn heading_line_has_no_other_parts()
+    ensures { PartsAreDetermined }
+{}

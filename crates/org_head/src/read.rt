@@ -1,0 +1,127 @@
+//! Reading a heading line.
+ghost use Rattle.std.specs.Prelude.{◌≡◌, ◌≤◌, ◌+◌, ◌<◌, ◌^◌, length, IfOk, IsOkUnless, IsTrue};
+ghost use Rattle.org_base.specs.Codes.{memory_fault};
+ghost use Rattle.org_head.specs.Heading.{begins_heading};
+ghost use Rattle.org_head.specs.HeadParts.{HasParts};
+ghost use Rattle.org_head.specs.Parts.{is_keyword};
+ghost use Rattle.org_head.specs.Head.{first_part, behind, title_of, tags_of, head_of, AreInside};
+
+use crate::head::Head;
+use crate::heading::leading_stars;
+use crate::parts::{is_comment_word, is_tag_word, last_word};
+use crate::priority::is_cookie;
+use crate::settings::Settings;
+use crate::spans::Spans;
+use org_base::words::{first_word, trim_end, trim_start};
+use org_base::{Fault, Span};
+use std::alloc::Global;
+
+fn is_keyword(settings: &Settings, word: &[u8]) -> bool
+    ensures value { result ≡ is_keyword settings.now.keywords word.now }
+{
+    settings.keyword_place(word).is_some()
+}
+
+// The first word of what is left of a line of so many bytes, if it is a part.
+fn first_part(is_part: bool, line_len: usize, rest: &[u8]) -> Option<Span>
+    requires within { length rest.now ≤ line_len }
+    requires size { line_len < 2 ^ 32 }
+    ensures value { result ≡ first_part is_part line_len rest.now }
+{
+    if is_part {
+        Some(Span {
+            at: (line_len - rest.len()) as u32,
+            len: first_word(rest).len() as u32,
+        })
+    } else {
+        None
+    }
+}
+
+// What is left behind it and the gap that follows.
+fn behind(is_part: bool, rest: &[u8]) -> &[u8]
+    ensures within { length result.now ≤ length rest.now }
+    ensures value { result.now ≡ behind is_part rest.now }
+{
+    if is_part {
+        let word = first_word(rest);
+        trim_start(&rest[word.len()..])
+    } else {
+        rest
+    }
+}
+
+// The title of a text whose last word may be tags.
+fn title_of(text: &[u8]) -> &[u8]
+    ensures within { length result.now ≤ length text.now }
+    ensures value { result.now ≡ title_of text.now }
+{
+    let tail = last_word(text);
+    if is_tag_word(tail) {
+        trim_end(&text[..text.len() - tail.len()])
+    } else {
+        text
+    }
+}
+
+// The tags of a text that begins at a place.
+fn tags_of(alloc: Global, at: usize, text: &[u8]) -> Result<Spans, Fault>
+    requires { at + length text.now < 2 ^ 32 }
+    ensures value { IfOk result (λ tags. tags ≡ tags_of at text.now) }
+    ensures memory { IsOkUnless result memory_fault }
+{
+    let tail = last_word(text);
+    let mut tags = Spans::new(alloc);
+    if is_tag_word(tail) {
+        tags.push_pieces(at + (text.len() - tail.len()), tail)?;
+    }
+    Ok(tags)
+}
+
+// The parts, read from the left.
+fn read_parts(alloc: Global, line: &[u8], settings: &Settings) -> Result<Head, Fault>
+    requires size { length line.now < 2 ^ 32 }
+    ensures value { IfOk result (λ head. head ≡ head_of settings.now line.now) }
+    ensures memory { IsOkUnless result memory_fault }
+{
+    let n = line.len();
+    let level = leading_stars(line);
+    let words = trim_start(&line[level..]);
+    let has_keyword = is_keyword(settings, first_word(words));
+    let keyword = first_part(has_keyword, n, words);
+    let words = behind(has_keyword, words);
+    let has_cookie = is_cookie(first_word(words));
+    let priority = first_part(has_cookie, n, words);
+    let words = behind(has_cookie, words);
+    let comment = is_comment_word(first_word(words));
+    let left = behind(comment, words);
+    let at = n - left.len();
+    let text = trim_end(left);
+    let tags = tags_of(alloc, at, text)?;
+    let title = Span {
+        at: at as u32,
+        len: title_of(text).len() as u32,
+    };
+    Ok(Head {
+        level: level as u32,
+        keyword,
+        priority,
+        comment,
+        title,
+        tags,
+    })
+}
+
+/// The parts of a heading line in a file with these settings: behind the stars, each optional and a whole word, a
+/// keyword, a priority cookie and `COMMENT`, then the title, then the tags as the last word (Org Syntax, "Headings").
+/// Want of memory is its only refusal, and can come only from the fifth tag on.
+#[tactic(auto, using(crate::proofs::Inside::head_inside, crate::proofs::PartsHold::parts_hold))]
+pub fn read_head(alloc: Global, line: &[u8], settings: &Settings) -> Result<Head, Fault>
+    requires size { length line.now < 2 ^ 32 }
+    ensures value { IfOk result (λ head. head ≡ head_of settings.now line.now) }
+    ensures parts { IsTrue (begins_heading line.now) → IfOk result (λ head. HasParts settings.now line.now head) }
+    ensures within { IfOk result (λ head. AreInside line.now head) }
+    ensures memory { IsOkUnless result memory_fault }
+{
+    read_parts(alloc, line, settings)
+}

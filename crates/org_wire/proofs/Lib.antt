@@ -1,0 +1,4 @@
+pub mod LineLemmas
+pub mod WroteLemmas
+pub mod PayloadLemmas
+pub mod RunLemmas

@@ -1,0 +1,5 @@
+use Rattle.org_wire.proofs.PayloadLemmas.{line_then}
+use Rattle.org_wire.proofs.next.read_command.Goals as goal
+
+pub returns-in-Whole-clause-value : goal.returns-in-Whole-clause-value
+returns-in-Whole-clause-value g c = line_then _ _ _ _ _ c.in-Whole.ensures.line c.read_whole.ensures.value

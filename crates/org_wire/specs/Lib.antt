@@ -1,0 +1,9 @@
+pub mod Devices
+pub mod Lines
+pub mod Stream
+pub mod Replies
+pub mod Run
+pub mod Input
+pub mod Steps
+pub mod Parsed
+pub mod Turns

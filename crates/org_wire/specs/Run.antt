@@ -1,0 +1,102 @@
+-- A run: the replies to the commands of a stream, and the state after them (profile).
+use Rattle.std.specs.Prelude.{◌≡◌, List, [], ◌∷◌, ◌++◌, ℕ, Option, None, Some, flat_map}
+use Rattle.std.specs.Option.{option_to_list}
+use Rattle.std.specs.Io.KnownBytes.{Appends}
+use Rattle.org_base.specs.Codes.{code_of, memory_fault}
+use Rattle.org_base.specs.declared.code.Code.TheVariants.{Device}
+use Rattle.org_engine.specs.World.{State}
+use Rattle.org_engine.specs.Step as step
+use Rattle.org_wire.specs.Replies.{reply_bytes, fault_bytes}
+use Rattle.org_wire.specs.Stream.{reading_of, IsReplaceable}
+use Rattle.org_wire.specs.declared.command.Command.{Command}
+use Rattle.org_wire.specs.declared.command.Command.TheVariants.{Add, Text, Todo}
+use Rattle.org_wire.specs.declared.command.Next.{Next}
+use Rattle.org_wire.specs.declared.command.Next.TheVariants.{Given, Refused, Last, Ended}
+use Rattle.org_wire.specs.declared.reply.Reply.{Reply}
+use Rattle.org_wire.specs.declared.reply.Reply.TheVariants as reply
+use Rattle.org_wire.specs.declared.whole.End.{End}
+use Rattle.org_wire.specs.declared.whole.End.TheVariants.{Done, Stopped}
+
+-- the engine's command
+abbrev pub meaning : Command → step.Command
+meaning (Add name text) = step.AddFile name text
+meaning (Text name) = step.TextOf name
+meaning Todo = step.Ask step.TodoList
+
+-- the engine's reply, as it is written
+abbrev pub shown : step.Reply → Reply
+shown (step.Serial serial) = reply.Serial serial
+shown (step.Shown text) = reply.Shown text
+shown (step.Refused fault) = reply.Refused fault
+
+-- the reply that stands for want of memory
+abbrev pub out_of_memory : Reply
+out_of_memory = reply.Refused memory_fault
+
+-- what is read is answered so, and leaves this state
+abbrev pub AnswersSo : Next → State → Reply → State → Type 0
+AnswersSo (Given command) old answer new = let outcome = step.step (meaning command) old in (answer ≡ shown outcome.reply) × (new ≡ outcome.after)
+AnswersSo (Refused fault) old answer new = (answer ≡ reply.Refused fault) × (new ≡ old)
+AnswersSo (Last fault) old answer new = ⊥
+AnswersSo Ended old answer new = ⊥
+
+-- one turn: the reply to what stands first on the stream, or want of memory with the state unchanged
+pub record Turn (bytes : List ℕ) (old : State) (answer : Reply) (new : State) : Type 0 where
+  pub done : (answer ≡ out_of_memory → ⊥) → AnswersSo (reading_of bytes).next old answer new
+  pub memory : answer ≡ out_of_memory → (new ≡ old) × IsReplaceable (reading_of bytes).next
+
+-- these are the replies to what stands first on the stream; then these bytes and this state are left
+abbrev pub Runs : List ℕ → State → List Reply → List ℕ → State → Type 0
+Runs bytes old [] rest new = (rest ≡ bytes) × (new ≡ old)
+Runs bytes old (answer ∷ answers) rest new = (mid : State) × Turn bytes old answer mid × Runs (reading_of bytes).rest mid answers rest new
+
+-- what is written of replies
+abbrev pub written : List Reply → List ℕ
+written answers = flat_map reply_bytes answers
+
+-- what is written where the stream stops at a fault
+abbrev pub last_bytes : Next → List ℕ
+last_bytes (Last fault) = fault_bytes fault
+last_bytes (Given command) = []
+last_bytes (Refused fault) = []
+last_bytes Ended = []
+
+-- how a run ends at the last reading
+abbrev pub EndsSo : Next → End → Type 0
+EndsSo Ended end = end ≡ Done
+EndsSo (Last fault) end = end ≡ Stopped (code_of fault)
+EndsSo (Given command) end = ⊥
+EndsSo (Refused fault) end = ⊥
+
+-- the whole stream was answered
+pub record IsWhole (bytes : List ℕ) (old : State) (end : End) (new : State) (had has : Option (List ℕ)) : Type 0 where
+  pub answers : List Reply
+  pub rest : List ℕ
+  pub runs : Runs bytes old answers rest new
+  pub ends : EndsSo (reading_of rest).next end
+  pub wrote : Appends had has (written answers ++ last_bytes (reading_of rest).next)
+
+-- what a failed write was to write: a reply, or else what stands for the fault at which the stream stops
+abbrev pub cut_bytes : Option Reply → Next → List ℕ
+cut_bytes (Some answer) next = reply_bytes answer
+cut_bytes None next = last_bytes next
+
+-- a front of the stream was answered; all replies but the last were written, and of the last a front
+pub record IsFront (bytes : List ℕ) (old new : State) (had has : Option (List ℕ)) : Type 0 where
+  pub answers : List Reply
+  pub cut : Option Reply
+  pub rest : List ℕ
+  pub runs : Runs bytes old (answers ++ option_to_list cut) rest new
+  pub part : List ℕ
+  pub lost : List ℕ
+  pub is : cut_bytes cut (reading_of rest).next ≡ part ++ lost
+  pub wrote : Appends had has (written answers ++ part)
+
+-- the end after a failed call
+abbrev pub broken : End
+broken = Stopped Device
+
+-- a run over a stream: the whole of it, or up to the first failed call
+pub record IsRun (bytes : List ℕ) (old : State) (end : End) (new : State) (had has : Option (List ℕ)) : Type 0 where
+  pub whole : (end ≡ broken → ⊥) → IsWhole bytes old end new had has
+  pub front : end ≡ broken → IsFront bytes old new had has

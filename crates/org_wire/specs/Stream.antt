@@ -1,0 +1,109 @@
+-- The commands of a stream of bytes (profile).
+use Rattle.std.specs.Prelude.{◌≡◌, ℕ, ◌+◌, ◌-◌, ◌*◌, List, [], ◌∷◌, Bool, ◌&&◌, ◌==◌, nat_lt, nat_le, Option, None, Some, length, take, drop, codes, if◌then◌else◌}
+use Rattle.std.specs.Str.{bytes_eq, is_utf8}
+use Rattle.org_base.specs.FileName.{is_file_name}
+use Rattle.org_base.specs.declared.code.Code.TheVariants.{Memory, Long, Size, Cut, Device}
+use Rattle.org_base.specs.declared.code.Code.TheVariants as code
+use Rattle.org_base.specs.declared.fault.Fault.TheVariants.{Plain}
+use Rattle.org_text.specs.Replace.{max_bytes}
+use Rattle.org_wire.specs.Lines.{cut_at, longest}
+use Rattle.org_wire.specs.Lines as lines
+use Rattle.org_wire.specs.declared.command.Command.{Command}
+use Rattle.org_wire.specs.declared.command.Command.TheVariants.{Add, Text, Todo}
+use Rattle.org_wire.specs.declared.command.Next.{Next}
+use Rattle.org_wire.specs.declared.command.Next.TheVariants.{Given, Refused, Last, Ended}
+
+-- what a line says: nothing, a whole command, or a name and the length of the payload that follows
+pub data Line : Type 0 where
+  Bad : Line
+  Plainly : (command : Command) → Line
+  Frame : (name : List ℕ) (size : ℕ) → Line
+
+-- the largest number
+abbrev pub most_number : ℕ
+most_number = 1000000000000000000
+
+-- the number that more digits make of a number
+abbrev pub number_from : ℕ → List ℕ → Option ℕ
+number_from n [] = Some n
+number_from n (d ∷ ds) = if nat_le 48 d && nat_le d 57 && nat_le (10 * n + (d - 48)) most_number then number_from (10 * n + (d - 48)) ds else None
+
+-- a number: `0`, or digits with no zero in front
+abbrev pub number_of : List ℕ → Option ℕ
+number_of [] = None
+number_of (d ∷ []) = number_from 0 (d ∷ [])
+number_of (d ∷ (e ∷ ds)) = if d == 48 then None else number_from 0 (d ∷ (e ∷ ds))
+
+-- a word that is a file's name; the other words are ASCII, so a line is UTF-8 where its name is
+abbrev pub is_name : List ℕ → Bool
+is_name word = is_file_name word && is_utf8 word
+
+-- `text NAME`
+abbrev pub text_line : List ℕ → Line
+text_line name = if is_name name then Plainly (Text name) else Bad
+
+-- a name, and the length of a payload where it is a number
+abbrev pub sized_frame : List ℕ → Option ℕ → Line
+sized_frame name None = Bad
+sized_frame name (Some size) = Frame name size
+
+-- `add NAME LEN`, from its name on
+abbrev pub add_line : Option lines.Cut → Line
+add_line None = Bad
+add_line (Some cut) = if is_name cut.before then sized_frame cut.before (number_of cut.after) else Bad
+
+-- a line of several words, cut behind its first
+abbrev pub words_line : Option lines.Cut → Line
+words_line None = Bad
+words_line (Some cut) = if bytes_eq cut.before (codes "text") then text_line cut.after
+    else if bytes_eq cut.before (codes "add") then add_line (cut_at 32 cut.after)
+    else Bad
+
+-- what a line says
+unfoldable pub line_of : List ℕ → Line
+line_of line = if bytes_eq line (codes "todo") then Plainly Todo else words_line (cut_at 32 line)
+
+-- what comes next on a stream, and what follows it
+pub record Reading : Type 0 where
+  pub next : Next
+  pub rest : List ℕ
+
+-- what comes next, behind a line: a payload follows a frame, and is taken only where it may be that long
+abbrev pub after_line : Line → List ℕ → Reading
+after_line Bad rest = record { next = Refused (Plain code.Command); rest = rest }
+after_line (Plainly command) rest = record { next = Given command; rest = rest }
+after_line (Frame name size) rest = if nat_lt max_bytes size then record { next = Last (Plain Size); rest = rest }
+    else if nat_lt (length rest) size then record { next = Last (Plain Cut); rest = [] }
+    else record { next = Given (Add name (take size rest)); rest = drop size rest }
+
+-- what comes next on a stream that is cut at its first LF
+abbrev pub after_cut : Option lines.Cut → Reading
+after_cut None = record { next = Last (Plain Cut); rest = [] }
+after_cut (Some cut) = if nat_lt longest (length cut.before) then record { next = Refused (Plain Long); rest = cut.after }
+    else after_line (line_of cut.before) cut.after
+
+-- what comes next on a stream
+abbrev pub reading_of : List ℕ → Reading
+reading_of [] = record { next = Ended; rest = [] }
+reading_of (b ∷ bytes) = after_cut (cut_at 10 (b ∷ bytes))
+
+-- where want of memory may be answered instead: a whole command, and not a bad line or a frame's own checks
+abbrev pub IsReplaceable : Next → Type 0
+IsReplaceable (Given command) = Unit {0}
+IsReplaceable (Refused fault) = ⊥
+IsReplaceable (Last fault) = ⊥
+IsReplaceable Ended = ⊥
+
+-- a command that found no memory
+abbrev pub out_of_memory : Next
+out_of_memory = Refused (Plain Memory)
+
+-- a reader that failed
+abbrev pub broken : Next
+broken = Last (Plain Device)
+
+-- this was read, up to want of memory and broken devices
+pub record IsRead (reading : Reading) (next : Next) (left : Option (List ℕ)) : Type 0 where
+  pub rest : (next ≡ broken → ⊥) → left ≡ Some reading.rest
+  pub is : (next ≡ broken → ⊥) → (next ≡ out_of_memory → ⊥) → next ≡ reading.next
+  pub memory : next ≡ out_of_memory → IsReplaceable reading.next

@@ -1,0 +1,30 @@
+-- What holds between the turns of a run.
+use Rattle.std.specs.Prelude.{◌≡◌, List, ℕ, Option, Some}
+use Rattle.std.specs.Io.KnownBytes.{Appends}
+use Rattle.org_engine.specs.World.{State}
+use Rattle.org_wire.specs.Run.{AnswersSo, Runs, out_of_memory, written}
+use Rattle.org_wire.specs.declared.command.Command.{Command}
+use Rattle.org_wire.specs.declared.command.Next.{Next}
+use Rattle.org_wire.specs.declared.command.Next.TheVariants.{Given, Refused, Last, Ended}
+use Rattle.org_wire.specs.declared.reply.Reply.{Reply}
+use Rattle.org_wire.specs.declared.reply.Reply.TheVariants as reply
+
+-- the stream was answered so far, and these bytes are left
+pub record IsSoFar (bytes : List ℕ) (old new : State) (had has now : Option (List ℕ)) : Type 0 where
+  pub answers : List Reply
+  pub rest : List ℕ
+  pub left : now ≡ Some rest
+  pub runs : Runs bytes old answers rest new
+  pub wrote : Appends had has (written answers)
+
+-- the engine's answer to a command, or want of memory with nothing changed
+pub record Serves (command : Command) (old : State) (answer : Reply) (new : State) : Type 0 where
+  pub done : (answer ≡ out_of_memory → ⊥) → AnswersSo (Given command) old answer new
+  pub memory : answer ≡ out_of_memory → new ≡ old
+
+-- what was read is answered so
+abbrev pub Answered : Next → State → Reply → State → Type 0
+Answered (Given command) old answer new = Serves command old answer new
+Answered (Refused fault) old answer new = (answer ≡ reply.Refused fault) × (new ≡ old)
+Answered (Last fault) old answer new = ⊥
+Answered Ended old answer new = ⊥

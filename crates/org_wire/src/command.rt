@@ -1,0 +1,28 @@
+//! The commands of a stream.
+
+use org_base::{Bytes, Fault, Name};
+
+/// A command, one variant for each line that is one.
+#[derive(Drop)]
+pub enum Command {
+    /// `add NAME LEN`, with its payload: adds a file.
+    Add(Name, Bytes),
+    /// `text NAME`: asks for a file's text.
+    Text(Name),
+    /// `todo`: asks for the TODO list.
+    Todo,
+}
+
+/// What comes next on a stream.
+#[derive(Drop)]
+pub enum Next {
+    /// A command, with its payload.
+    Given(Command),
+    /// A line that is no command, or a command that found no memory. The stream goes on behind it.
+    Refused(Fault),
+    /// The stream can't be read on: `Size` for a payload that is announced too long, `Cut` where the stream ends inside a
+    /// line or a payload, `Device` where a read failed or there were 2^40 of them.
+    Last(Fault),
+    /// The stream ended.
+    Ended,
+}

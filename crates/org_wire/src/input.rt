@@ -1,0 +1,281 @@
+//! What is read of a stream.
+ghost use Rattle.std.specs.Prelude.{◌≡◌, [], ◌++◌, true, IfOk, IfSome, List, ℕ, IsOkUnless};
+ghost use Rattle.org_base.specs.Codes.{memory_fault};
+
+use crate::command::{Command, Next};
+use crate::counted::Counted;
+use crate::line::LineBuffer;
+use crate::parse::{Parsed, parse_line};
+use crate::room::{MOST_ROOM, Room};
+use org_base::{Bytes, Code, Fault, Name};
+use org_text::MAX_BYTES;
+use std::alloc::Global;
+use std::io::Read;
+
+/// The most reads of a run.
+const MOST_READS: u64 = 1_099_511_627_776;
+
+/// Whether bytes are there.
+#[derive(Drop)]
+pub(crate) enum Ready {
+    There,
+    End,
+    Failed,
+}
+
+/// What came as the next byte.
+#[derive(Drop)]
+pub(crate) enum Byte {
+    Given(u8),
+    End,
+    Failed,
+}
+
+/// What ended a line.
+#[derive(Drop)]
+pub(crate) enum LineEnd {
+    Whole,
+    Long,
+    Cut,
+    Ended,
+    Failed,
+}
+
+/// What ended a payload.
+#[derive(Drop)]
+pub(crate) enum Payload {
+    Whole(Bytes),
+    NoMemory,
+    Cut,
+    Failed,
+}
+
+/// A stream over a reader that it lends, with room for a line and for bytes that were read ahead.
+#[derive(Drop)]
+pub struct Input<'a, R> {
+    reader: &'a mut Counted<R>,
+    room: Room,
+    line: LineBuffer,
+    alloc: Global,
+}
+
+// Puts the bytes at the end, unless memory was refused before, and answers whether it never was.
+fn keep(bytes: &mut Vec<u8>, has_memory: bool, run: &[u8]) -> bool
+    ensures ok { result ≡ true → (has_memory ≡ true) × (bytes.new.items ≡ bytes.old.items ++ run.now) }
+{
+    has_memory && bytes.extend_from_slice(run).is_ok()
+}
+
+impl<'a, R: Read> Input<'a, R> {
+    ghost use Rattle.org_wire.specs.Input.{left, ahead, bytes_ahead, CountsNext, NeverStopsForMemory};
+    ghost use Rattle.org_wire.specs.Steps.{MakesReady, CountsReady, ReadyFalls, TakesByte, CountsByte, ByteFalls, ReadsLine, CountsLine, LineFalls};
+    ghost use Rattle.org_wire.specs.Steps.{ReadsPayload, CountsPayload, PayloadFalls, StaysAhead};
+    ghost use Rattle.org_wire.specs.Devices.{StaysBounded};
+    ghost use Rattle.org_wire.specs.Stream.{IsRead, after_line, line_of, Frame};
+
+    /// A stream over a reader. Want of memory for a line or for what is read ahead is its only refusal; nothing is read.
+    pub fn new(alloc: Global, reader: &'a mut Counted<R>) -> Result<Input<'a, R>, Fault>
+        ensures reader { IfOk result (λ input. input.reader.now ≡ reader.old) }
+        ensures room { IfOk result (λ input. input.room ≡ []) }
+        ensures same_reference { IfOk result (λ input. input.reader.ghost_name ≡ reader.entry.ghost_name) }
+        ensures memory { IsOkUnless result memory_fault }
+    {
+        let line = LineBuffer::new(alloc)?;
+        let room = Room::new(alloc, MOST_ROOM)?;
+        Ok(Input {
+            reader,
+            room,
+            line,
+            alloc,
+        })
+    }
+
+    /// A stream over a reader, a line buffer and room that are there.
+    pub(crate) fn over(
+        alloc: Global,
+        reader: &'a mut Counted<R>,
+        line: LineBuffer,
+        room: Room,
+    ) -> Input<'a, R>
+        requires { room ≡ [] }
+        ensures reader { result.reader.now ≡ reader.old }
+        ensures room { result.room ≡ [] }
+        ensures same_reference { result.reader.ghost_name ≡ reader.entry.ghost_name }
+    {
+        Input {
+            reader,
+            room,
+            line,
+            alloc,
+        }
+    }
+
+    /// The reader, given back.
+    pub(crate) fn into_reader(self) -> &'a mut Counted<R>
+        ensures value { result.now ≡ self.entry.reader.now }
+        ensures same_reference { result.ghost_name ≡ self.entry.reader.ghost_name }
+    {
+        self.reader
+    }
+
+    // Reads where nothing is there.
+    fn make_ready(&mut self) -> Ready
+        ensures value { MakesReady result self.new.room (left R.remaining self.old) (left R.remaining self.new) }
+        ensures counted { CountsReady result self.old.reader.now self.new.reader.now }
+        ensures falls { ReadyFalls result (ahead self.old) (ahead self.new) }
+        ensures bounded { StaysBounded self.old.reader.now.calls self.new.reader.now.calls }
+        ensures same_reference { self.new.reader.ghost_name ≡ self.old.reader.ghost_name }
+        ensures line { self.new.line ≡ self.old.line }
+    {
+        if !self.room.ready().is_empty() {
+            return Ready::There;
+        }
+        if self.reader.calls() >= MOST_READS {
+            return Ready::Failed;
+        }
+        match self.room.fill(self.reader) {
+            Ok(true) => Ready::There,
+            Ok(false) => Ready::End,
+            Err(_) => Ready::Failed,
+        }
+    }
+
+    // Takes the next byte.
+    fn next_byte(&mut self) -> Byte
+        ensures taken { TakesByte result (left R.remaining self.old) (left R.remaining self.new) }
+        ensures counted { CountsByte result self.old.reader.now self.new.reader.now }
+        ensures falls { ByteFalls result (ahead self.old) (ahead self.new) }
+        ensures bounded { StaysBounded self.old.reader.now.calls self.new.reader.now.calls }
+        ensures same_reference { self.new.reader.ghost_name ≡ self.old.reader.ghost_name }
+        ensures line { self.new.line ≡ self.old.line }
+    {
+        match self.make_ready() {
+            Ready::There => match self.room.take() {
+                Some(byte) => Byte::Given(byte),
+                None => Byte::End,
+            },
+            Ready::End => Byte::End,
+            Ready::Failed => Byte::Failed,
+        }
+    }
+
+    /// Reads up to the next LF, which it takes too, and keeps the line before it. Of a long line the rest is skipped.
+    pub(crate) fn read_line(&mut self) -> LineEnd
+        ensures line { ReadsLine result (left R.remaining self.old) self.new.line (left R.remaining self.new) }
+        ensures counted { CountsLine result self.old.reader.now self.new.reader.now }
+        ensures falls { LineFalls result (ahead self.old) (ahead self.new) }
+        ensures bounded { StaysBounded self.old.reader.now.calls self.new.reader.now.calls }
+        ensures same_reference { self.new.reader.ghost_name ≡ self.old.reader.ghost_name }
+    {
+        self.line.clear();
+        let mut is_long = false;
+        'bytes: loop {
+            match self.next_byte() {
+                Byte::Given(b'\n') => {
+                    return if is_long {
+                        LineEnd::Long
+                    } else {
+                        LineEnd::Whole
+                    };
+                }
+                Byte::Given(byte) => {
+                    if self.line.is_full() {
+                        is_long = true;
+                    } else {
+                        self.line.push(byte);
+                    }
+                }
+                Byte::End => {
+                    return if self.line.is_empty() {
+                        LineEnd::Ended
+                    } else {
+                        LineEnd::Cut
+                    };
+                }
+                Byte::Failed => return LineEnd::Failed,
+            }
+        }
+    }
+
+    // Reads so many bytes, a run at a time. Where they find no memory they are read and thrown away.
+    fn read_payload(&mut self, size: usize) -> Payload
+        ensures value { ReadsPayload result size (left R.remaining self.old) (left R.remaining self.new) }
+        ensures counted { CountsPayload result self.old.reader.now self.new.reader.now }
+        ensures falls { PayloadFalls result (ahead self.old) (ahead self.new) }
+        ensures bounded { StaysBounded self.old.reader.now.calls self.new.reader.now.calls }
+        ensures same_reference { self.new.reader.ghost_name ≡ self.old.reader.ghost_name }
+    {
+        let mut bytes = Vec::new(self.alloc);
+        let mut has_memory = bytes.reserve_exact(size).is_ok();
+        let mut left = size;
+        'runs: for _run in 0..size {
+            if left == 0 {
+                break;
+            }
+            match self.make_ready() {
+                Ready::There => {
+                    let ready = self.room.ready();
+                    let count = ready.len().min(left);
+                    has_memory = keep(&mut bytes, has_memory, &ready[..count]);
+                    self.room.advance(count);
+                    left -= count;
+                }
+                Ready::End => return Payload::Cut,
+                Ready::Failed => return Payload::Failed,
+            }
+        }
+        if has_memory {
+            Payload::Whole(Bytes::new(bytes))
+        } else {
+            Payload::NoMemory
+        }
+    }
+
+    // The command to add a file of this name, whose text follows. Without a name there was no memory for it.
+    fn read_frame(&mut self, name: Option<Name>, size: u64) -> Next
+        ensures value { (word : List ℕ) → IfSome name (λ n. n ≡ word) → IfSome (left R.remaining self.old) (λ bytes.
+            IsRead (after_line (Frame word size) bytes) result (left R.remaining self.new)) }
+        ensures counted { CountsNext result self.old.reader.now self.new.reader.now }
+        ensures falls { StaysAhead result (ahead self.old) (ahead self.new) }
+        ensures last { NeverStopsForMemory result }
+        ensures bounded { StaysBounded self.old.reader.now.calls self.new.reader.now.calls }
+        ensures same_reference { self.new.reader.ghost_name ≡ self.old.reader.ghost_name }
+    {
+        if size > MAX_BYTES as u64 {
+            return Next::Last(Fault::Plain(Code::Size));
+        }
+        match self.read_payload(size as usize) {
+            Payload::Whole(bytes) => match name {
+                Some(name) => Next::Given(Command::Add(name, bytes)),
+                None => Next::Refused(Fault::Plain(Code::Memory)),
+            },
+            Payload::NoMemory => Next::Refused(Fault::Plain(Code::Memory)),
+            Payload::Cut => Next::Last(Fault::Plain(Code::Cut)),
+            Payload::Failed => Next::Last(Fault::Plain(Code::Device)),
+        }
+    }
+
+    /// The command of the line that was read, with its payload.
+    pub(crate) fn read_whole(&mut self) -> Next
+        ensures value { IfSome (left R.remaining self.old) (λ bytes.
+            IsRead (after_line (line_of self.old.line) bytes) result (left R.remaining self.new)) }
+        ensures counted { CountsNext result self.old.reader.now self.new.reader.now }
+        ensures falls { StaysAhead result (ahead self.old) (ahead self.new) }
+        ensures last { NeverStopsForMemory result }
+        ensures bounded { StaysBounded self.old.reader.now.calls self.new.reader.now.calls }
+        ensures same_reference { self.new.reader.ghost_name ≡ self.old.reader.ghost_name }
+    {
+        match parse_line(self.line.as_slice()) {
+            Parsed::Bad => Next::Refused(Fault::Plain(Code::Command)),
+            Parsed::Todo => Next::Given(Command::Todo),
+            Parsed::Text(name) => match Name::new(self.alloc, name) {
+                Ok(name) => Next::Given(Command::Text(name)),
+                Err(_) => Next::Refused(Fault::Plain(Code::Memory)),
+            },
+            Parsed::Frame(name, size) => {
+                let name = Name::new(self.alloc, name).ok();
+                self.read_frame(name, size)
+            }
+        }
+    }
+}

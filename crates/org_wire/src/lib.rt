@@ -1,0 +1,27 @@
+//! The stream: commands from bytes, replies to bytes, and a whole run over a reader and a writer.
+//!
+//! What a run writes, and the state in which it leaves the engine, are those of one definition over the list of all
+//! bytes that the reader gives, in whatever pieces these come.
+#![tactic(auto)]
+
+mod command;
+mod counted;
+mod digits;
+mod input;
+mod line;
+mod next;
+mod parse;
+mod reply;
+mod room;
+mod serve;
+mod whole;
+
+pub use command::{Command, Next};
+pub use counted::Counted;
+pub use input::Input;
+pub use next::read_command;
+pub use reply::{Reply, write_reply};
+pub use whole::{End, run};
+
+#[cfg(test)]
+mod tests;

@@ -1,0 +1,32 @@
+//! The next command of a stream.
+ghost use Rattle.std.specs.Prelude.{◌≡◌, IfSome};
+ghost use Rattle.org_wire.specs.Devices.{StaysBounded};
+ghost use Rattle.org_wire.specs.Input.{left, ahead, CountsNext, NextFalls, NeverStopsForMemory};
+ghost use Rattle.org_wire.specs.Stream.{IsRead, reading_of};
+
+use crate::command::Next;
+use crate::input::{Input, LineEnd};
+use org_base::{Code, Fault};
+use std::io::Read;
+
+/// Reads the next command with its payload, as the stream's grammar says (profile). Refusals in order: `Cut` for a
+/// missing LF, `Long`, `Command`, `Size` for a payload that is announced too long (nothing of it is taken), `Cut` for a
+/// missing payload; want of memory may stand for a whole command alone, whose bytes are taken all the same. A failed
+/// read is last, and isn't tried again.
+pub fn read_command<R: Read>(input: &mut Input<'_, R>) -> Next
+    ensures value { IfSome (left R.remaining input.old) (λ bytes.
+        IsRead (reading_of bytes) result (left R.remaining input.new)) }
+    ensures counted { CountsNext result input.old.reader.now input.new.reader.now }
+    ensures falls { NextFalls result (ahead input.old) (ahead input.new) }
+    ensures last { NeverStopsForMemory result }
+    ensures bounded { StaysBounded input.old.reader.now.calls input.new.reader.now.calls }
+    ensures same_reference { input.new.reader.ghost_name ≡ input.old.reader.ghost_name }
+{
+    match input.read_line() {
+        LineEnd::Ended => Next::Ended,
+        LineEnd::Cut => Next::Last(Fault::Plain(Code::Cut)),
+        LineEnd::Long => Next::Refused(Fault::Plain(Code::Long)),
+        LineEnd::Failed => Next::Last(Fault::Plain(Code::Device)),
+        LineEnd::Whole => input.read_whole(),
+    }
+}

@@ -1,0 +1,114 @@
+//! What a line says, read without memory.
+ghost use Rattle.std.specs.Prelude.{◌≡◌, None, Some, IfSome, IfNone, MatchOption, true, false};
+ghost use Rattle.org_wire.specs.Lines.{cut_at};
+ghost use Rattle.org_wire.specs.Stream.{number_of, is_name, line_of, text_line, add_line};
+ghost use Rattle.org_wire.specs.Parsed.{said};
+
+use org_base::is_file_name;
+
+/// The largest number that a word can be.
+const MOST_NUMBER: u64 = 1_000_000_000_000_000_000;
+
+/// What a line says.
+#[derive(Drop)]
+pub(crate) enum Parsed<'a> {
+    /// No command.
+    Bad,
+    Todo,
+    Text(&'a str),
+    /// A file to add, and how long its text is.
+    Frame(&'a str, u64),
+}
+
+// What stands before the first such byte, and what follows it.
+fn cut(line: &[u8], byte: u8) -> Option<(&[u8], &[u8])>
+    ensures value { MatchOption result (cut_at byte line.now ≡ None)
+        (λ parts. cut_at byte line.now ≡ Some (record { before = parts.0.now; after = parts.1.now })) }
+{
+    for (i, x) in line.iter().enumerate() {
+        if *x == byte {
+            return Some((&line[..i], &line[i + 1..]));
+        }
+    }
+    None
+}
+
+// The number that a word is: `0`, or digits with no zero in front, at most 10^18.
+fn number(word: &[u8]) -> Option<u64>
+    ensures value { result ≡ number_of word.now }
+{
+    if word.is_empty() || (word.len() > 1 && word[0] == b'0') {
+        return None;
+    }
+    let mut number = 0u64;
+    for digit in word {
+        if *digit < b'0' || *digit > b'9' {
+            return None;
+        }
+        number = 10 * number + u64::from(*digit - b'0');
+        if number > MOST_NUMBER {
+            return None;
+        }
+    }
+    Some(number)
+}
+
+// The file's name that a word is.
+fn name(word: &[u8]) -> Option<&str>
+    ensures none { IfNone result (is_name word.now ≡ false) }
+    ensures some { IfSome result (λ name. (is_name word.now ≡ true) × (name.now ≡ word.now)) }
+{
+    if !is_file_name(word) {
+        return None;
+    }
+    match str::from_utf8(word) {
+        Ok(name) => Some(name),
+        Err(_) => None,
+    }
+}
+
+/// What a line says. Words are separated by exactly one space, and none is empty.
+#[tactic(auto, unfolding(crate::specs::Stream::line_of))]
+pub(crate) fn parse_line(line: &[u8]) -> Parsed<'_>
+    ensures value { line_of line.now ≡ said result }
+{
+    if line == b"todo".as_slice() {
+        return Parsed::Todo;
+    }
+    let Some((word, rest)) = cut(line, b' ') else {
+        return Parsed::Bad;
+    };
+    if word == b"text".as_slice() {
+        return parse_text(rest);
+    }
+    if word == b"add".as_slice() {
+        return parse_add(rest);
+    }
+    Parsed::Bad
+}
+
+// What stands behind `text`.
+fn parse_text(rest: &[u8]) -> Parsed<'_>
+    ensures value { text_line rest.now ≡ said result }
+{
+    match name(rest) {
+        Some(name) => Parsed::Text(name),
+        None => Parsed::Bad,
+    }
+}
+
+// What stands behind `add`.
+fn parse_add(rest: &[u8]) -> Parsed<'_>
+    ensures value { add_line (cut_at 32 rest.now) ≡ said result }
+{
+    let Some((word, size)) = cut(rest, b' ') else {
+        return Parsed::Bad;
+    };
+    let Some(name) = name(word) else {
+        return Parsed::Bad;
+    };
+    match number(size) {
+        Some(size) => Parsed::Frame(name, size),
+        None => Parsed::Bad,
+    }
+}

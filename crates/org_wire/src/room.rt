@@ -1,0 +1,98 @@
+//! Bytes that were read and not yet taken.
+ghost use Rattle.std.specs.Prelude.{◌≡◌, ◌∷◌, ◌≤◌, ◌<◌, [], length, drop, IfOk, OnOk, OnErr, IfSome, IfNone, IsOkUnless, true, false};
+ghost use Rattle.std.specs.Io.KnownBytes.{Consumes, IsAtEnd, Keeps};
+ghost use Rattle.org_base.specs.Counts.{one_more};
+ghost use Rattle.org_base.specs.Codes.{memory_fault};
+ghost use Rattle.org_wire.specs.Devices.{CountsFailure, most_room};
+
+use crate::counted::Counted;
+use org_base::Fault;
+use std::alloc::Global;
+use std::io;
+use std::io::Read;
+use std::marker::Model;
+
+/// How many bytes are read at once.
+pub(crate) const MOST_ROOM: usize = 65_536;
+
+/// Room of a size that never changes, seen as the bytes in it that weren't taken yet.
+#[derive(Drop)]
+pub(crate) struct Room {
+    room: Vec<u8>,
+    at: usize,
+    end: usize,
+}
+
+impl Model for Room {
+    ghost use Rattle.std.specs.Prelude.{◌≡◌, ◌≤◌, ◌<◌, ℕ, List, take, drop, length};
+    ghost use Rattle.org_wire.specs.Devices.{most_room};
+
+    ghost Value = { List ℕ };
+
+    ghost view = { λ r. drop r.at (take r.end r.room.items) };
+
+    ghost invariant = { λ r. (r.at ≤ r.end) × (r.end ≤ length r.room.items) × (0 < length r.room.items) × (length r.room.items ≤ most_room) };
+}
+
+impl Room {
+    /// Empty room of so many bytes. Want of memory is its only refusal.
+    pub(crate) fn new(alloc: Global, size: usize) -> Result<Room, Fault>
+        requires { (0 < size) × (size ≤ most_room) }
+        ensures value { IfOk result (λ room. room ≡ []) }
+        ensures memory { IsOkUnless result memory_fault }
+    {
+        let room = vec![in alloc; 0; size]?;
+        Ok(Room {
+            room,
+            at: 0,
+            end: 0,
+        })
+    }
+
+    /// All that is there.
+    pub(crate) fn ready(&self) -> &[u8]
+        ensures value { result.now ≡ self.now }
+    {
+        &self.room[self.at..self.end]
+    }
+
+    /// Takes so many bytes off the front.
+    pub(crate) fn advance(&mut self, count: usize)
+        requires { count ≤ length self.old }
+        ensures value { self.new ≡ drop count self.old }
+    {
+        self.at += count;
+    }
+
+    /// Takes the first byte, if one is there.
+    pub(crate) fn take(&mut self) -> Option<u8>
+        ensures some { IfSome result (λ byte. self.old ≡ byte ∷ self.new) }
+        ensures none { IfNone result (self.old ≡ []) }
+        ensures unchanged { IfNone result (self.new ≡ self.old) }
+    {
+        if self.at == self.end {
+            return None;
+        }
+        let byte = self.room[self.at];
+        self.at += 1;
+        Some(byte)
+    }
+
+    /// One read, where nothing is there. Answers whether bytes came; after an error there are none.
+    pub(crate) fn fill<R: Read>(&mut self, reader: &mut Counted<R>) -> io::Result<bool>
+        requires { self.old ≡ [] }
+        ensures ok { OnOk result (Consumes (R.remaining reader.old.inner) (R.remaining reader.new.inner) self.new) }
+        ensures more { IfOk result (λ more. more ≡ true → 0 < length self.new) }
+        ensures end { IfOk result (λ more. more ≡ false → (self.new ≡ []) × IsAtEnd (R.remaining reader.new.inner)) }
+        ensures err { OnErr result (Keeps (R.remaining reader.old.inner) (R.remaining reader.new.inner)) }
+        ensures small { length self.new ≤ most_room }
+        ensures calls { reader.new.calls ≡ one_more reader.old.calls }
+        ensures failed { CountsFailure result reader.old.failed reader.new.failed }
+    {
+        self.at = 0;
+        self.end = 0;
+        let count = reader.read(self.room.as_mut_slice())?;
+        self.end = count;
+        Ok(count > 0)
+    }
+}

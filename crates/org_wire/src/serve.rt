@@ -1,0 +1,47 @@
+//! The engine's answers as replies, and its background steps.
+ghost use Rattle.std.specs.Prelude.{◌≡◌};
+ghost use Rattle.org_wire.specs.Turns.{Serves};
+
+use crate::command::Command;
+use crate::reply::Reply;
+use org_base::Bytes;
+use org_engine::{Engine, View};
+use org_text::Text;
+
+/// Carries a command out.
+pub(crate) fn serve<T: Text>(engine: &mut Engine<T>, command: Command) -> Reply
+    ensures value { Serves command engine.old.state result engine.new.state }
+{
+    answer(engine, &command)
+}
+
+fn answer<T: Text>(engine: &mut Engine<T>, command: &Command) -> Reply
+    ensures value { Serves command.now engine.old.state result engine.new.state }
+{
+    match command {
+        Command::Add(name, text) => match engine.add(name.as_str(), text.as_slice()) {
+            Ok(serial) => Reply::Serial(serial),
+            Err(fault) => Reply::Refused(fault),
+        },
+        Command::Text(name) => match engine.text_of(name.as_str()) {
+            Ok(text) => Reply::Shown(Bytes::new(text.into_bytes())),
+            Err(fault) => Reply::Refused(fault),
+        },
+        Command::Todo => match engine.query(View::Todo) {
+            Ok(text) => Reply::Shown(text),
+            Err(fault) => Reply::Refused(fault),
+        },
+    }
+}
+
+/// Makes up to so many background steps, until none is left or one finds no memory. The state stays.
+pub(crate) fn work<T: Text>(engine: &mut Engine<T>, idle: u64)
+    ensures state { engine.new.state ≡ engine.old.state }
+{
+    for _step in 0..idle {
+        match engine.work() {
+            Ok(true) => {}
+            Ok(false) | Err(_) => return,
+        }
+    }
+}

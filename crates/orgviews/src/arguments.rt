@@ -1,0 +1,34 @@
+//! The program's arguments.
+
+use clap::{Arg, ArgAction, Command, value_parser};
+use org_cal::Moment;
+use std::alloc::{AllocError, Global};
+
+/// The arguments that the program takes.
+pub fn command<'a>(alloc: Global) -> Result<Command<'a>, AllocError> {
+    let at = Arg::new(alloc, "at")
+        .long("at")
+        .value_name("MOMENT")
+        .required(true)
+        .action(ArgAction::Set);
+    let idle = Arg::new(alloc, "idle")
+        .long("idle")
+        .value_name("K")
+        .value_parser(value_parser!(u64).range(0..=1000))
+        .default_value("0")
+        .action(ArgAction::Set);
+    let files = Arg::new(alloc, "FILE")
+        .num_args(0..)
+        .action(ArgAction::Append);
+    Command::new(alloc, "orgviews")
+        .arg(at)?
+        .arg(idle)?
+        .arg(files)
+}
+
+/// The moment that a text spells: a date, one space and a time.
+pub fn moment(text: &str) -> Option<Moment> {
+    let text = text.as_bytes();
+    let space = text.iter().position(|byte| *byte == b' ')?;
+    Moment::read(&text[..space], &text[space + 1..]).ok()
+}

@@ -1,0 +1,79 @@
+//! The program `orgviews`: files from its arguments, commands from standard input, replies to standard output.
+#![tactic(auto)]
+
+mod arguments;
+mod exit;
+mod load;
+
+use crate::arguments::{command, moment};
+use crate::exit::{BAD_ARGUMENTS, BAD_FILE, exit_of};
+use crate::load::load;
+use org_engine::Engine;
+use org_text::Whole;
+use org_wire::{Counted, End, run};
+use std::io::Input;
+use std::process::ExitCode;
+use std::rt::Files;
+use std::{env, io};
+
+fn main(rt: HostRuntime) -> ExitCode {
+    let Ok(words) = env::args(&rt) else {
+        return ExitCode::from(BAD_ARGUMENTS);
+    };
+    let Ok(words) = words.collect::<Vec<String>>(rt.alloc()) else {
+        return ExitCode::from(BAD_ARGUMENTS);
+    };
+    ExitCode::from(start(&rt, words.as_slice()))
+}
+
+// Reads the arguments, and gives the exit status.
+fn start<R: AllocGlobal + Files + Input + Print + Eprint>(rt: &R, words: &[String]) -> u8 {
+    let Ok(command) = command(rt.alloc()) else {
+        return BAD_ARGUMENTS;
+    };
+    let matches = match command.try_get_matches_from(words) {
+        Ok(matches) => matches,
+        Err(error) => {
+            let _ = eprint!(rt; "{error}");
+            return BAD_ARGUMENTS;
+        }
+    };
+    let Some(moment) = matches.get_str("at").and_then(moment) else {
+        let _ = eprintln!(rt; "orgviews: date");
+        return BAD_ARGUMENTS;
+    };
+    let mut engine: Engine<Whole> = Engine::new(rt.alloc(), moment, 0);
+    if let Some(paths) = matches.get_strs("FILE") {
+        for path in paths {
+            if !is_loaded(rt, &mut engine, path) {
+                return BAD_FILE;
+            }
+        }
+    }
+    let idle = matches.get_one::<u64>("idle").unwrap_or(0);
+    serve(rt, &mut engine, idle)
+}
+
+// Loads a file, or says why it can't be loaded.
+fn is_loaded<R: AllocGlobal + Files + Eprint>(rt: &R, engine: &mut Engine<Whole>, path: &str) -> bool {
+    match load(rt, rt.alloc(), engine, path) {
+        Ok(()) => true,
+        Err(error) => {
+            let reason = error.reason();
+            let _ = eprintln!(rt; "orgviews: cannot load {path}: {reason}");
+            false
+        }
+    }
+}
+
+// Answers the commands of standard input, and gives the exit status.
+fn serve<R: AllocGlobal + Input + Print + Eprint>(rt: &R, engine: &mut Engine<Whole>, idle: u64) -> u8 {
+    let mut reader = Counted::new(rt.reader());
+    let mut writer = Counted::new(io::writer(rt));
+    let end = run(rt.alloc(), &mut reader, &mut writer, engine, idle);
+    if let End::Stopped(code) = end {
+        let name = code.name();
+        let _ = eprintln!(rt; "orgviews: {name}");
+    }
+    exit_of(end)
+}

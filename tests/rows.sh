@@ -1,0 +1,38 @@
+#!/bin/sh
+# Runs the worked streams of tests/rows over a program: NAME is standard input, NAME.args the arguments, one a line,
+# NAME.stdout what has to be written, NAME.status the exit status (0 where there is no such file), NAME.stderr what has
+# to stand on standard error (anything where there is no such file). Says which differ; the last line counts.
+program=$(cd "$(dirname "$1")" && pwd)/$(basename "$1")
+cd "$(dirname "$0")/rows" || exit 2
+passed=0
+failed=0
+out=$(mktemp) || exit 2
+err=$(mktemp) || exit 2
+trap 'rm -f "$out" "$err"' EXIT
+for expected in *.stdout; do
+    name=${expected%.stdout}
+    set --
+    while IFS= read -r word || [ -n "$word" ]; do
+        set -- "$@" "$word"
+    done < "$name.args"
+    status=0
+    [ -f "$name.status" ] && status=$(cat "$name.status")
+    "$program" "$@" < "$name" > "$out" 2> "$err"
+    got=$?
+    if [ "$got" -ne "$status" ]; then
+        echo "$name: status $got, wanted $status"
+        failed=$((failed + 1))
+    elif ! cmp -s "$out" "$expected"; then
+        echo "$name: standard output differs"
+        diff "$expected" "$out" | head -n 6
+        failed=$((failed + 1))
+    elif [ -f "$name.stderr" ] && ! cmp -s "$err" "$name.stderr"; then
+        echo "$name: standard error differs"
+        diff "$name.stderr" "$err" | head -n 6
+        failed=$((failed + 1))
+    else
+        passed=$((passed + 1))
+    fi
+done
+echo "rows: $passed passed, $failed failed"
+[ "$failed" -eq 0 ]
