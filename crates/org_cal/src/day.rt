@@ -80,6 +80,7 @@ impl Day {
         }
     }
 
+    /// The day with these parts, if there is one.
     pub(crate) fn made(year: u16, month: u8, day: u8) -> Option<Day>
         ensures value { result ≡ day_of year month day }
     {
@@ -89,7 +90,7 @@ impl Day {
         }
     }
 
-    /// The day with that number, if there is one.
+    /// The day with that number, 1 for 0001-01-01, if there is one.
     pub fn of_number(number: u64) -> Option<Day>
         ensures some { IfSome result (λ day. (day ≡ number) × IsDay day) }
         ensures only { IsDay number → result ≡ Some number }
@@ -112,7 +113,7 @@ impl Day {
         number
     }
 
-    /// Year, month and day.
+    /// Year (1 to 9999), month (1 to 12) and day of the month (from 1).
     pub fn parts(self) -> (u16, u8, u8)
         ensures value { result ≡ (year_of self, month_of self, month_day_of self) }
         ensures real { IsYearMonthDay result.0 result.1 result.2 }
@@ -148,8 +149,8 @@ impl Day {
         }
     }
 
-    /// The day that many units later, or earlier for a negative number: a day that its month lacks
-    /// becomes the last of the month.
+    /// The day that many units later, or earlier for a negative number: a day that its month lacks becomes the last
+    /// of the month. `None` where that leaves the years 1 to 9999. Hours are no unit of days.
     pub fn add_units(self, n: i64, unit: Unit) -> Option<Day>
         requires { unit ≢ Hour }
         ensures some { IfSome result (IsAdded self n unit) }

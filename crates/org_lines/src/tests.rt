@@ -146,8 +146,14 @@ fn lines_of_a_part(rt: HostRuntime) -> Result<(), Fail> {
         seen += 1;
     }
     assert_eq!(rt; seen, 4);
-    assert_eq!(rt; line_starts(rt.alloc(), &text, whole)?.as_slice(), [0, 4, 5, 7].as_slice());
+    assert_eq!(rt;
+        line_starts(rt.alloc(), &text, whole)?.as_slice(),
+        [0, 4, 5, 7].as_slice()
+    );
     let part = Span { at: 2, len: 3 };
-    assert_eq!(rt; line_starts(rt.alloc(), &text, part)?.as_slice(), [2, 4].as_slice());
+    assert_eq!(rt;
+        line_starts(rt.alloc(), &text, part)?.as_slice(),
+        [2, 4].as_slice()
+    );
     Ok(())
 }

@@ -55,7 +55,11 @@ fn start<R: AllocGlobal + Files + Input + Print + Eprint>(rt: &R, words: &[Strin
 }
 
 // Loads a file, or says why it can't be loaded.
-fn is_loaded<R: AllocGlobal + Files + Eprint>(rt: &R, engine: &mut Engine<Whole>, path: &str) -> bool {
+fn is_loaded<R: AllocGlobal + Files + Eprint>(
+    rt: &R,
+    engine: &mut Engine<Whole>,
+    path: &str,
+) -> bool {
     match load(rt, rt.alloc(), engine, path) {
         Ok(()) => true,
         Err(error) => {
@@ -67,7 +71,11 @@ fn is_loaded<R: AllocGlobal + Files + Eprint>(rt: &R, engine: &mut Engine<Whole>
 }
 
 // Answers the commands of standard input, and gives the exit status.
-fn serve<R: AllocGlobal + Input + Print + Eprint>(rt: &R, engine: &mut Engine<Whole>, idle: u64) -> u8 {
+fn serve<R: AllocGlobal + Input + Print + Eprint>(
+    rt: &R,
+    engine: &mut Engine<Whole>,
+    idle: u64,
+) -> u8 {
     let mut reader = Counted::new(rt.reader());
     let mut writer = Counted::new(io::writer(rt));
     let end = run(rt.alloc(), &mut reader, &mut writer, engine, idle);

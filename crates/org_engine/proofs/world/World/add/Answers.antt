@@ -13,6 +13,6 @@ returns-clause-ok g c =
     let new : is_some (file_named c.args.name.now (files_of entries)) ≡ false = rw (← c.self.view_is) at c.requires.new in
     let gone : is_some (file_named (string_bytes c.in_ok-key.key) (files_of entries)) ≡ false = rw n new in
     rw (← c.self.view_is) (
-      ap (λ fs. record { files = fs; moment = c.self.inside.moment }) (ap files_of c.in_ok-insert.ensures.entries ∙ files_of-added c.in_ok-key.key kept entries gone)
-      ∙ (λ i. record { files = files_of entries ++ record { name = n i; text = kept.text; serial = kept.serial } ∷ []; moment = c.self.inside.moment })
+    ap (λ fs. record { files = fs; moment = c.self.inside.moment }) (ap files_of c.in_ok-insert.ensures.entries ∙ files_of-added c.in_ok-key.key kept entries gone)
+    ∙ (λ i. record { files = files_of entries ++ record { name = n i; text = kept.text; serial = kept.serial } ∷ []; moment = c.self.inside.moment })
     )

@@ -14,10 +14,11 @@ unreachable-requires g c =
     true≢false (sym (c.in-None.ensures.found.1 some))
 
 pub returns : goal.returns
-returns g c = record { value = λ file is.
-    let entries = c.self.inside.files.entries in
-    let there : slice_get (files_of entries) c.args.place ≡ Some file = rw (← c.self.view_is) at is in
-    let same : Some (file_of (c.in-Some.name.now, c.in-Some.kept.now)) ≡ Some file = ap (option_map file_of) c.in-Some.ensures.entry ∙ sym (get-files_of entries c.args.place) ∙ there in
-    let file_is : file_of (c.in-Some.name.now, c.in-Some.kept.now) ≡ file = cc in
-    (c.as_str.ensures.value ∙ ap (λ (f : FileView). f.name) file_is, c.text.ensures.value ∙ ap (λ (f : FileView). f.text) file_is)
+returns g c = record {
+  value = λ file is.
+      let entries = c.self.inside.files.entries in
+      let there : slice_get (files_of entries) c.args.place ≡ Some file = rw (← c.self.view_is) at is in
+      let same : Some (file_of (c.in-Some.name.now, c.in-Some.kept.now)) ≡ Some file = ap (option_map file_of) c.in-Some.ensures.entry ∙ sym (get-files_of entries c.args.place) ∙ there in
+      let file_is : file_of (c.in-Some.name.now, c.in-Some.kept.now) ≡ file = cc in
+      (c.as_str.ensures.value ∙ ap (λ (f : FileView). f.name) file_is, c.text.ensures.value ∙ ap (λ (f : FileView). f.text) file_is);
 }
