@@ -13,9 +13,9 @@ build: $(PROGRAM)
 
 # `rt run` proves every crate below the program before it builds it, and then runs it on no input.
 $(PROGRAM): $(SOURCES)
-	@echo "orgviews: proving every crate and building the program (about 8 minutes on two cores; later builds only what changed)"
+	@echo "orgviews: proving every crate and building the program (some 6 minutes; later builds check only what changed)"
 	@cd crates/orgviews && rt run -- --at "2024-02-28 10:30" < /dev/null
-	@touch $(PROGRAM)
+	@test -x $(PROGRAM) && touch $(PROGRAM)
 
 # Every crate, over what earlier checks kept.
 check:
@@ -34,8 +34,8 @@ bench: $(PROGRAM)
 
 install: $(PROGRAM)
 	@mkdir -p "$(PREFIX)/bin"
-	@cp $(PROGRAM) "$(PREFIX)/bin/orgviews"
+	@install -m 755 $(PROGRAM) "$(PREFIX)/bin/orgviews"
 	@sha256sum "$(PREFIX)/bin/orgviews"
 
 clean:
-	rm -rf crates/*/out
+	rm -rf crates/*/out bench/out

@@ -131,6 +131,14 @@ fn both(program: &str, own: &str, stream: &str) -> io::Result<(Cost, Cost)> {
     Ok(least.unwrap())
 }
 
+// Both programs are to write the same, or they don't do the same work.
+fn compare(program: &str, own: &str, stream: &str) -> io::Result<()> {
+    let proved = Command::new(program).args(["--at", "2024-02-28 10:30"]).stdin(File::open(stream)?).output()?;
+    let plain = Command::new(own).arg("plain").stdin(File::open(stream)?).output()?;
+    assert!(proved.stdout == plain.stdout, "the two programs write different replies");
+    Ok(())
+}
+
 fn write_stream(path: &str, text: &str, questions: usize) -> io::Result<()> {
     let mut file = File::create(path)?;
     write!(file, "add a.org {}\n{text}", text.len())?;
@@ -161,6 +169,7 @@ fn measure(program: &str, own: &str) -> io::Result<()> {
         write_stream(&stream, &text, 0)?;
         let add = both(program, own, &stream)?;
         write_stream(&stream, &text, 1)?;
+        compare(program, own, &stream)?;
         let once = both(program, own, &stream)?;
         write_stream(&stream, &text, QUESTIONS)?;
         let often = both(program, own, &stream)?;

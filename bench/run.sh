@@ -1,6 +1,6 @@
 #!/bin/sh
 # Measures a program beside the same work in plain Rust. Prints the machine, its load, the commit and the kit first.
-program=$1
+program=$(cd "$(dirname "$1")" && pwd)/$(basename "$1")
 cd "$(dirname "$0")/.." || exit 2
 if ! command -v rustc > /dev/null; then
     echo "bench: rustc is needed for the program that orgviews is compared with"

@@ -3,6 +3,11 @@
 # NAME.stdout what has to be written, NAME.status the exit status (0 where there is no such file), NAME.stderr what has
 # to stand on standard error (anything where there is no such file). Says which differ; the last line counts.
 program=$(cd "$(dirname "$1")" && pwd)/$(basename "$1")
+if [ ! -x "$program" ]; then
+    echo "rows: there is no program $1"
+    echo "rows: 0 passed, 1 failed"
+    exit 1
+fi
 cd "$(dirname "$0")/rows" || exit 2
 passed=0
 failed=0
@@ -11,6 +16,11 @@ err=$(mktemp) || exit 2
 trap 'rm -f "$out" "$err"' EXIT
 for expected in *.stdout; do
     name=${expected%.stdout}
+    if [ ! -f "$name" ] || [ ! -f "$name.args" ]; then
+        echo "$name: its input or its arguments are missing"
+        failed=$((failed + 1))
+        continue
+    fi
     set --
     while IFS= read -r word || [ -n "$word" ]; do
         set -- "$@" "$word"

@@ -1,7 +1,7 @@
 //! The files of an engine and what commands do with them.
 //!
-//! An engine is seen as a state, and beside it counts of work and a number of pending sections. The reply to each call
-//! and the state after it are those of one definition, `step`.
+//! An engine is seen as a state, and beside it counts of work. The reply to each call and the state after it are those
+//! of one definition, `step`.
 #![tactic(auto)]
 
 mod category;

@@ -1,9 +1,12 @@
 //! Calls of the lowest layers with values from outside.
 
+ghost use Rattle.std.specs.Prelude.{ℕ, ◌<◌, min};
+
 use crate::{Lines, line_starts};
 use org_base::words::{first_word, is_blank, same_word, trim_end, trim_start, trimmed};
 use org_base::{Bytes, Code, Fault, Meter, Name, Span, Texts, Tick, is_file_name};
 use org_text::{MAX_BYTES, Text, Whole, refusal_in};
+use std::alloc::Global;
 use std::test::Fail;
 
 const CODES: [(Code, u8, &str); 25] = [
@@ -44,8 +47,11 @@ fn codes_and_faults(rt: HostRuntime) -> Result<(), Fail> {
         let shown = format!(in rt.alloc(); "{fault}")?;
         assert_eq!(rt; shown.as_str(), name);
     }
-    assert_eq!(rt; Fault::Stale(3).code(), Code::Stale);
-    assert_eq!(rt; Fault::MatchAt(0).code(), Code::Match);
+    for (fault, code) in [(Fault::Stale(3), Code::Stale), (Fault::MatchAt(0), Code::Match)] {
+        assert_eq!(rt; fault.code(), code);
+        let shown = format!(in rt.alloc(); "{fault}")?;
+        assert_eq!(rt; shown.as_str(), code.name());
+    }
     Ok(())
 }
 
@@ -129,7 +135,7 @@ fn a_text_at_its_limit(rt: HostRuntime) -> Result<(), Fail> {
     let mut text = Whole::of(rt.alloc(), full)?;
     assert_eq!(rt; text.edit(0, 0, "x"), Err(Fault::Plain(Code::Size)));
     let over = std::str::from_utf8(bytes.as_slice())?;
-    assert!(rt; Whole::of(rt.alloc(), over).is_err());
+    assert_eq!(rt; Whole::of(rt.alloc(), over).err(), Some(Fault::Plain(Code::Size)));
     Ok(())
 }
 
@@ -155,5 +161,70 @@ fn lines_of_a_part(rt: HostRuntime) -> Result<(), Fail> {
         line_starts(rt.alloc(), &text, part)?.as_slice(),
         [2, 4].as_slice()
     );
+    Ok(())
+}
+
+// A text that lends few bytes at a time.
+#[derive(Drop)]
+struct Pieced {
+    whole: Whole,
+    most: usize,
+    ghost some: { 0 < most },
+}
+
+impl Text for Pieced {
+    ghost content = { λ p. ⟦<Whole as Text>⟧.content p.whole };
+
+    ghost run_len = { λ p at. min p.most (⟦<Whole as Text>⟧.run_len p.whole at) };
+
+    fn of(alloc: Global, text: &str) -> Result<Pieced, Fault> {
+        match Whole::of(alloc, text) {
+            Ok(whole) => Ok(Pieced { whole, most: 2 }),
+            Err(fault) => Err(fault),
+        }
+    }
+
+    fn len(&self) -> usize {
+        self.whole.len()
+    }
+
+    fn edit(&mut self, at: u64, del: u64, ins: &str) -> Result<(), Fault> {
+        self.whole.edit(at, del, ins)
+    }
+
+    fn share(&self) -> Result<Pieced, Fault> {
+        match self.whole.share() {
+            Ok(whole) => Ok(Pieced {
+                whole,
+                most: self.most,
+            }),
+            Err(fault) => Err(fault),
+        }
+    }
+
+    fn copy_out(&self) -> Result<String, Fault> {
+        self.whole.copy_out()
+    }
+
+    fn piece_at(&self, at: usize) -> &[u8] {
+        let piece = self.whole.piece_at(at);
+        &piece[..piece.len().min(self.most)]
+    }
+}
+
+#[test]
+fn lines_over_pieces(rt: HostRuntime) -> Result<(), Fail> {
+    let text = Pieced::of(rt.alloc(), "* a\n\nb\nlast")?;
+    let whole = Span { at: 0, len: 11 };
+    let expected = [b"* a\n".as_slice(), b"\n", b"b\n", b"last"];
+    let mut seen = 0;
+    for line in Lines::new(rt.alloc(), &text, whole) {
+        let line = line?;
+        assert!(rt; seen < 4);
+        assert_eq!(rt; line.bytes.as_slice(), expected[seen]);
+        seen += 1;
+    }
+    assert_eq!(rt; seen, 4);
+    assert_eq!(rt; line_starts(rt.alloc(), &text, whole)?.as_slice(), [0, 4, 5, 7].as_slice());
     Ok(())
 }

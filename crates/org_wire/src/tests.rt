@@ -4,7 +4,7 @@ ghost use Rattle.std.specs.Prelude.{◌≡◌};
 use super::*;
 use org_base::{Code, Fault};
 use org_cal::Moment;
-use org_engine::{Engine, LAST_SERIAL};
+use org_engine::{Engine, LAST_SERIAL, View};
 use org_text::Whole;
 use std::io;
 use std::io::{Read, Write};
@@ -219,5 +219,38 @@ fn numbers_of_faults(rt: HostRuntime) -> Result<(), Fail> {
         writer.into_inner().as_slice(),
         b"err 11 stale 3\nerr 15 match 2\nok 18446744073709551615\n".as_slice()
     );
+    Ok(())
+}
+
+#[test]
+fn commands_of_an_input(rt: HostRuntime) -> Result<(), Fail> {
+    let mut reader = Counted::new(b"todo\nfrob\nadd a.org 0\n".as_slice());
+    let mut input = Input::new(rt.alloc(), &mut reader)?;
+    let first = read_command(&mut input);
+    assert!(rt; matches!(first, Next::Given(Command::Todo)));
+    let second = read_command(&mut input);
+    assert!(rt; matches!(second, Next::Refused(Fault::Plain(Code::Command))));
+    let third = read_command(&mut input);
+    assert!(rt; matches!(third, Next::Given(Command::Add(_, _))));
+    let last = read_command(&mut input);
+    assert!(rt; matches!(last, Next::Ended));
+    Ok(())
+}
+
+#[test]
+fn calls_of_an_engine(rt: HostRuntime) -> Result<(), Fail> {
+    let mut engine = new_engine(&rt)?;
+    assert_eq!(rt; engine.add("a.org", b"* TODO a\n* DONE b\n"), Ok(1));
+    assert_eq!(rt; engine.add("a b", b""), Err(Fault::Plain(Code::Command)));
+    assert_eq!(rt; engine.add("a.org", b""), Err(Fault::Plain(Code::Taken)));
+    assert_eq!(rt; engine.add("b.org", b"\xff"), Err(Fault::Plain(Code::Utf8)));
+    assert_eq!(rt; engine.add("b.org", b""), Ok(2));
+    assert_eq!(rt; engine.text_of("a.org")?.as_str(), "* TODO a\n* DONE b\n");
+    assert!(rt; engine.text_of("c.org").is_err());
+    let list = engine.query(View::Todo)?;
+    assert_eq!(rt; list.as_slice(), b"  a:          TODO a\n".as_slice());
+    assert_eq!(rt; engine.work(), Ok(false));
+    assert_eq!(rt; engine.pending(), 0);
+    assert_eq!(rt; engine.meter().read(), 0);
     Ok(())
 }

@@ -8,19 +8,23 @@ use std::alloc::{AllocError, Global};
 pub fn command<'a>(alloc: Global) -> Result<Command<'a>, AllocError> {
     let at = Arg::new(alloc, "at")
         .long("at")
-        .value_name("MOMENT")
+        .value_name("DATE TIME")
+        .help("The moment at which views are asked for, as \"2024-02-28 10:30\"")
         .required(true)
         .action(ArgAction::Set);
     let idle = Arg::new(alloc, "idle")
         .long("idle")
         .value_name("K")
+        .help("Background steps after each command, 0 to 1000")
         .value_parser(value_parser!(u64).range(0..=1000))
         .default_value("0")
         .action(ArgAction::Set);
     let files = Arg::new(alloc, "FILE")
+        .help("Org files, added under these names before the first command")
         .num_args(0..)
         .action(ArgAction::Append);
     Command::new(alloc, "orgviews")
+        .about("Answers questions about Org files: commands on standard input, replies on standard output")
         .arg(at)?
         .arg(idle)?
         .arg(files)

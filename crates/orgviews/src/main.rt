@@ -18,6 +18,7 @@ use std::{env, io};
 
 fn main(rt: HostRuntime) -> ExitCode {
     let Ok(words) = env::args(&rt) else {
+        let _ = eprintln!(rt; "orgviews: command");
         return ExitCode::from(BAD_ARGUMENTS);
     };
     let Ok(words) = words.collect::<Vec<String>>(rt.alloc()) else {
