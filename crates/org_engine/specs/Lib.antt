@@ -1,6 +1,7 @@
 pub mod World
 pub mod Files
 pub mod Category
+pub mod Seen
 pub mod Tags
 pub mod Layout
 pub mod TodoList

@@ -25,3 +25,7 @@ closed_tags (tag ∷ tags) = tag ++ (58 ∷ []) ++ closed_tags tags
 -- `:a:b:`, or nothing for no tags
 abbrev pub tags_text : List (List ℕ) → List ℕ
 tags_text tags = if length tags == 0 then [] else 58 ∷ closed_tags tags
+
+-- the text of tags with one more
+abbrev pub with_shown : List ℕ → List ℕ → List ℕ
+with_shown text tag = (if length text == 0 then 58 ∷ [] else text) ++ tag ++ (58 ∷ [])

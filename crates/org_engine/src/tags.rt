@@ -1,80 +1,16 @@
 //! Tags as they are shown.
-ghost use Rattle.std.specs.Prelude.{◌≡◌, ℕ, List, [], ◌∷◌, ◌++◌, ◌==◌, length, map, IfOk, OnOk, IsOkUnless};
+ghost use Rattle.std.specs.Prelude.{◌≡◌, ◌||◌, ℕ, List, [], not, map, IfOk, OnOk, IsOkUnless};
+ghost use Rattle.std.specs.List.{All};
+ghost use Rattle.std.specs.Str.{bytes_eq};
 ghost use Rattle.org_base.specs.Codes.{memory_fault};
 ghost use Rattle.org_head.specs.Spans.{part_of, IsInside};
-ghost use Rattle.org_engine.specs.Tags.{with_tag, with_tags, tags_text, closed_tags};
-ghost use Rattle.std.specs.List.{All};
+ghost use Rattle.org_engine.specs.Tags.{with_tags, tags_text, with_shown};
+ghost use Rattle.org_engine.specs.Seen.{is_seen};
 
-use indexmap::IndexSet;
 use org_base::{Fault, Span};
 use org_head::part;
 use std::alloc::Global;
-use std::marker::Model;
-
-/// Tags in order, each once.
-#[derive(Drop)]
-struct TagSet {
-    names: IndexSet<Vec<u8>>,
-}
-
-impl Model for TagSet {
-    ghost use Rattle.std.specs.Prelude.{ℕ, List, map};
-
-    ghost Value = { List (List ℕ) };
-
-    ghost view = { λ t. map (λ v. v.items) t.names.keys };
-}
-
-impl TagSet {
-    fn new(alloc: Global) -> TagSet
-        ensures value { result ≡ [] }
-    {
-        TagSet {
-            names: IndexSet::new(alloc),
-        }
-    }
-
-    fn is_empty(&self) -> bool
-        ensures value { result ≡ (length self.now == 0) }
-    {
-        self.names.is_empty()
-    }
-
-    // Puts the tag at the end, if it isn't there.
-    fn add(&mut self, alloc: Global, tag: &[u8]) -> Result<(), Fault>
-        ensures ok { OnOk result (self.new ≡ with_tag self.old tag.now) }
-        ensures memory { IsOkUnless result memory_fault }
-    {
-        let tag = Vec::from_slice(alloc, tag)?;
-        self.names.insert(tag)?;
-        Ok(())
-    }
-
-    // The tags of these parts of a line.
-    fn of_parts(alloc: Global, line: &[u8], parts: &[Span]) -> Result<TagSet, Fault>
-        requires inside { All (IsInside line.now) parts.now }
-        ensures value { IfOk result (λ tags. tags ≡ with_tags [] (map (part_of line.now) parts.now)) }
-        ensures memory { IsOkUnless result memory_fault }
-    {
-        let mut tags = TagSet::new(alloc);
-        for span in parts {
-            tags.add(alloc, part(line, *span))?;
-        }
-        Ok(tags)
-    }
-
-    // Appends each tag with a colon behind it.
-    fn push_closed(&self, out: &mut Vec<u8>) -> Result<(), Fault>
-        ensures ok { OnOk result (out.new.items ≡ out.old.items ++ closed_tags self.now) }
-        ensures memory { IsOkUnless result memory_fault }
-    {
-        for tag in self.names.as_slice() {
-            out.extend_from_slice(tag.as_slice())?;
-            out.push(b':')?;
-        }
-        Ok(())
-    }
-}
+use std::collections::BTreeSet;
 
 /// The text `:a:b:` of the tags that stand at these parts of a line, each once; no tags have no text.
 pub fn tags_text(alloc: Global, line: &[u8], parts: &[Span]) -> Result<Vec<u8>, Fault>
@@ -82,12 +18,38 @@ pub fn tags_text(alloc: Global, line: &[u8], parts: &[Span]) -> Result<Vec<u8>, 
     ensures value { IfOk result (λ text. text.items ≡ tags_text (with_tags [] (map (part_of line.now) parts.now))) }
     ensures memory { IsOkUnless result memory_fault }
 {
+    let mut seen = BTreeSet::new(alloc);
     let mut text = Vec::new(alloc);
-    let tags = TagSet::of_parts(alloc, line, parts)?;
-    if tags.is_empty() {
-        return Ok(text);
+    for span in parts {
+        let tag = part(line, *span);
+        if is_new(alloc, &mut seen, tag)? {
+            push_tag(&mut text, tag)?;
+        }
     }
-    text.push(b':')?;
-    tags.push_closed(&mut text)?;
     Ok(text)
+}
+
+// Whether the tag comes for the first time. From then on it was seen. The set is ordered, since what a line's tags
+// hash to is the writer's to choose.
+fn is_new(alloc: Global, seen: &mut BTreeSet<Vec<u8>>, tag: &[u8]) -> Result<bool, Fault>
+    ensures value { IfOk result (λ yes. yes ≡ not (is_seen seen.old.keys tag.now)) }
+    ensures seen { OnOk result ((other : List ℕ) → is_seen seen.new.keys other ≡ (bytes_eq other tag.now || is_seen seen.old.keys other)) }
+    ensures memory { IsOkUnless result memory_fault }
+{
+    let tag = Vec::from_slice(alloc, tag)?;
+    let is_new = seen.insert(tag)?;
+    Ok(is_new)
+}
+
+// Appends a tag and a colon behind it, and before the first tag one more.
+fn push_tag(text: &mut Vec<u8>, tag: &[u8]) -> Result<(), Fault>
+    ensures ok { OnOk result (text.new.items ≡ with_shown text.old.items tag.now) }
+    ensures memory { IsOkUnless result memory_fault }
+{
+    if text.is_empty() {
+        text.push(b':')?;
+    }
+    text.extend_from_slice(tag)?;
+    text.push(b':')?;
+    Ok(())
 }

@@ -1,0 +1,39 @@
+-- What the readers find at the front of bytes: a stamp and its length. `specs/Stamp` has the grammar itself.
+use Rattle.std.specs.Prelude.{ℕ, ◌+◌, Bool, true, false, ◌&&◌, ◌==◌, if◌then◌else◌, List, [], ◌∷◌, take, drop, get_or, Option, Some, None, position}
+use Rattle.std.specs.Option.{option_map}
+use Rattle.org_stamp.specs.declared.stamp.Stamp.{Stamp}
+use Rattle.org_stamp.specs.Inner.{inner_of}
+use Rattle.org_stamp.specs.Stamp.{close_of, is_close, with_last}
+
+-- the stamp whose bytes behind the opening bracket are these, with the first closing bracket at i
+abbrev pub closed : Bool → List ℕ → Option ℕ → Option (Stamp × ℕ)
+closed active bs None = None
+closed active bs (Some i) =
+    if get_or bs i 0 == close_of active then option_map (λ s. (s, i + 2)) (inner_of active (take i bs)) else None
+
+-- the stamp of one day at the front
+unfoldable pub single_of : List ℕ → Option (Stamp × ℕ)
+single_of [] = None
+single_of (b ∷ bs) =
+    if b == 60 then closed true bs (position is_close bs)
+    else (if b == 91 then closed false bs (position is_close bs) else None)
+
+-- both or neither
+abbrev pub same_bool : Bool → Bool → Bool
+same_bool true b = b
+same_bool false true = false
+same_bool false false = true
+
+-- a stamp of that length, or the range of it and a second one with the same brackets
+abbrev pub joined : Stamp → ℕ → Option (Stamp × ℕ) → Stamp × ℕ
+joined s n None = (s, n)
+joined s n (Some t) = if same_bool s.active t.0.active then (with_last s t.0, n + 2 + t.1) else (s, n)
+
+-- the same, with what follows the first stamp
+abbrev pub ranged : Stamp → ℕ → List ℕ → Stamp × ℕ
+ranged s n (a ∷ b ∷ rest) = if (a == 45) && (b == 45) then joined s n (single_of rest) else (s, n)
+ranged s n _ = (s, n)
+
+-- the longest stamp at the front
+abbrev pub stamp_of : List ℕ → Option (Stamp × ℕ)
+stamp_of bytes = option_map (λ found. ranged found.0 found.1 (drop found.1 bytes)) (single_of bytes)

@@ -1,0 +1,13 @@
+-- The words of a text (Org manual 9.6, Timestamps: the parts of a stamp stand between white space).
+use Rattle.std.specs.Prelude.{ℕ, Bool, true, false, List, [], ◌∷◌, filter}
+use Rattle.std.specs.List.{slice_split}
+use Rattle.org_base.specs.Words.{is_space}
+
+-- not empty
+abbrev pub is_word : List ℕ → Bool
+is_word [] = false
+is_word (b ∷ bs) = true
+
+-- the longest runs without space, tab or CR
+unfoldable pub words : List ℕ → List (List ℕ)
+words bytes = filter is_word (slice_split is_space bytes)

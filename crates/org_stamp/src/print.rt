@@ -1,0 +1,173 @@
+//! Stamps as text.
+ghost use Rattle.std.specs.Prelude.{◌≡◌, ◌++◌, ◌∷◌, [], List, ℕ, OnOk, IfOk, IsOkUnless, Some, None, length, string_bytes};
+ghost use Rattle.org_base.specs.Codes.{memory_fault};
+ghost use Rattle.org_stamp.specs.Print as spec;
+ghost use Rattle.org_stamp.specs.Read.{stamp_of};
+ghost use Rattle.org_stamp.specs.Stamp.{IsStamp, close_of, open_of};
+
+use crate::mark::{Delay, Kind, Repeater};
+use crate::stamp::Stamp;
+use org_base::Fault;
+use org_cal::{Day, TimeOfDay, Unit, day_name, push_date, push_time};
+use std::alloc::Global;
+
+fn letter(unit: Unit) -> char
+    ensures value { result ≡ spec.letter unit }
+{
+    match unit {
+        Unit::Hour => 'h',
+        Unit::Day => 'd',
+        Unit::Week => 'w',
+        Unit::Month => 'm',
+        Unit::Year => 'y',
+    }
+}
+
+fn push_amount(out: &mut String, n: u16, unit: Unit) -> Result<(), Fault>
+    ensures ok { OnOk result (string_bytes out.new ≡ string_bytes out.old ++ spec.amount_text (n, unit)) }
+    ensures memory { IsOkUnless result memory_fault }
+{
+    let letter = letter(unit);
+    write!(out, "{n}{letter}")?;
+    Ok(())
+}
+
+fn push_times(
+    out: &mut String,
+    time: Option<TimeOfDay>,
+    end_time: Option<TimeOfDay>,
+) -> Result<(), Fault>
+    ensures ok { OnOk result (string_bytes out.new ≡ string_bytes out.old ++ spec.times_text time end_time) }
+    ensures memory { IsOkUnless result memory_fault }
+{
+    let Some(start) = time else {
+        return Ok(());
+    };
+    out.push_str(" ")?;
+    push_time(out, start)?;
+    if let Some(end) = end_time {
+        out.push_str("-")?;
+        push_time(out, end)?;
+    }
+    Ok(())
+}
+
+fn push_repeater(out: &mut String, repeater: Option<Repeater>) -> Result<(), Fault>
+    ensures ok { OnOk result (string_bytes out.new ≡ string_bytes out.old ++ spec.repeater_text repeater) }
+    ensures memory { IsOkUnless result memory_fault }
+{
+    let Some(found) = repeater else {
+        return Ok(());
+    };
+    out.push_str(match found.kind {
+        Kind::Plain => " +",
+        Kind::Future => " ++",
+        Kind::Today => " .+",
+    })?;
+    push_amount(out, found.n, found.unit)?;
+    if let Some((n, unit)) = found.limit {
+        out.push_str("/")?;
+        push_amount(out, n, unit)?;
+    }
+    Ok(())
+}
+
+fn push_delay(out: &mut String, delay: Option<Delay>) -> Result<(), Fault>
+    ensures ok { OnOk result (string_bytes out.new ≡ string_bytes out.old ++ spec.delay_text delay) }
+    ensures memory { IsOkUnless result memory_fault }
+{
+    let Some(found) = delay else {
+        return Ok(());
+    };
+    out.push_str(if found.first_only { " --" } else { " -" })?;
+    push_amount(out, found.n, found.unit)
+}
+
+fn push_tail(out: &mut String, stamp: &Stamp) -> Result<(), Fault>
+    ensures ok { OnOk result (string_bytes out.new ≡ string_bytes out.old ++ spec.tail_text stamp.now) }
+    ensures memory { IsOkUnless result memory_fault }
+{
+    push_times(out, stamp.time, stamp.end_time)?;
+    push_repeater(out, stamp.repeater)?;
+    push_delay(out, stamp.delay)
+}
+
+fn push_open(out: &mut String, active: bool) -> Result<(), Fault>
+    ensures ok { OnOk result (string_bytes out.new ≡ string_bytes out.old ++ open_of active ∷ []) }
+    ensures memory { IsOkUnless result memory_fault }
+{
+    out.push_str(if active { "<" } else { "[" })?;
+    Ok(())
+}
+
+/// The date and the name of the day.
+fn push_day(out: &mut String, day: Day) -> Result<(), Fault>
+    ensures ok { OnOk result (string_bytes out.new ≡ string_bytes out.old ++ spec.day_text day) }
+    ensures memory { IsOkUnless result memory_fault }
+{
+    push_date(out, day)?;
+    out.push_str(" ")?;
+    out.push_str(day_name(day))?;
+    Ok(())
+}
+
+/// The opening bracket, the date and the name of the day.
+fn push_start(out: &mut String, active: bool, day: Day) -> Result<(), Fault>
+    ensures ok { OnOk result (string_bytes out.new ≡ string_bytes out.old ++ open_of active ∷ spec.day_text day) }
+    ensures memory { IsOkUnless result memory_fault }
+{
+    push_open(out, active)?;
+    push_day(out, day)?;
+    Ok(())
+}
+
+fn push_end(out: &mut String, active: bool) -> Result<(), Fault>
+    ensures ok { OnOk result (string_bytes out.new ≡ string_bytes out.old ++ close_of active ∷ []) }
+    ensures memory { IsOkUnless result memory_fault }
+{
+    out.push_str(if active { ">" } else { "]" })?;
+    Ok(())
+}
+
+fn push_first(out: &mut String, stamp: &Stamp) -> Result<(), Fault>
+    ensures ok { OnOk result (string_bytes out.new ≡ string_bytes out.old
+        ++ spec.single_text stamp.now.active stamp.now.day (spec.tail_text stamp.now)) }
+    ensures memory { IsOkUnless result memory_fault }
+{
+    push_start(out, stamp.active, stamp.day)?;
+    push_tail(out, stamp)?;
+    push_end(out, stamp.active)
+}
+
+/// The second stamp of a range, if there is one.
+fn push_last(
+    out: &mut String,
+    active: bool,
+    last: Option<(Day, Option<TimeOfDay>)>,
+) -> Result<(), Fault>
+    ensures ok { OnOk result (string_bytes out.new ≡ string_bytes out.old ++ spec.last_text active last) }
+    ensures memory { IsOkUnless result memory_fault }
+{
+    let Some((day, time)) = last else {
+        return Ok(());
+    };
+    out.push_str("--")?;
+    push_start(out, active, day)?;
+    push_times(out, time, None)?;
+    push_end(out, active)
+}
+
+/// The printed form of the stamp: date, English name of the day, `HH:MM` or `HH:MM-HH:MM`, repeater and delay, with
+/// one space between them; a range as two such stamps with two dashes between them (profile). What the grammar gives
+/// is read again as it was. `Memory` where memory is refused.
+pub fn print_stamp(alloc: Global, stamp: &Stamp) -> Result<String, Fault>
+    ensures value { IfOk result (λ text. string_bytes text ≡ spec.stamp_text stamp.now) }
+    ensures again { IfOk result (λ text. (bytes : List ℕ) → IsStamp bytes stamp.now
+        → stamp_of (string_bytes text) ≡ Some (stamp.now, length (string_bytes text))) }
+    ensures memory { IsOkUnless result memory_fault }
+{
+    let mut out = String::new(alloc);
+    push_first(&mut out, stamp)?;
+    push_last(&mut out, stamp.active, stamp.last)?;
+    Ok(out)
+}

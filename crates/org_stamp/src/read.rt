@@ -1,0 +1,140 @@
+//! A stamp at a place of a line.
+ghost use Rattle.std.specs.Prelude.{◌≡◌, ◌+◌, ◌-◌, ◌≤◌, ◌<◌, ◌^◌, List, ℕ, ◌++◌, length, take, drop, position, Some, IfSome, IsSomeAnd};
+ghost use Rattle.std.specs.List.{position_or_len};
+ghost use Rattle.org_stamp.specs.Read as spec;
+ghost use Rattle.org_stamp.specs.CanPrint.{CanPrint};
+ghost use Rattle.org_stamp.specs.Stamp.{IsSingle, IsStamp, is_close, with_last};
+ghost use Rattle.org_stamp.specs.declared.stamp.Stamp.{Stamp as AnyStamp};
+
+use crate::inner::inner_of;
+use crate::stamp::Stamp;
+
+/// The longest stamp that begins at the place, and its length in bytes (Org manual 9.6, Timestamps). A range is longer
+/// than its first stamp. None where none begins there.
+pub fn read_stamp(line: &[u8], at: usize) -> Option<(Stamp, usize)>
+    requires { at ≤ length line.now }
+    ensures value { result ≡ spec.stamp_of (drop at line.now) }
+    ensures within { IfSome result (λ found. at + found.1 ≤ length line.now) }
+    ensures found { IfSome result (λ found. IsStamp (take found.1 (drop at line.now)) found.0) }
+
+    // Whatever stamp begins there is no longer than the answer, and is the answer where it is as long.
+    ensures longest { (bytes rest : List ℕ) (s : AnyStamp) → drop at line.now ≡ bytes ++ rest → IsStamp bytes s
+        → IsSomeAnd result (λ found. (length bytes ≤ found.1) × (length bytes ≡ found.1 → s ≡ found.0)) }
+    ensures bounds { IfSome result (λ found. CanPrint found.0) }
+{
+    let (_, rest) = line.split_at(at);
+    stamp_of(rest)
+}
+
+/// The stamp that begins at the place, and its length in bytes; of a range its first stamp alone. None where none
+/// begins there.
+pub fn read_single(line: &[u8], at: usize) -> Option<(Stamp, usize)>
+    requires { at ≤ length line.now }
+    ensures value { result ≡ spec.single_of (drop at line.now) }
+    ensures within { IfSome result (λ found. at + found.1 ≤ length line.now) }
+    ensures found { IfSome result (λ found. IsSingle (take found.1 (drop at line.now)) found.0) }
+
+    // At most one begins there.
+    ensures only { (bytes rest : List ℕ) (s : AnyStamp) → drop at line.now ≡ bytes ++ rest → IsSingle bytes s
+        → result ≡ Some (s, length bytes) }
+    ensures bounds { IfSome result (λ found. CanPrint found.0) }
+{
+    let (_, rest) = line.split_at(at);
+    single_of(rest)
+}
+
+/// The place of the first closing bracket, or the length.
+pub(crate) fn first_close(bytes: &[u8]) -> usize
+    ensures value { result ≡ position_or_len is_close bytes.now }
+    ensures within { result ≤ length bytes.now }
+{
+    bytes
+        .iter()
+        .take_while(|b| **b != b'>' && **b != b']')
+        .count()
+}
+
+/// The stamp whose bytes behind the opening bracket are these, with the first closing bracket at that place.
+fn closed(active: bool, bytes: &[u8], close: usize) -> Option<(Stamp, usize)>
+    requires close { close ≡ position_or_len is_close bytes.now }
+    ensures value { result ≡ spec.closed active bytes.now (position is_close bytes.now) }
+    ensures within { IfSome result (λ found. found.1 ≤ length bytes.now + 1) }
+{
+    let bracket = bytes.get(close)?;
+    if *bracket != if active { b'>' } else { b']' } {
+        return None;
+    }
+    let found = inner_of(active, &bytes[..close])?;
+    Some((found, close + 2))
+}
+
+/// The stamp of one day at the front, and its length, where the first closing bracket is known.
+#[tactic(auto, unfolding(crate::specs::Read::single_of))]
+fn single_before(bytes: &[u8], close: usize) -> Option<(Stamp, usize)>
+    requires close { close ≡ position_or_len is_close bytes.now }
+    ensures value { result ≡ spec.single_of bytes.now }
+    ensures within { IfSome result (λ found. found.1 ≤ length bytes.now) }
+{
+    match bytes {
+        [b'<', rest @ ..] => closed(true, rest, close - 1),
+        [b'[', rest @ ..] => closed(false, rest, close - 1),
+        _ => None,
+    }
+}
+
+/// The stamp of one day at the front, and its length.
+#[tactic(auto, unfolding(crate::specs::Read::single_of))]
+fn single_of(bytes: &[u8]) -> Option<(Stamp, usize)>
+    ensures value { result ≡ spec.single_of bytes.now }
+    ensures within { IfSome result (λ found. found.1 ≤ length bytes.now) }
+{
+    match bytes {
+        [b'<' | b'[', ..] => single_before(bytes, first_close(bytes)),
+        _ => None,
+    }
+}
+
+/// The longest stamp at the front, and its length, where the first closing bracket is known.
+pub(crate) fn stamp_before(bytes: &[u8], close: usize) -> Option<(Stamp, usize)>
+    requires close { close ≡ position_or_len is_close bytes.now }
+    ensures value { result ≡ spec.stamp_of bytes.now }
+    ensures within { IfSome result (λ found. found.1 ≤ length bytes.now) }
+{
+    let (first, len) = single_before(bytes, close)?;
+    Some(ranged(first, len, &bytes[len..]))
+}
+
+/// The longest stamp at the front, and its length.
+fn stamp_of(bytes: &[u8]) -> Option<(Stamp, usize)>
+    ensures value { result ≡ spec.stamp_of bytes.now }
+    ensures within { IfSome result (λ found. found.1 ≤ length bytes.now) }
+{
+    let (first, len) = single_of(bytes)?;
+    Some(ranged(first, len, &bytes[len..]))
+}
+
+/// A stamp with its length, or the range that it begins with what follows it.
+fn ranged(first: Stamp, len: usize, rest: &[u8]) -> (Stamp, usize)
+    requires { len + length rest.now < 2 ^ 63 }
+    ensures value { result ≡ spec.ranged first len rest.now }
+    ensures within { result.1 ≤ len + length rest.now }
+{
+    match rest {
+        [b'-', b'-', back @ ..] => match single_of(back) {
+            Some((second, more)) if second.active == first.active => {
+                (with_last(first, second), len + 2 + more)
+            }
+            _ => (first, len),
+        },
+        _ => (first, len),
+    }
+}
+
+fn with_last(first: Stamp, second: Stamp) -> Stamp
+    ensures value { result ≡ with_last first second }
+{
+    Stamp {
+        last: Some((second.day, second.time)),
+        ..first
+    }
+}
