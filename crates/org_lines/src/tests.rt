@@ -47,7 +47,10 @@ fn codes_and_faults(rt: HostRuntime) -> Result<(), Fail> {
         let shown = format!(in rt.alloc(); "{fault}")?;
         assert_eq!(rt; shown.as_str(), name);
     }
-    for (fault, code) in [(Fault::Stale(3), Code::Stale), (Fault::MatchAt(0), Code::Match)] {
+    for (fault, code) in [
+        (Fault::Stale(3), Code::Stale),
+        (Fault::MatchAt(0), Code::Match),
+    ] {
         assert_eq!(rt; fault.code(), code);
         let shown = format!(in rt.alloc(); "{fault}")?;
         assert_eq!(rt; shown.as_str(), code.name());
@@ -135,7 +138,10 @@ fn a_text_at_its_limit(rt: HostRuntime) -> Result<(), Fail> {
     let mut text = Whole::of(rt.alloc(), full)?;
     assert_eq!(rt; text.edit(0, 0, "x"), Err(Fault::Plain(Code::Size)));
     let over = std::str::from_utf8(bytes.as_slice())?;
-    assert_eq!(rt; Whole::of(rt.alloc(), over).err(), Some(Fault::Plain(Code::Size)));
+    assert_eq!(rt;
+        Whole::of(rt.alloc(), over).err(),
+        Some(Fault::Plain(Code::Size))
+    );
     Ok(())
 }
 
@@ -225,6 +231,9 @@ fn lines_over_pieces(rt: HostRuntime) -> Result<(), Fail> {
         seen += 1;
     }
     assert_eq!(rt; seen, 4);
-    assert_eq!(rt; line_starts(rt.alloc(), &text, whole)?.as_slice(), [0, 4, 5, 7].as_slice());
+    assert_eq!(rt;
+        line_starts(rt.alloc(), &text, whole)?.as_slice(),
+        [0, 4, 5, 7].as_slice()
+    );
     Ok(())
 }

@@ -24,7 +24,9 @@ pub fn command<'a>(alloc: Global) -> Result<Command<'a>, AllocError> {
         .num_args(0..)
         .action(ArgAction::Append);
     Command::new(alloc, "orgviews")
-        .about("Answers questions about Org files: commands on standard input, replies on standard output")
+        .about(
+            "Answers questions about Org files: commands on standard input, replies on standard output",
+        )
         .arg(at)?
         .arg(idle)?
         .arg(files)
