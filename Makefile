@@ -1,5 +1,6 @@
 # orgviews: a proved Org agenda engine. `make run` builds and shows the first example, `make test` is the whole gate.
 PROGRAM = crates/orgviews/out/orgviews
+PARTS = crates/org_measure/out/org_measure
 SOURCES = $(shell find crates -name out -prune -o -type f \( -name '*.rt' -o -name '*.antt' \) -print) crates.txt
 PREFIX ?= /usr/local
 
@@ -17,6 +18,12 @@ $(PROGRAM): $(SOURCES)
 	@cd crates/orgviews && rt run -- --at "2024-02-28 10:30" < /dev/null
 	@test -x $(PROGRAM) && touch $(PROGRAM)
 
+# Parts of the engine on their own, for the measurements.
+$(PARTS): $(SOURCES)
+	@echo "orgviews: proving and building the program that measures parts of the engine (some minutes)"
+	@cd crates/org_measure && rt run -- stamps < /dev/null > /dev/null
+	@test -x $(PARTS) && touch $(PARTS)
+
 # Every crate, over what earlier checks kept.
 check:
 	rt all check
@@ -29,8 +36,8 @@ test:
 rows: $(PROGRAM)
 	@sh tests/rows.sh $(PROGRAM)
 
-bench: $(PROGRAM)
-	@sh bench/run.sh $(PROGRAM)
+bench: $(PROGRAM) $(PARTS)
+	@sh bench/run.sh $(PROGRAM) $(PARTS)
 
 install: $(PROGRAM)
 	@mkdir -p "$(PREFIX)/bin"

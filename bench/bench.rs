@@ -1,6 +1,7 @@
 //! Measures `orgviews` beside the same work in plain Rust, std alone. Built by `rustc -O`; see `bench/run.sh`.
 //!
 //!     bench measure PROGRAM      the table: both programs in turn, the least of several runs
+//!     bench parts PROGRAM        parts of the engine on their own, by the program `org_measure`
 //!     bench plain                answers the commands `add`, `text` and `todo` of standard input
 //!     bench text BYTES           an Org file of that many bytes
 use std::collections::HashSet;
@@ -19,9 +20,10 @@ fn main() -> io::Result<()> {
     let args: Vec<String> = std::env::args().collect();
     match args.get(1).map(String::as_str) {
         Some("measure") => measure(&args[2], &args[0]),
+        Some("parts") => parts(&args[2]),
         Some("plain") => plain(),
         Some("text") => io::stdout().write_all(text(args[2].parse().unwrap()).as_bytes()),
-        _ => panic!("bench measure PROGRAM | plain | text BYTES"),
+        _ => panic!("bench measure PROGRAM | parts PROGRAM | plain | text BYTES"),
     }
 }
 
@@ -184,6 +186,33 @@ fn measure(program: &str, own: &str) -> io::Result<()> {
     }
     println!("time of add and todo, 8 MiB over 1 MiB: {:.1}", together[2] / together[0]);
     std::fs::remove_dir_all(&folder)
+}
+
+// The least time of a part of the engine over a text on standard input.
+fn part(program: &str, words: &[&str], path: &str) -> io::Result<Cost> {
+    let mut least = cost(Command::new(program).args(words), path)?;
+    for _run in 1..RUNS {
+        least = least.least(cost(Command::new(program).args(words), path)?);
+    }
+    Ok(least)
+}
+
+fn parts(program: &str) -> io::Result<()> {
+    let path = std::env::temp_dir().join(format!("orgviews-parts-{}", std::process::id()));
+    let path = path.to_string_lossy().into_owned();
+    println!("parts of the engine, least of {RUNS} runs of a whole process");
+    for (what, piece) in [
+        ("stamps that never end", "<2024-02-28 "),
+        ("brackets alone", "<<<<"),
+        ("stamps one after another", "<2024-02-28 Wed 9:05 +1w -3d>"),
+    ] {
+        let text = piece.repeat(8 * MIB / piece.len());
+        std::fs::write(&path, &text)?;
+        let cost = part(program, &["stamps"], &path)?;
+        let mib = text.len() as f64 / MIB as f64;
+        println!("{mib:>4.0} MiB  {what:<25} {:>8.4} s {:>7.0} MiB/s", cost.seconds, mib / cost.seconds);
+    }
+    std::fs::remove_file(&path)
 }
 
 // The same work in plain Rust: files in a list, everything read anew at each question.

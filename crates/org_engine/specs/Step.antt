@@ -1,5 +1,5 @@
 -- What a command does (profile).
-use Rattle.std.specs.Prelude.{◌≡◌, ◌≢◌, ℕ, List, [], ◌∷◌, ◌++◌, Bool, not, if◌then◌else◌, Option, None, Some, ◌+◌, ◌==◌, nat_lt, nat_le, length, is_some}
+use Rattle.std.specs.Prelude.{◌≡◌, ◌≢◌, ℕ, List, [], ◌∷◌, ◌++◌, not, if◌then◌else◌, Option, None, Some, ◌+◌, nat_lt, nat_le, length, is_some}
 use Rattle.std.specs.Str.{bytes_eq, is_utf8}
 use Rattle.org_text.specs.Replace.{max_bytes}
 use Rattle.org_base.specs.FileName.{is_file_name}
@@ -8,7 +8,7 @@ use Rattle.org_base.specs.declared.code.Code.{Code}
 use Rattle.org_base.specs.declared.code.Code.TheVariants as code
 use Rattle.org_base.specs.declared.fault.Fault.{Fault}
 use Rattle.org_base.specs.declared.fault.Fault.TheVariants as fault
-use Rattle.org_engine.specs.World.{FileView, WorldView, State, EngineView}
+use Rattle.org_engine.specs.World.{FileView, WorldView, State}
 use Rattle.org_engine.specs.TodoList.{todo_text}
 
 -- a question: the plain TODO list
@@ -18,6 +18,7 @@ pub data Question : Type 0 where
 -- one command
 pub data Command : Type 0 where
   AddFile : (name text : List ℕ) → Command
+  DropFile : (name : List ℕ) → Command
   TextOf : (name : List ℕ) → Command
   Ask : (question : Question) → Command
 
@@ -68,6 +69,17 @@ step_add name text s =
     else (if nat_lt max_bytes (length text) then refused code.Size s
     else unless_spent s (changed (s.world.files ++ record { name = name; text = text; serial = s.serial + 1 } ∷ []) s)))))
 
+-- the files without the one of that name
+abbrev pub without : List ℕ → List FileView → List FileView
+without name [] = []
+without name (file ∷ files) = if bytes_eq name file.name then files else file ∷ without name files
+
+-- a file goes, with the next serial; the others stay in their order
+abbrev pub step_drop : List ℕ → State → Outcome
+step_drop name s =
+    if not (is_some (file_named name s.world.files)) then refused code.Unknown s
+    else unless_spent s (changed (without name s.world.files) s)
+
 abbrev pub step_text : State → Option FileView → Outcome
 step_text s None = refused code.Unknown s
 step_text s (Some file) = record { reply = Shown file.text; after = s }
@@ -79,12 +91,17 @@ answer_of TodoList world = todo_text world
 -- the reply to a command, and the state after it
 abbrev pub step : Command → State → Outcome
 step (AddFile name text) s = step_add name text s
+step (DropFile name) s = step_drop name s
 step (TextOf name) s = step_text s (file_named name s.world.files)
 step (Ask question) s = record { reply = Shown (answer_of question s.world); after = s }
 
 -- the step's reply and state are these
 abbrev pub Answers : Command → State → Reply → State → Type 0
 Answers command old reply new = step command old ≡ record { reply = reply; after = new }
+
+-- the state is as before, and the fault is the step's
+abbrev pub RefusesSurely : Command → State → Fault → State → Type 0
+RefusesSurely command old fault new = (new ≡ old) × Answers command old (Refused fault) old
 
 -- the state is as before, and the fault is the step's unless memory was refused
 abbrev pub Refuses : Command → State → Fault → State → Type 0

@@ -1,6 +1,6 @@
 -- Tags of a heading as they are shown (Org manual 9.6, Tags; that equal ones are shown once: profile).
-use Rattle.std.specs.Prelude.{ℕ, Bool, ◌==◌, if◌then◌else◌, List, [], ◌∷◌, ◌++◌, map, length, bytes_eq, codes}
-use Rattle.std.specs.List.{list_any, flat_map}
+use Rattle.std.specs.Prelude.{ℕ, ◌==◌, if◌then◌else◌, List, [], ◌∷◌, ◌++◌, map, length, bytes_eq}
+use Rattle.std.specs.List.{list_any}
 use Rattle.org_head.specs.declared.head.Head.{Head}
 use Rattle.org_head.specs.Spans.{part_of}
 

@@ -1,6 +1,6 @@
 -- The plain TODO list (Org manual 9.6, The Global TODO List; which headings are hidden, order and text of the rows: profile).
 use Rattle.std.specs.Prelude.{ℕ, if◌then◌else◌, Bool, false, not, ◌&&◌, ◌||◌, ◌==◌, zero, suc, List, [], ◌∷◌, ◌++◌, Option, None, Some, map, filter, bytes_eq, codes}
-use Rattle.std.specs.List.{list_any, concat, flat_map}
+use Rattle.std.specs.List.{list_any, concat}
 use Rattle.org_base.specs.declared.span.Span.{Span}
 use Rattle.org_lines.specs.Cuts.{lines}
 use Rattle.org_head.specs.Settings.{FileSettings, keyword_place, keyword_done, standard_settings}

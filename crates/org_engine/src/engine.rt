@@ -1,7 +1,7 @@
 //! An engine, and a call for each command.
-ghost use Rattle.std.specs.Prelude.{◌≡◌, ◌≤◌, [], IfOk, IfErr, Ok, false, string_bytes};
+ghost use Rattle.std.specs.Prelude.{◌≡◌, ◌≤◌, [], IfOk, IfErr, Ok, false, string_bytes, nat_le};
 ghost use Rattle.org_base.specs.Counts.{none_counted};
-ghost use Rattle.org_engine.specs.Step.{last_serial, Answers, Refuses, AddFile, TextOf, Ask, Serial, Shown};
+ghost use Rattle.org_engine.specs.Step.{last_serial, Answers, Refuses, RefusesSurely, AddFile, DropFile, TextOf, Ask, Serial, Shown};
 ghost use Rattle.org_engine.specs.Questions.{meaning};
 
 use crate::kept::Kept;
@@ -55,6 +55,13 @@ impl<T: Text> Engine<T> {
         }
     }
 
+    // Whether the last serial was given, so that no change is made any more.
+    fn is_spent(&self) -> bool
+        ensures value { result ≡ nat_le last_serial self.now.state.serial }
+    {
+        self.serial >= LAST_SERIAL
+    }
+
     /// Adds a file and answers its serial. Refusals in order: `Command` for a bad name, `Taken`, `Files`, `Utf8`,
     /// `Size`, `Spent`; want of memory may come at any time. After a refusal the engine is as before.
     pub fn add(&mut self, name: &str, text: &[u8]) -> Result<u64, Fault>
@@ -78,7 +85,7 @@ impl<T: Text> Engine<T> {
             Ok(text) => text,
             Err(fault) => return Err(fault),
         };
-        if self.serial >= LAST_SERIAL {
+        if self.is_spent() {
             return Err(Fault::Plain(Code::Spent));
         }
         let serial = self.serial + 1;
@@ -89,6 +96,24 @@ impl<T: Text> Engine<T> {
             }
             Err(fault) => Err(fault),
         }
+    }
+
+    /// Drops the file of that name and answers the serial of this change. Refusals in order: `Unknown`, `Spent`. It takes
+    /// no memory. After a refusal the engine is as before.
+    pub fn drop_file(&mut self, name: &str) -> Result<u64, Fault>
+        ensures ok { IfOk result (λ serial. Answers (DropFile name.now) self.old.state (Serial serial) self.new.state) }
+        ensures err { IfErr result (λ fault. RefusesSurely (DropFile name.now) self.old.state fault self.new.state) }
+        ensures counts { self.new.counts ≡ self.old.counts }
+    {
+        if !self.world.contains(name) {
+            return Err(Fault::Plain(Code::Unknown));
+        }
+        if self.is_spent() {
+            return Err(Fault::Plain(Code::Spent));
+        }
+        self.world.remove(name);
+        self.serial += 1;
+        Ok(self.serial)
     }
 
     /// A copy of the text of the file of that name. `Unknown` where there is none; else want of memory is the only

@@ -3,7 +3,7 @@ ghost use Rattle.std.specs.Prelude.{◌≡◌, ◌<◌, ◌++◌, ◌∷◌, [],
 ghost use Rattle.std.specs.Option.{option_map};
 ghost use Rattle.org_base.specs.Codes.{memory_fault};
 ghost use Rattle.org_engine.specs.World.{FileView};
-ghost use Rattle.org_engine.specs.Step.{file_named};
+ghost use Rattle.org_engine.specs.Step.{file_named, without};
 
 use crate::kept::Kept;
 use indexmap::IndexMap;
@@ -85,5 +85,12 @@ impl<T: Text> World<T> {
         let key = String::from_str(alloc, name)?;
         self.files.insert(key, kept)?;
         Ok(())
+    }
+
+    /// Takes the file of that name out, if there is one. The others stay in their order. It takes no memory.
+    pub fn remove(&mut self, name: &str)
+        ensures value { self.new ≡ record self.old { files = without name.now self.old.files } }
+    {
+        let _removed = self.files.shift_remove(name);
     }
 }

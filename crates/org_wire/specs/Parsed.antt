@@ -8,5 +8,6 @@ use Rattle.org_wire.specs.declared.parse.Parsed.TheVariants as parsed
 abbrev pub said : Parsed → Line
 said parsed.Bad = Bad
 said parsed.Todo = Plainly command.Todo
+said (parsed.Drop name) = Plainly (command.Drop name.now)
 said (parsed.Text name) = Plainly (command.Text name.now)
 said (parsed.Frame name size) = Frame name.now size

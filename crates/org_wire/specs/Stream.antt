@@ -9,7 +9,7 @@ use Rattle.org_text.specs.Replace.{max_bytes}
 use Rattle.org_wire.specs.Lines.{cut_at, longest}
 use Rattle.org_wire.specs.Lines as lines
 use Rattle.org_wire.specs.declared.command.Command.{Command}
-use Rattle.org_wire.specs.declared.command.Command.TheVariants.{Add, Text, Todo}
+use Rattle.org_wire.specs.declared.command.Command.TheVariants.{Add, Drop, Text, Todo}
 use Rattle.org_wire.specs.declared.command.Next.{Next}
 use Rattle.org_wire.specs.declared.command.Next.TheVariants.{Given, Refused, Last, Ended}
 
@@ -38,6 +38,10 @@ number_of (d ∷ (e ∷ ds)) = if d == 48 then None else number_from 0 (d ∷ (e
 abbrev pub is_name : List ℕ → Bool
 is_name word = is_file_name word && is_utf8 word
 
+-- `drop NAME`
+abbrev pub drop_line : List ℕ → Line
+drop_line name = if is_name name then Plainly (Drop name) else Bad
+
 -- `text NAME`
 abbrev pub text_line : List ℕ → Line
 text_line name = if is_name name then Plainly (Text name) else Bad
@@ -56,6 +60,7 @@ add_line (Some cut) = if is_name cut.before then sized_frame cut.before (number_
 abbrev pub words_line : Option lines.Cut → Line
 words_line None = Bad
 words_line (Some cut) = if bytes_eq cut.before (codes "text") then text_line cut.after
+    else if bytes_eq cut.before (codes "drop") then drop_line cut.after
     else if bytes_eq cut.before (codes "add") then add_line (cut_at 32 cut.after)
     else Bad
 

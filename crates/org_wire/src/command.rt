@@ -7,6 +7,8 @@ use org_base::{Bytes, Fault, Name};
 pub enum Command {
     /// `add NAME LEN`, with its payload: adds a file.
     Add(Name, Bytes),
+    /// `drop NAME`: takes a file out.
+    Drop(Name),
     /// `text NAME`: asks for a file's text.
     Text(Name),
     /// `todo`: asks for the TODO list.

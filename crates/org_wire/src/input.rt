@@ -268,6 +268,10 @@ impl<'a, R: Read> Input<'a, R> {
         match parse_line(self.line.as_slice()) {
             Parsed::Bad => Next::Refused(Fault::Plain(Code::Command)),
             Parsed::Todo => Next::Given(Command::Todo),
+            Parsed::Drop(name) => match Name::new(self.alloc, name) {
+                Ok(name) => Next::Given(Command::Drop(name)),
+                Err(_) => Next::Refused(Fault::Plain(Code::Memory)),
+            },
             Parsed::Text(name) => match Name::new(self.alloc, name) {
                 Ok(name) => Next::Given(Command::Text(name)),
                 Err(_) => Next::Refused(Fault::Plain(Code::Memory)),

@@ -1,7 +1,7 @@
 //! What a line says, read without memory.
 ghost use Rattle.std.specs.Prelude.{◌≡◌, None, Some, IfSome, IfNone, MatchOption, true, false};
 ghost use Rattle.org_wire.specs.Lines.{cut_at};
-ghost use Rattle.org_wire.specs.Stream.{number_of, is_name, line_of, text_line, add_line};
+ghost use Rattle.org_wire.specs.Stream.{number_of, is_name, line_of, drop_line, text_line, add_line};
 ghost use Rattle.org_wire.specs.Parsed.{said};
 
 use org_base::is_file_name;
@@ -15,6 +15,7 @@ pub(crate) enum Parsed<'a> {
     /// No command.
     Bad,
     Todo,
+    Drop(&'a str),
     Text(&'a str),
     /// A file to add, and how long its text is.
     Frame(&'a str, u64),
@@ -81,10 +82,23 @@ pub(crate) fn parse_line(line: &[u8]) -> Parsed<'_>
     if word == b"text".as_slice() {
         return parse_text(rest);
     }
+    if word == b"drop".as_slice() {
+        return parse_drop(rest);
+    }
     if word == b"add".as_slice() {
         return parse_add(rest);
     }
     Parsed::Bad
+}
+
+// What stands behind `drop`.
+fn parse_drop(rest: &[u8]) -> Parsed<'_>
+    ensures value { drop_line rest.now ≡ said result }
+{
+    match name(rest) {
+        Some(name) => Parsed::Drop(name),
+        None => Parsed::Bad,
+    }
 }
 
 // What stands behind `text`.

@@ -23,6 +23,10 @@ fn answer<T: Text>(engine: &mut Engine<T>, command: &Command) -> Reply
             Ok(serial) => Reply::Serial(serial),
             Err(fault) => Reply::Refused(fault),
         },
+        Command::Drop(name) => match engine.drop_file(name.as_str()) {
+            Ok(serial) => Reply::Serial(serial),
+            Err(fault) => Reply::Refused(fault),
+        },
         Command::Text(name) => match engine.text_of(name.as_str()) {
             Ok(text) => Reply::Shown(Bytes::new(text.into_bytes())),
             Err(fault) => Reply::Refused(fault),

@@ -247,6 +247,9 @@ fn calls_of_an_engine(rt: HostRuntime) -> Result<(), Fail> {
     assert_eq!(rt; engine.add("b.org", b""), Ok(2));
     assert_eq!(rt; engine.text_of("a.org")?.as_str(), "* TODO a\n* DONE b\n");
     assert!(rt; engine.text_of("c.org").is_err());
+    assert_eq!(rt; engine.drop_file("c.org"), Err(Fault::Plain(Code::Unknown)));
+    assert_eq!(rt; engine.drop_file("b.org"), Ok(3));
+    assert!(rt; engine.text_of("b.org").is_err());
     let list = engine.query(View::Todo)?;
     assert_eq!(rt; list.as_slice(), b"  a:          TODO a\n".as_slice());
     assert_eq!(rt; engine.work(), Ok(false));

@@ -1,4 +1,4 @@
-use Rattle.std.proofs.Common.{◌≡◌, ◌∙◌, ap, ap₂, sym}
+use Rattle.std.proofs.Common.{◌∙◌, ap}
 use Rattle.std.specs.Prelude.{not, ◌||◌, bytes_eq}
 use Rattle.org_engine.specs.Seen.{is_seen}
 use Rattle.org_engine.proofs.TagLemmas.{is_seen-insert, seen_by_key}

@@ -1,4 +1,3 @@
-use Rattle.std.proofs.Common.{◌≡◌, ◌∷◌}
 use Rattle.org_engine.proofs.TodoLemmas.{line_more}
 use Rattle.org_engine.proofs.todo.gather.Goals as goal
 
