@@ -4,7 +4,7 @@
 //!     bench parts PROGRAM        parts of the engine on their own, by the program `org_measure`
 //!     bench plain                answers the commands `add`, `text` and `todo` of standard input
 //!     bench text BYTES           an Org file of that many bytes
-use std::collections::HashSet;
+use std::collections::{HashMap, HashSet};
 use std::fs::File;
 use std::io::{self, BufRead, BufReader, Read, Write};
 use std::os::unix::process::ExitStatusExt;
@@ -150,7 +150,7 @@ fn write_stream(path: &str, text: &str, questions: usize) -> io::Result<()> {
 fn row(size: usize, what: &str, proved: Cost, plain: Cost) {
     let mib = size as f64 / MIB as f64;
     println!(
-        "{mib:>4.0} MiB  {what:<13} {:>8.4} s {:>7.0} MiB/s {:>6.1} MiB   plain {:>8.4} s {:>6.1} MiB   ratio {:.2}",
+        "{mib:>4.0} MiB  {what:<22} {:>8.4} s {:>7.0} MiB/s {:>6.1} MiB   plain {:>8.4} s {:>6.1} MiB   ratio {:.2}",
         proved.seconds,
         mib / proved.seconds,
         proved.kib as f64 / 1024.0,
@@ -185,6 +185,19 @@ fn measure(program: &str, own: &str) -> io::Result<()> {
         together.push(once.0.seconds);
     }
     println!("time of add and todo, 8 MiB over 1 MiB: {:.1}", together[2] / together[0]);
+    for (what, line) in [
+        ("blocks that never end", "#+BEGIN_X\n"),
+        ("drawers that never end", ":PROPERTIES:\n"),
+        ("stars without a space", "*"),
+        ("one-byte lines", "\n"),
+        ("headings of one star", "* \n"),
+    ] {
+        let text = line.repeat(8 * MIB / line.len());
+        write_stream(&stream, &text, 1)?;
+        compare(program, own, &stream)?;
+        let (proved, plain) = both(program, own, &stream)?;
+        row(8 * MIB, what, proved, plain);
+    }
     std::fs::remove_dir_all(&folder)
 }
 
@@ -211,6 +224,15 @@ fn parts(program: &str) -> io::Result<()> {
         let cost = part(program, &["stamps"], &path)?;
         let mib = text.len() as f64 / MIB as f64;
         println!("{mib:>4.0} MiB  {what:<25} {:>8.4} s {:>7.0} MiB/s", cost.seconds, mib / cost.seconds);
+    }
+    std::fs::write(&path, "")?;
+    for unit in ["h", "d", "w", "m", "y"] {
+        let near = part(program, &["occurrences", unit, "near"], &path)?;
+        let far = part(program, &["occurrences", unit, "far"], &path)?;
+        println!(
+            "1,000,000 questions whether +1{unit} of 0001-01-01 occurs: on its first days {:.4} s, on the calendar's last {:.4} s",
+            near.seconds, far.seconds
+        );
     }
     std::fs::remove_file(&path)
 }
@@ -260,14 +282,108 @@ fn todo(files: &[(String, String)]) -> String {
         };
         let label = format!("{category}:");
         let column = format!("  {label:<11} ");
+        let keywords = keywords(text);
         for line in text.lines() {
-            if let Some((priority, head)) = open_heading(line) {
+            if let Some((priority, head)) = open_heading(line, &keywords) {
                 rows.push((priority, format!("{column}{head}\n")));
             }
         }
     }
     rows.sort_by_key(|row| row.0);
     rows.into_iter().map(|row| row.1).collect()
+}
+
+// The name behind such a mark, if the text begins with it, whatever the case of its letters.
+fn behind<'a>(text: &'a str, mark: &str) -> Option<&'a str> {
+    let front = text.get(..mark.len())?;
+    front.eq_ignore_ascii_case(mark).then(|| &text[mark.len()..])
+}
+
+fn end_name(line: &str) -> Option<&str> {
+    behind(line.trim(), "#+END_")
+}
+
+fn begin_name(line: &str) -> Option<&str> {
+    behind(first_word(line).0, "#+BEGIN_").filter(|name| !name.is_empty())
+}
+
+// The key and the value of a setting line.
+fn setting(line: &str) -> Option<(&str, &str)> {
+    let (key, value) = line.trim_start().strip_prefix("#+")?.split_once(':')?;
+    (!key.is_empty() && !key.contains([' ', '\t', '\r'])).then(|| (key, value.trim()))
+}
+
+// The settings of a section that stand in none of its blocks.
+fn section_settings<'a>(lines: &[&'a str], found: &mut Vec<(&'a str, &'a str)>) {
+    let mut ends = HashMap::new();
+    for (place, line) in lines.iter().enumerate() {
+        if let Some(name) = end_name(line) {
+            ends.insert(name.to_ascii_lowercase(), place);
+        }
+    }
+    let mut open: Option<&str> = None;
+    for (place, line) in lines.iter().enumerate() {
+        if let Some(name) = open {
+            if end_name(line).is_some_and(|end| end.eq_ignore_ascii_case(name)) {
+                open = None;
+            }
+        } else if let Some(name) = begin_name(line).filter(|name| ends.get(&name.to_ascii_lowercase()).is_some_and(|end| *end > place)) {
+            open = Some(name);
+        } else {
+            found.extend(setting(line));
+        }
+    }
+}
+
+fn is_heading(line: &str) -> bool {
+    let behind = line.trim_start_matches('*');
+    behind.len() < line.len() && behind.starts_with(' ')
+}
+
+// The keywords of a file, each with whether it is done, and the priority of a heading without a cookie.
+struct Keywords<'a> {
+    done: HashMap<&'a str, bool>,
+    priority: u32,
+}
+
+fn keywords(text: &str) -> Keywords<'_> {
+    let mut found = Vec::new();
+    let mut section = Vec::new();
+    for line in text.split_inclusive('\n') {
+        if is_heading(line) {
+            section_settings(&section, &mut found);
+            section.clear();
+        }
+        section.push(line);
+    }
+    section_settings(&section, &mut found);
+    let mut keywords = Keywords { done: HashMap::new(), priority: 0 };
+    for (key, value) in found {
+        match key.to_ascii_uppercase().as_str() {
+            "TODO" | "SEQ_TODO" | "TYP_TODO" => {
+                let words: Vec<&str> = value.split_whitespace().collect();
+                let bar = words.iter().position(|word| *word == "|").unwrap_or(words.len().max(1) - 1);
+                for (place, word) in words.into_iter().enumerate() {
+                    let word = if word.ends_with(')') { word.split('(').next().unwrap_or("") } else { word };
+                    if !word.is_empty() && word != "|" {
+                        keywords.done.entry(word).or_insert(place >= bar);
+                    }
+                }
+            }
+            "PRIORITIES" if keywords.priority == 0 => {
+                let words: Vec<&str> = value.split_whitespace().collect();
+                keywords.priority = words.get(2).and_then(|word| priority_of(&format!("[#{word}]"))).unwrap_or(0);
+            }
+            _ => {}
+        }
+    }
+    if keywords.done.is_empty() {
+        keywords.done = HashMap::from([("TODO", false), ("DONE", true)]);
+    }
+    if keywords.priority == 0 {
+        keywords.priority = 66;
+    }
+    keywords
 }
 
 fn first_word(text: &str) -> (&str, &str) {
@@ -292,14 +408,14 @@ fn is_tags(word: &str) -> bool {
         && word.chars().all(|c| c.is_alphanumeric() || "_@#%:".contains(c))
 }
 
-fn open_heading(line: &str) -> Option<(u32, String)> {
+fn open_heading(line: &str, keywords: &Keywords) -> Option<(u32, String)> {
     let stars = line.bytes().take_while(|b| *b == b'*').count();
     let rest = line[stars..].strip_prefix(' ').filter(|_| stars > 0)?;
     let (keyword, rest) = first_word(rest);
-    if keyword != "TODO" {
+    if *keywords.done.get(keyword)? {
         return None;
     }
-    let (mut parts, mut rest, mut priority) = (vec![keyword], rest, 66);
+    let (mut parts, mut rest, mut priority) = (vec![keyword], rest, keywords.priority);
     let (word, behind) = first_word(rest);
     if let Some(number) = priority_of(word) {
         parts.push(word);

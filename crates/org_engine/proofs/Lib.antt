@@ -1,4 +1,5 @@
 pub mod CategoryLemmas
+pub mod CountLemmas
 pub mod FilesLemmas
 pub mod GatherLemmas
 pub mod StepLemmas

@@ -4,11 +4,10 @@ use Rattle.std.specs.Prelude.{Some, slice_get}
 use Rattle.std.specs.List.{concat}
 use Rattle.std.proofs.lemmas.List.{drop_more, drop_all}
 use Rattle.std.proofs.lemmas.Option.{get_or_from_slice_get}
-use Rattle.org_head.specs.Settings.{FileSettings, standard_settings}
-use Rattle.org_lines.specs.Cuts.{Cut, lines}
+use Rattle.org_class.specs.Settings.{FileSettings}
+use Rattle.org_lines.specs.Cuts.{Cut}
 use Rattle.org_engine.specs.World.{FileView, WorldView}
-use Rattle.org_engine.specs.Layout.{category_column}
-use Rattle.org_engine.specs.TodoList.{line_row, line_rows, file_rows, todo_text}
+use Rattle.org_engine.specs.TodoList.{line_row, line_rows, rows_of_file, file_rows, todo_text}
 use Rattle.org_engine.specs.Gathered.{gathered, no_texts}
 use Rattle.org_engine.proofs.GatherLemmas.{gathered-append, gathered_all}
 
@@ -22,12 +21,12 @@ line_more settings column texts new all s t cut bytes first is row so_far =
     ∙ ap (λ x. gathered texts (line_rows settings column (bytes_of x))) (sym first)
     ∙ so_far
 
-pub file_more : (files : List FileView) (i : ℕ) (file : FileView) (texts new all : List (List ℕ)) → i < length files → slice_get files i ≡ Some file → new ≡ gathered texts (line_rows standard_settings (category_column file.name) (lines file.text)) → gathered texts (file_rows (drop i files)) ≡ all → gathered new (file_rows (drop (i + 1) files)) ≡ all
+pub file_more : (files : List FileView) (i : ℕ) (file : FileView) (texts new all : List (List ℕ)) → i < length files → slice_get files i ≡ Some file → new ≡ gathered texts (rows_of_file file.name file.text) → gathered texts (file_rows (drop i files)) ≡ all → gathered new (file_rows (drop (i + 1) files)) ≡ all
 file_more files i file texts new all lt there rows so_far =
     let rest : List FileView = drop (i + 1) files in
     let first : drop i files ≡ file ∷ rest = drop_more files i file lt ∙ ap (λ f. f ∷ rest) (get_or_from_slice_get files i file file there) in
     ap (λ x. gathered x (file_rows rest)) rows
-    ∙ sym (gathered-append texts (line_rows standard_settings (category_column file.name) (lines file.text)) (file_rows rest))
+    ∙ sym (gathered-append texts (rows_of_file file.name file.text) (file_rows rest))
     ∙ ap (λ x. gathered texts (file_rows x)) (sym first)
     ∙ so_far
 

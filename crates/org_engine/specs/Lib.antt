@@ -5,6 +5,7 @@ pub mod Seen
 pub mod Tags
 pub mod Layout
 pub mod TodoList
+pub mod Sections
 pub mod Gathered
 pub mod Step
 pub mod Questions

@@ -3,8 +3,10 @@ use Rattle.std.specs.Prelude.{ℕ, if◌then◌else◌, Bool, false, not, ◌&&�
 use Rattle.std.specs.List.{list_any, concat}
 use Rattle.org_base.specs.declared.span.Span.{Span}
 use Rattle.org_lines.specs.Cuts.{lines}
-use Rattle.org_head.specs.Settings.{FileSettings, keyword_place, keyword_done, standard_settings}
-use Rattle.org_head.specs.Heading.{begins_heading}
+use Rattle.org_class.specs.Classes.{setting_lines}
+use Rattle.org_class.specs.Heading.{begins_heading}
+use Rattle.org_class.specs.Keywords.{keyword_place, keyword_done}
+use Rattle.org_class.specs.Settings.{FileSettings, settings_of}
 use Rattle.org_head.specs.declared.head.Head.{Head}
 use Rattle.org_head.specs.Head.{head_of, priority_of}
 use Rattle.org_head.specs.Spans.{part_of}
@@ -62,10 +64,18 @@ abbrev pub line_rows : FileSettings → List ℕ → List (List ℕ) → List Li
 line_rows settings column [] = []
 line_rows settings column (line ∷ lines) = line_row settings column line ++ line_rows settings column lines
 
+-- the settings of a file, wherever its setting lines stand
+abbrev pub file_settings : List ℕ → FileSettings
+file_settings text = settings_of (setting_lines text)
+
+-- the rows of a file, by its own settings
+abbrev pub rows_of_file : List ℕ → List ℕ → List ListRow
+rows_of_file name text = line_rows (file_settings text) (category_column name) (lines text)
+
 -- the rows of files, in order
 abbrev pub file_rows : List FileView → List ListRow
 file_rows [] = []
-file_rows (file ∷ files) = line_rows standard_settings (category_column file.name) (lines file.text) ++ file_rows files
+file_rows (file ∷ files) = rows_of_file file.name file.text ++ file_rows files
 
 -- the rows of one priority
 abbrev pub rows_at : ℕ → List ListRow → List ListRow

@@ -1,6 +1,8 @@
 //! An engine, and a call for each command.
-ghost use Rattle.std.specs.Prelude.{◌≡◌, ◌≤◌, [], IfOk, IfErr, Ok, false, string_bytes, nat_le};
+ghost use Rattle.std.specs.Prelude.{◌≡◌, ◌≤◌, [], ℕ, IfOk, IfErr, OnOk, OnErr, Ok, false, string_bytes, nat_le};
 ghost use Rattle.org_base.specs.Counts.{none_counted};
+ghost use Rattle.org_class.specs.Ticks.{classified};
+ghost use Rattle.org_engine.specs.Sections.{section_count};
 ghost use Rattle.org_engine.specs.Step.{last_serial, Answers, Refuses, RefusesSurely, AddFile, DropFile, TextOf, Ask, Serial, Shown};
 ghost use Rattle.org_engine.specs.Questions.{meaning};
 
@@ -131,14 +133,16 @@ impl<T: Text> Engine<T> {
         }
     }
 
-    /// The text of a view of the current world. Want of memory is the only refusal; the state stays as it is.
+    /// The text of a view of the current world. Each section of each file is classified once, as the meter counts. Want of
+    /// memory is the only refusal. The state stays as it is.
     pub fn query(&mut self, view: View) -> Result<Bytes, Fault>
         ensures ok { IfOk result (λ text. Answers (Ask (meaning view)) self.old.state (Shown text) self.new.state) }
         ensures err { IfErr result (λ fault. Refuses (Ask (meaning view)) self.old.state fault self.new.state) }
-        ensures counts { self.new.counts ≡ self.old.counts }
+        ensures counts { OnOk result (self.new.counts ≡ classified (section_count self.old.state.world.files) self.old.counts) }
+        ensures few { OnErr result ((n : ℕ) × (n ≤ section_count self.old.state.world.files) × (self.new.counts ≡ classified n self.old.counts)) }
     {
         match view {
-            View::Todo => todo_text(self.alloc, &self.world),
+            View::Todo => todo_text(self.alloc, &mut self.meter, &self.world),
         }
     }
 

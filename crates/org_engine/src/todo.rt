@@ -1,36 +1,63 @@
 //! The plain TODO list.
-ghost use Rattle.std.specs.Prelude.{◌≡◌, ◌<◌, ◌^◌, length, map, IfOk, OnOk, IsOkUnless};
+ghost use Rattle.std.specs.Prelude.{◌≡◌, ◌<◌, ◌≤◌, ◌^◌, ℕ, length, map, IfOk, OnOk, OnErr, IsOkUnless};
 ghost use Rattle.std.specs.Cow.{cow_slice_items};
 ghost use Rattle.org_base.specs.Codes.{memory_fault};
 ghost use Rattle.std.specs.List.{All, list_any};
+ghost use Rattle.org_class.specs.Sections.{sections};
+ghost use Rattle.org_class.specs.Ticks.{classified};
+ghost use Rattle.org_engine.specs.Sections.{section_count};
 ghost use Rattle.org_lines.specs.Cuts.{lines};
 ghost use Rattle.org_head.specs.Head.{head_of, AreInside};
 ghost use Rattle.org_head.specs.Spans.{part_of, IsInside};
-ghost use Rattle.org_engine.specs.TodoList.{is_archive, is_hidden, is_open, is_open_word, heading_row, line_row, line_rows, todo_text};
+ghost use Rattle.org_engine.specs.TodoList.{is_archive, is_hidden, is_open, is_open_word, heading_row, line_row, line_rows, rows_of_file, todo_text};
 ghost use Rattle.org_engine.specs.Gathered.{gathered};
 
 use crate::list::PriorityTexts;
 use crate::row::{category_column, head_text};
 use crate::world::World;
-use org_base::{Bytes, Fault, Span};
-use org_head::{Head, Settings, begins_heading, part, read_head};
+use org_base::{Bytes, Fault, Meter, Span};
+use org_class::{Settings, begins_heading, read_settings};
+use org_head::{Head, part, read_head};
 use org_lines::{Line, Lines};
 use org_text::Text;
 use std::alloc::Global;
 
-/// The text of the list over all files of a world. Want of memory is the only refusal.
-pub fn todo_text<T: Text>(alloc: Global, world: &World<T>) -> Result<Bytes, Fault>
+/// The text of the list over all files of a world. Each section of each file is classified once, as the meter counts.
+/// Want of memory is the only refusal; then some of the sections may have been classified.
+pub fn todo_text<T: Text>(
+    alloc: Global,
+    meter: &mut Meter,
+    world: &World<T>,
+) -> Result<Bytes, Fault>
     ensures value { IfOk result (λ text. text ≡ todo_text world.now) }
+    ensures counts { OnOk result (meter.new ≡ classified (section_count world.now.files) meter.old) }
+    ensures few { OnErr result ((n : ℕ) × (n ≤ section_count world.now.files) × (meter.new ≡ classified n meter.old)) }
     ensures memory { IsOkUnless result memory_fault }
 {
-    let settings = Settings::standard();
     let mut texts = PriorityTexts::new(alloc)?;
     for place in 0..world.count() {
         let (name, text) = world.file(place);
-        let column = category_column(alloc, name)?;
-        gather(alloc, &mut texts, &settings, column.as_bytes(), text)?;
+        gather_file(alloc, meter, &mut texts, name, text)?;
     }
     texts.joined(alloc)
+}
+
+// Adds the rows of a file's headings, by its own settings.
+fn gather_file<T: Text>(
+    alloc: Global,
+    meter: &mut Meter,
+    texts: &mut PriorityTexts,
+    name: &str,
+    text: &T,
+) -> Result<(), Fault>
+    ensures ok { OnOk result (texts.new ≡ gathered texts.old (rows_of_file name.now (T.content text.now))) }
+    ensures counts { OnOk result (meter.new ≡ classified (length (sections (T.content text.now))) meter.old) }
+    ensures few { OnErr result ((n : ℕ) × (n ≤ length (sections (T.content text.now))) × (meter.new ≡ classified n meter.old)) }
+    ensures memory { IsOkUnless result memory_fault }
+{
+    let settings = read_settings(alloc, meter, text)?;
+    let column = category_column(alloc, name)?;
+    gather(alloc, texts, &settings, column.as_bytes(), text)
 }
 
 // Adds the rows of a file's headings.

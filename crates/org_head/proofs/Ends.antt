@@ -7,9 +7,9 @@ use Rattle.std.specs.List.{prefix_len}
 use Rattle.org_base.specs.Words.{trim_start, first_word, is_gap}
 use Rattle.org_base.specs.declared.span.Span.{Span}
 use Rattle.org_head.specs.declared.head.Head.{Head}
-use Rattle.org_head.specs.Settings.{FileSettings}
-use Rattle.org_head.specs.Heading.{stars}
-use Rattle.org_head.specs.Priority.{is_cookie}
+use Rattle.org_class.specs.Settings.{FileSettings}
+use Rattle.org_class.specs.Heading.{stars}
+use Rattle.org_head.specs.Cookie.{is_cookie}
 use Rattle.org_head.specs.Spans.{part_of}
 use Rattle.org_head.specs.Head.{first_part, behind, behind_stars, behind_keyword, behind_cookie, behind_comment, head_of}
 use Rattle.org_head.proofs.FirstWord.{IsTrimmed, trimmed-trim_start, first_word-taken}

@@ -2,7 +2,6 @@ pub mod Ends
 pub mod FirstWord
 pub mod Inside
 pub mod SpanLemmas
-pub mod StandardPlaces
 pub mod Runs
 pub mod TagPieces
 pub mod PartsHold

@@ -5,9 +5,10 @@ use Rattle.org_base.specs.Words.{trim_start, trim_end, first_word}
 use Rattle.org_base.specs.declared.span.Span.{Span}
 use Rattle.org_head.specs.declared.head.Head.{Head}
 use Rattle.org_head.specs.Spans.{part_of, IsInside}
-use Rattle.org_head.specs.Heading.{stars}
-use Rattle.org_head.specs.Settings.{FileSettings}
-use Rattle.org_head.specs.Priority.{is_cookie, cookie_value, priority_number}
+use Rattle.org_class.specs.Heading.{stars}
+use Rattle.org_class.specs.Settings.{FileSettings}
+use Rattle.org_class.specs.Priority.{priority_number}
+use Rattle.org_head.specs.Cookie.{is_cookie, cookie_value}
 use Rattle.org_head.specs.Parts.{is_keyword, is_comment_word, is_tag_word, last_word}
 use Rattle.org_head.specs.Tags.{spans_from}
 

@@ -1,6 +1,4 @@
-pub mod Settings
-pub mod Heading
-pub mod Priority
+pub mod Cookie
 pub mod Parts
 pub mod Spans
 pub mod Tags

@@ -1,19 +1,18 @@
 //! Reading a heading line.
 ghost use Rattle.std.specs.Prelude.{◌≡◌, ◌≤◌, ◌+◌, ◌<◌, ◌^◌, length, IfOk, IsOkUnless, IsTrue};
 ghost use Rattle.org_base.specs.Codes.{memory_fault};
-ghost use Rattle.org_head.specs.Heading.{begins_heading};
+ghost use Rattle.org_class.specs.Heading.{begins_heading};
 ghost use Rattle.org_head.specs.HeadParts.{HasParts};
 ghost use Rattle.org_head.specs.Parts.{is_keyword};
 ghost use Rattle.org_head.specs.Head.{first_part, behind, title_of, tags_of, head_of, AreInside};
 
+use crate::cookie::is_cookie;
 use crate::head::Head;
-use crate::heading::leading_stars;
 use crate::parts::{is_comment_word, is_tag_word, last_word};
-use crate::priority::is_cookie;
-use crate::settings::Settings;
 use crate::spans::Spans;
 use org_base::words::{first_word, trim_end, trim_start};
 use org_base::{Fault, Span};
+use org_class::{Settings, leading_stars};
 use std::alloc::Global;
 
 fn is_keyword(settings: &Settings, word: &[u8]) -> bool

@@ -2,11 +2,10 @@ ghost use Rattle.std.specs.Prelude.{◌<◌, ◌^◌, length, IfSome};
 ghost use Rattle.std.specs.List.{All};
 ghost use Rattle.org_head.specs.Spans.{IsInside};
 
-use crate::heading::begins_heading;
 use crate::read::read_head;
-use crate::settings::Settings;
 use crate::spans::part;
-use org_base::Span;
+use org_base::{Span, Texts};
+use org_class::Settings;
 use std::alloc::Global;
 use std::test::Fail;
 
@@ -29,11 +28,18 @@ fn push_parts(text: &mut Vec<u8>, line: &[u8], spans: &[Span]) -> Result<(), Fai
     Ok(())
 }
 
+// The settings of a file without setting lines.
+fn standard(alloc: Global) -> Result<Settings, Fail> {
+    let settings = Settings::of_lines(alloc, &Texts::new(alloc))?;
+    Ok(settings)
+}
+
 // A head as `stars|keyword|cookie|COMMENT|title`, with a bar before each tag.
 fn shown(alloc: Global, line: &[u8]) -> Result<Vec<u8>, Fail>
     requires { length line.now < 2 ^ 32 }
 {
-    let head = read_head(alloc, line, &Settings::standard())?;
+    let settings = standard(alloc)?;
+    let head = read_head(alloc, line, &settings)?;
     let mut text = Vec::new(alloc);
     for _star in 0..head.level {
         text.push(b'*')?;
@@ -50,33 +56,6 @@ fn shown(alloc: Global, line: &[u8]) -> Result<Vec<u8>, Fail>
     text.extend_from_slice(part(line, head.title))?;
     push_parts(&mut text, line, head.tags.as_slice())?;
     Ok(text)
-}
-
-#[test]
-fn standard_settings(rt: HostRuntime) {
-    let settings = Settings::standard();
-    assert_eq!(rt; settings.keyword_place(b"TODO"), Some(0));
-    assert_eq!(rt; settings.keyword_place(b"DONE"), Some(1));
-    assert_eq!(rt; settings.keyword_place(b"todo"), None);
-    assert!(rt; !settings.is_done(0));
-    assert!(rt; settings.is_done(1));
-    assert_eq!(rt; settings.default_priority(), 66);
-}
-
-#[test]
-fn heading_lines(rt: HostRuntime) {
-    let lines: [(&[u8], bool); 7] = [
-        (b"* a\n", true),
-        (b"** \n", true),
-        (b"*\n", false),
-        (b"*\ta\n", false),
-        (b" * a\n", false),
-        (b"", false),
-        (b"\xef\xbb\xbf* a\n", false),
-    ];
-    for (line, is_heading) in lines {
-        assert_eq!(rt; begins_heading(line), is_heading);
-    }
 }
 
 #[test]
@@ -118,7 +97,7 @@ fn heads(rt: HostRuntime) -> Result<(), Fail> {
 
 #[test]
 fn priorities(rt: HostRuntime) -> Result<(), Fail> {
-    let settings = Settings::standard();
+    let settings = standard(rt.alloc())?;
     let lines: [(&[u8], u8); 5] = [
         (b"* x", 66),
         (b"* TODO [#A]", 65),

@@ -2,6 +2,7 @@ pub mod WordLemmas
 mod Literals
 pub mod ReadLemmas
 pub mod LineLemmas
+pub mod PairLemmas
 pub mod LawLemmas
 pub mod PrintLemmas
 pub mod AgainLemmas

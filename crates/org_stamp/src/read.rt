@@ -84,7 +84,7 @@ fn single_before(bytes: &[u8], close: usize) -> Option<(Stamp, usize)>
 
 /// The stamp of one day at the front, and its length.
 #[tactic(auto, unfolding(crate::specs::Read::single_of))]
-fn single_of(bytes: &[u8]) -> Option<(Stamp, usize)>
+pub(crate) fn single_of(bytes: &[u8]) -> Option<(Stamp, usize)>
     ensures value { result ≡ spec.single_of bytes.now }
     ensures within { IfSome result (λ found. found.1 ≤ length bytes.now) }
 {
@@ -105,7 +105,7 @@ pub(crate) fn stamp_before(bytes: &[u8], close: usize) -> Option<(Stamp, usize)>
 }
 
 /// The longest stamp at the front, and its length.
-fn stamp_of(bytes: &[u8]) -> Option<(Stamp, usize)>
+pub(crate) fn stamp_of(bytes: &[u8]) -> Option<(Stamp, usize)>
     ensures value { result ≡ spec.stamp_of bytes.now }
     ensures within { IfSome result (λ found. found.1 ≤ length bytes.now) }
 {

@@ -1,4 +1,7 @@
-use crate::{Stamp, print_stamp, read_single, read_stamp, stamps_in};
+use crate::{
+    Stamp, clock_stamp, is_clock, is_planning, next_pair, print_stamp, read_single, read_stamp,
+    stamps_in,
+};
 use org_base::Fault;
 use std::alloc::Global;
 use std::test::Fail;
@@ -164,4 +167,61 @@ fn long_lines(rt: HostRuntime) -> Result<(), Fail> {
         assert_eq!(rt; first_place(&line), at);
     }
     Ok(())
+}
+
+/// Where the stamps of the line's pairs begin, how long they are, and where the pairs end.
+fn pairs(alloc: Global, line: &[u8]) -> Result<Vec<(usize, usize, usize)>, Fault> {
+    let mut found = Vec::new(alloc);
+    let mut at = 0;
+    for _more in 0..3 {
+        let rest = at.min(line.len());
+        let Some(pair) = next_pair(line, rest) else {
+            break;
+        };
+        at = pair.end;
+        found.push((pair.at, pair.len, pair.end))?;
+    }
+    Ok(found)
+}
+
+#[test]
+fn planning_lines(rt: HostRuntime) -> Result<(), Fail> {
+    let rows: [(&str, &[(usize, usize, usize)]); 7] = [
+        (
+            "CLOSED: [2024-02-27 Tue] DEADLINE: <2024-03-01 Fri>--<2024-03-02 Sat> x SCHEDULED: <2024-03-05 Tue>",
+            &[(8, 16, 24), (35, 16, 69)],
+        ),
+        (
+            " \tSCHEDULED:<2024-02-28>DEADLINE: \t<2024-02-29>",
+            &[(12, 12, 24), (35, 12, 47)],
+        ),
+        ("SCHEDULED: <2024-02-30>", &[]),
+        ("scheduled: <2024-02-28>", &[]),
+        ("SCHEDULED : <2024-02-28>", &[]),
+        ("x SCHEDULED: <2024-02-28>", &[]),
+        ("", &[]),
+    ];
+    for (line, want) in rows {
+        let found = pairs(rt.alloc(), line.as_bytes())?;
+        assert!(rt; found.as_slice() == want, "{line}");
+        assert_eq!(rt; is_planning(line.as_bytes()), !want.is_empty());
+    }
+    Ok(())
+}
+
+#[test]
+fn clock_lines(rt: HostRuntime) {
+    for (line, is) in [
+        (
+            "CLOCK: [2024-02-27 Tue 23:30]--[2024-02-28 Wed 00:45] =>  1:15\n",
+            true,
+        ),
+        ("  CLOCK:[2024-02-27 Tue 23:30]\n", true),
+        ("CLOCK: <2024-02-27 Tue 23:30>\n", false),
+        ("clock: [2024-02-27 Tue 23:30]\n", false),
+        ("CLOCK: => 1:00\n", false),
+    ] {
+        assert_eq!(rt; is_clock(line.as_bytes()), is);
+        assert_eq!(rt; clock_stamp(line.as_bytes()).is_some(), is);
+    }
 }

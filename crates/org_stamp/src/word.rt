@@ -12,7 +12,7 @@ pub fn is_space(byte: u8) -> bool
 }
 
 /// How much white space stands at the front.
-fn leading_spaces(bytes: &[u8]) -> usize
+pub(crate) fn leading_spaces(bytes: &[u8]) -> usize
     ensures value { result ≡ prefix_len is_space bytes.now }
     ensures within { result ≤ length bytes.now }
 {

@@ -1,6 +1,6 @@
 use Rattle.std.proofs.Common.{◌≡◌, ◌∙◌, [], ap, sym, true, cond}
 use Rattle.std.specs.Cow.{cow_slice_items}
-use Rattle.org_head.specs.Heading.{begins_heading}
+use Rattle.org_class.specs.Heading.{begins_heading}
 use Rattle.org_engine.specs.TodoList.{heading_row}
 use Rattle.org_engine.specs.Gathered.{gathered}
 use Rattle.org_engine.proofs.todo.gather_line.Goals as goal

@@ -1,11 +1,13 @@
-use Rattle.std.proofs.Common.{◌∙◌, ◌<◌, ◌≤◌, [], ap, arith, length, get_or}
+use Rattle.std.proofs.Common.{◌∙◌, ◌+◌, ◌<◌, ◌≤◌, [], ap, sym, arith, length, get_or, take}
 use Rattle.std.proofs.lemmas.Result.{IfOk-weaker}
 use Rattle.std.proofs.lemmas.Option.{slice_get-get_or}
-use Rattle.org_lines.specs.Cuts.{lines}
+use Rattle.org_class.specs.Sections.{sections}
+use Rattle.org_class.specs.Ticks.{classified}
+use Rattle.org_engine.specs.Sections.{section_count}
 use Rattle.org_engine.specs.World.{FileView}
-use Rattle.org_engine.specs.Layout.{category_column}
-use Rattle.org_engine.specs.TodoList.{line_rows}
+use Rattle.org_engine.specs.TodoList.{rows_of_file}
 use Rattle.org_engine.specs.Gathered.{gathered}
+use Rattle.org_engine.proofs.CountLemmas.{classified-more, count_more, count_some, on_err}
 use Rattle.org_engine.proofs.TodoLemmas.{file_more, todo_whole}
 use Rattle.org_engine.proofs.todo.todo_text.Goals as goal
 
@@ -18,14 +20,41 @@ loop-place-preserved g c =
     let place = c.loop-place.place in
     let within : place < length files = omega arith in
     let file : FileView = get_or files place no_file in
-    let both = c.file.ensures.value file (slice_get-get_or files place no_file within) in
-    let column = c.as_bytes.ensures.value ∙ c.in_ok-column.ensures.value ∙ ap category_column both.0 in
-    file_more files place file _ _ _ within (slice_get-get_or files place no_file within)
-    (c.in_ok-gather.ensures.ok ∙ (λ i. gathered c.loop-place.texts (line_rows (c.standard-settings.ensures.value i) (column i) (lines (both.1 i)))))
-    c.loop-place.invariant
+    let there = slice_get-get_or files place no_file within in
+    let both = c.file.ensures.value file there in
+    record {
+      rows = file_more files place file _ _ _ within there
+          (c.in_ok-gather_file.ensures.ok ∙ (λ i. gathered c.loop-place.texts (rows_of_file (both.0 i) (both.1 i))))
+          c.loop-place.invariant.rows;
+      counts = c.in_ok-gather_file.ensures.counts
+          ∙ ap (λ t. classified (length (sections t)) c.loop-place.meter) both.1
+          ∙ ap (classified (length (sections file.text))) c.loop-place.invariant.counts
+          ∙ classified-more (length (sections file.text)) (section_count (take place files)) c.args.meter.now
+          ∙ ap (λ n. classified n c.args.meter.now) (sym (count_more files place file there));
+    }
+
+pub returns-in_err-gather_file-clause-few : goal.returns-in_err-gather_file-clause-few
+returns-in_err-gather_file-clause-few g c =
+    let files = c.args.world.now.files in
+    let place = c.loop-place.place in
+    let within : place < length files = omega arith in
+    let file : FileView = get_or files place no_file in
+    let there = slice_get-get_or files place no_file within in
+    let both = c.file.ensures.value file there in
+    let few = c.in_err-gather_file.ensures.few in
+    let before = section_count (take place files) in
+    let own : few.0 ≤ length (sections file.text) = rw (← both.1) few.1 in
+    let some = count_some files (place + 1) in
+    let more = count_more files place file there in
+    let within_all : before + few.0 ≤ section_count files = omega (arith, own, some, more) in
+    on_err c.from_residual-in_err-gather_file.result (
+      before + few.0,
+      within_all,
+      few.2 ∙ ap (classified few.0) c.loop-place.invariant.counts ∙ classified-more few.0 before c.args.meter.now,
+    )
 
 pub returns-clause-value : goal.returns-clause-value
 returns-clause-value g c =
     let all : length c.args.world.now.files ≤ c.loop-place.place = omega arith in
-    let whole = todo_whole c.args.world.now _ c.loop-place.place all c.loop-place.invariant in
+    let whole = todo_whole c.args.world.now _ c.loop-place.place all c.loop-place.invariant.rows in
     IfOk-weaker c.joined.result _ _ (λ text is. is ∙ whole) c.joined.ensures.value

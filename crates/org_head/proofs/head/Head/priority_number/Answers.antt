@@ -1,6 +1,6 @@
 -- The head's cookie is a part of the line.
 use Rattle.std.proofs.Common.{◌∙◌, ap}
-use Rattle.org_head.specs.Priority.{is_cookie}
+use Rattle.org_head.specs.Cookie.{is_cookie}
 use Rattle.org_head.proofs.Ends.{cookie_is}
 use Rattle.org_head.proofs.Inside.{cookie_inside}
 use Rattle.org_head.proofs.head.Head.priority_number.Goals as goal

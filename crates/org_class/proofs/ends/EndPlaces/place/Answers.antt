@@ -1,0 +1,19 @@
+-- What the map finds is what its view finds.
+use Rattle.std.proofs.Common.{ap, ◌∙◌}
+use Rattle.std.specs.Prelude.{nat_eq}
+use Rattle.std.specs.Option.{unwrap_or}
+use Rattle.std.specs.Map.{lookup}
+use Rattle.std.specs.Cmp.Lexicographic.{pointwise}
+use Rattle.org_class.specs.Ends.{place_of}
+use Rattle.org_class.proofs.EndLemmas.{place-seen}
+use Rattle.org_class.proofs.ends.EndPlaces.place.Goals as goal
+
+pub returns-clause-value : goal.returns-clause-value
+returns-clause-value c =
+    let es = c.self.inside.by_name.entries in
+    c.unwrap_or.ensures
+    ∙ ap (λ o. unwrap_or o 0)
+    (c.copied.ensures ∙ c.get.ensures.value
+    ∙ ap (λ q. lookup (λ k. pointwise nat_eq q k.items) es) (c.as_slice.ensures.value ∙ c.in_ok-folded.ensures.ok)
+    ∙ place-seen _ es)
+    ∙ ap (λ p. place_of p c.args.name.now) c.self.view_is

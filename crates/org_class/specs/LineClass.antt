@@ -1,0 +1,24 @@
+-- The class of a line by itself (Org Syntax, Comments, Keywords, Clocks; that a comment's first word is # alone, and
+-- where a key ends: profile).
+use Rattle.std.specs.Prelude.{ℕ, Bool, ◌&&◌, not, ◌==◌, if◌then◌else◌, List, drop, slice_index, nat_eq, bytes_eq, codes}
+use Rattle.std.specs.List.{list_any, starts_with}
+use Rattle.org_base.specs.Words.{first_word}
+use Rattle.org_stamp.specs.Pair.{is_clock}
+use Rattle.org_class.specs.declared.class.Class.{Class}
+use Rattle.org_class.specs.declared.class.Class.TheVariants.{Clock, Setting, Comment, Plain}
+
+-- a comment line's first word is # alone
+abbrev pub is_comment : List ℕ → Bool
+is_comment l = bytes_eq (first_word l) (codes "#")
+
+-- #+, a key that isn't empty, and a colon, whatever follows
+abbrev pub is_setting_word : List ℕ → Bool
+is_setting_word w = starts_with nat_eq w (codes "#+") && not (slice_index w 2 == 58) && list_any (λ b. b == 58) (drop 2 w)
+
+-- a setting's first word is so
+abbrev pub is_setting : List ℕ → Bool
+is_setting l = is_setting_word (first_word l)
+
+-- the class of a line that belongs to no heading, drawer or block
+abbrev pub line_class : List ℕ → Class
+line_class l = if is_comment l then Comment else (if is_setting l then Setting else (if is_clock l then Clock else Plain))

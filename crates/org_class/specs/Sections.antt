@@ -1,0 +1,54 @@
+-- Sections of a text (Org Syntax, Headings and Sections).
+use Rattle.std.specs.Prelude.{ℕ, ◌+◌, Bool, true, false, ◌&&◌, ◌==◌, List, [], ◌∷◌, length}
+use Rattle.std.specs.List.{slice_range}
+use Rattle.org_base.specs.declared.span.Span.{Span}
+use Rattle.org_class.specs.Heading.{begins_heading}
+
+-- x before the pieces: at true it is a piece of its own
+abbrev pub put_before : {X : Type 0} → Bool → X → List (List X) → List (List X)
+put_before true x ps = (x ∷ []) ∷ ps
+put_before false x [] = (x ∷ []) ∷ []
+put_before false x (p ∷ ps) = (x ∷ p) ∷ ps
+
+-- the list cut behind each x where the test of x and of what follows it says so
+abbrev pub cut_where : {X : Type 0} → (X → List X → Bool) → List X → List (List X)
+cut_where cuts [] = []
+cut_where cuts (x ∷ xs) = put_before (cuts x xs) x (cut_where cuts xs)
+
+-- a section ends behind a line feed behind which a heading line stands
+abbrev pub ends_section : ℕ → List ℕ → Bool
+ends_section b bs = (b == 10) && begins_heading bs
+
+-- the sections: the text is cut where one ends
+abbrev pub sections : List ℕ → List (List ℕ)
+sections = cut_where ends_section
+
+-- the text is empty or ends with a line feed
+abbrev pub ends_line : List ℕ → Bool
+ends_line [] = true
+ends_line (b ∷ []) = b == 10
+ends_line (b ∷ c ∷ bs) = ends_line (c ∷ bs)
+
+-- a ++ b may be cut between a and b: a heading line begins there, or one of them is empty
+abbrev pub is_cut : List ℕ → List ℕ → Bool
+is_cut [] b = true
+is_cut (x ∷ a) [] = true
+is_cut (x ∷ a) (y ∷ b) = ends_line (x ∷ a) && begins_heading (y ∷ b)
+
+-- whether the first of the lines is a heading line
+abbrev pub is_headed : List (List ℕ) → Bool
+is_headed [] = false
+is_headed (l ∷ ls) = begins_heading l
+
+-- the longest runs of lines in which no line but the first is a heading line
+abbrev pub runs : List (List ℕ) → List (List (List ℕ))
+runs = cut_where (λ l ls. is_headed ls)
+
+-- where texts stand that follow one another, the first at a place
+abbrev pub spans_from : ℕ → List (List ℕ) → List Span
+spans_from at [] = []
+spans_from at (t ∷ ts) = record { at = at; len = length t } ∷ spans_from (at + length t) ts
+
+-- the bytes of a part of a text
+abbrev pub bytes_in : List ℕ → Span → List ℕ
+bytes_in t span = slice_range t span.at (span.at + span.len)

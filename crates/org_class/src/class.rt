@@ -1,0 +1,93 @@
+//! What a line of a section is.
+ghost use Rattle.std.specs.Prelude.{◌≡◌, ◌++◌, ◌∷◌, [], length, slice_get, OnOk, IsOkUnless};
+ghost use Rattle.org_base.specs.Codes.{memory_fault};
+
+use org_base::Fault;
+use std::alloc::Global;
+use std::marker::Model;
+
+/// The class of a line of a section (Org Syntax, "Headings", "Sections", "Planning", "Property Drawers", "Blocks",
+/// "Comments", "Keywords", "Clocks").
+#[derive(Clone, Copy, Debug, PartialEq, Eq)]
+pub enum Class {
+    /// The heading line, which is the first of its section.
+    Heading,
+    /// The planning line, directly under the heading.
+    Planning,
+    /// `:PROPERTIES:`, the first line of the property drawer.
+    DrawerOpen,
+    /// A line of the drawer, with a property.
+    Node,
+    /// `:END:`, the last line of the drawer.
+    DrawerEnd,
+    /// A clock line.
+    Clock,
+    /// A line `#+KEY: VALUE`.
+    Setting,
+    /// A line whose first word is `#` alone.
+    Comment,
+    /// `#+BEGIN_X`, the first line of a block.
+    BlockOpen,
+    /// A line inside a block.
+    Verbatim,
+    /// `#+END_X`, the last line of a block.
+    BlockEnd,
+    /// Any other line.
+    Plain,
+}
+
+/// The classes of a section's lines in order, seen as their list.
+#[derive(Drop)]
+pub struct Classes {
+    classes: Vec<Class>,
+}
+
+impl Model for Classes {
+    ghost use Rattle.std.specs.Prelude.{List};
+    ghost use Rattle.org_class.specs.declared.class.Class.{Class};
+
+    ghost Value = { List Class };
+
+    ghost view = { λ c. c.classes.items };
+}
+
+impl Classes {
+    // No classes.
+    pub(crate) fn new(alloc: Global) -> Classes
+        ensures value { result ≡ [] }
+    {
+        Classes {
+            classes: Vec::new(alloc),
+        }
+    }
+
+    // Puts a class at the end.
+    pub(crate) fn push(&mut self, class: Class) -> Result<(), Fault>
+        ensures ok { OnOk result (self.new ≡ self.old ++ class ∷ []) }
+        ensures memory { IsOkUnless result memory_fault }
+    {
+        self.classes.push(class)?;
+        Ok(())
+    }
+
+    /// How many classes there are: one for each line.
+    pub fn count(&self) -> usize
+        ensures value { result ≡ length self.now }
+    {
+        self.classes.len()
+    }
+
+    /// The class of the line at a place, from 0. None where the section has no such line.
+    pub fn get(&self, place: usize) -> Option<Class>
+        ensures value { result ≡ slice_get self.now place }
+    {
+        self.as_slice().get(place).copied()
+    }
+
+    /// The classes, to go over.
+    pub fn as_slice(&self) -> &[Class]
+        ensures value { result.now ≡ self.now }
+    {
+        self.classes.as_slice()
+    }
+}

@@ -1,0 +1,90 @@
+//! Where the last end line of each block's name stands.
+ghost use Rattle.std.specs.Prelude.{◌≡◌, ◌+◌, ◌≤◌, [], ℕ, List, if◌then◌else◌, length, IfOk, OnOk, IsOkUnless};
+ghost use Rattle.std.specs.Cow.{cow_slice_items};
+ghost use Rattle.org_base.specs.Codes.{memory_fault};
+ghost use Rattle.org_base.specs.Words.{same_word};
+ghost use Rattle.org_lines.specs.Cuts.{lines};
+ghost use Rattle.org_class.specs.Blocks.{ends_block};
+ghost use Rattle.org_class.specs.Ends.{place_of, AreLastEnds};
+ghost use Rattle.org_class.specs.Sections.{bytes_in};
+
+use crate::blocks::begins_with;
+use indexmap::IndexMap;
+use org_base::words::trimmed;
+use org_base::{Fault, Span};
+use org_lines::{Line, Lines};
+use org_text::Text;
+use std::alloc::Global;
+use std::marker::Model;
+
+/// A number for each name; 0 where none was noted. The case of ASCII letters doesn't count.
+#[derive(Drop)]
+pub(crate) struct EndPlaces {
+    by_name: IndexMap<Vec<u8>, usize>,
+}
+
+impl Model for EndPlaces {
+    ghost use Rattle.std.specs.Prelude.{map};
+    ghost use Rattle.org_class.specs.Ends.{Places};
+
+    ghost Value = { Places };
+
+    ghost view = { λ p. map (λ e. (e.0.items, e.1)) p.by_name.entries };
+}
+
+impl EndPlaces {
+    // Without any name.
+    fn new(alloc: Global) -> EndPlaces
+        ensures value { result ≡ [] }
+    {
+        EndPlaces {
+            by_name: IndexMap::new(alloc),
+        }
+    }
+
+    // Gives the name this number.
+    fn note(&mut self, alloc: Global, name: &[u8], place: usize) -> Result<(), Fault>
+        ensures ok { OnOk result ((q : List ℕ) → place_of self.new q ≡ if same_word name.now q then place else place_of self.old q) }
+        ensures memory { IsOkUnless result memory_fault }
+    {
+        let folded = name.to_ascii_lowercase(alloc)?;
+        self.by_name.insert(folded, place)?;
+        Ok(())
+    }
+
+    // Gives the name of the block that the line ends this number, if it ends one.
+    fn note_end(&mut self, alloc: Global, line: Line<'_>, place: usize) -> Result<(), Fault>
+        ensures ok { OnOk result ((q : List ℕ) → place_of self.new q ≡ if ends_block q (cow_slice_items line.entry.bytes) then place else place_of self.old q) }
+        ensures memory { IsOkUnless result memory_fault }
+    {
+        let text = trimmed(line.bytes.as_slice());
+        if begins_with(text, b"#+END_") && text.len() >= 6 {
+            self.note(alloc, &text[6..], place)?;
+        }
+        Ok(())
+    }
+
+    /// The number of the last end line of each name, in a part of the text.
+    pub(crate) fn of_lines<T: Text>(alloc: Global, text: &T, part: Span) -> Result<EndPlaces, Fault>
+        requires within { part.at + part.len ≤ length (T.content text.now) }
+        ensures value { IfOk result (λ places. AreLastEnds places (lines (bytes_in (T.content text.now) part))) }
+        ensures memory { IsOkUnless result memory_fault }
+    {
+        let mut places = EndPlaces::new(alloc);
+        let mut number = 0;
+        for line in Lines::new(alloc, text, part) {
+            number += 1;
+            places.note_end(alloc, line?, number)?;
+        }
+        Ok(places)
+    }
+
+    /// The name's number.
+    pub(crate) fn place(&self, alloc: Global, name: &[u8]) -> Result<usize, Fault>
+        ensures value { IfOk result (λ n. n ≡ place_of self.now name.now) }
+        ensures memory { IsOkUnless result memory_fault }
+    {
+        let folded = name.to_ascii_lowercase(alloc)?;
+        Ok(self.by_name.get(folded.as_slice()).copied().unwrap_or(0))
+    }
+}

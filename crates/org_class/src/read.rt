@@ -1,0 +1,68 @@
+//! The settings of a whole text.
+ghost use Rattle.std.specs.Prelude.{◌≡◌, ◌++◌, ◌+◌, ◌≤◌, ℕ, length, IfOk, OnOk, OnErr, IsOkUnless};
+ghost use Rattle.std.specs.Cow.{cow_slice_items};
+ghost use Rattle.org_base.specs.Codes.{memory_fault};
+ghost use Rattle.org_lines.specs.Cuts.{lines};
+ghost use Rattle.org_class.specs.Classes.{lines_of_setting, setting_of, setting_lines};
+ghost use Rattle.org_class.specs.Sections.{bytes_in, sections};
+ghost use Rattle.org_class.specs.Settings.{settings_of};
+ghost use Rattle.org_class.specs.Ticks.{classified};
+
+use crate::class::{Class, Classes};
+use crate::section::classify;
+use crate::settings::Settings;
+use crate::spans::sections;
+use org_base::{Fault, Meter, Span, Texts};
+use org_lines::{Line, Lines};
+use org_text::Text;
+use std::alloc::Global;
+
+// Puts the line at the end, if it is of the class Setting.
+fn push_setting(texts: &mut Texts, class: Option<Class>, line: Line<'_>) -> Result<(), Fault>
+    ensures ok { OnOk result (texts.new ≡ texts.old ++ setting_of class (cow_slice_items line.entry.bytes)) }
+    ensures memory { IsOkUnless result memory_fault }
+{
+    match class {
+        Some(Class::Setting) => texts.push(line.bytes.as_slice()),
+        _ => Ok(()),
+    }
+}
+
+/// Puts the setting lines of a section, whose lines are of these classes, at the end of the texts. Want of memory is
+/// the only refusal; some of the lines may stand there then.
+pub fn push_setting_lines<T: Text>(
+    alloc: Global,
+    texts: &mut Texts,
+    text: &T,
+    section: Span,
+    classes: &Classes,
+) -> Result<(), Fault>
+    requires within { section.at + section.len ≤ length (T.content text.now) }
+    ensures ok { OnOk result (texts.new ≡ texts.old ++ lines_of_setting (lines (bytes_in (T.content text.now) section)) classes.now) }
+    ensures memory { IsOkUnless result memory_fault }
+{
+    let mut place = 0;
+    for line in Lines::new(alloc, text, section) {
+        push_setting(texts, classes.get(place), line?)?;
+        place += 1;
+    }
+    Ok(())
+}
+
+/// The settings of a whole text: what its setting lines, those of all sections, say together. Want of memory is the
+/// only refusal. The meter counts one classified section for each section of the text, where memory is refused for
+/// some of them alone.
+pub fn read_settings<T: Text>(alloc: Global, meter: &mut Meter, text: &T) -> Result<Settings, Fault>
+    ensures value { IfOk result (λ settings. settings ≡ settings_of (setting_lines (T.content text.now))) }
+    ensures counts { OnOk result (meter.new ≡ classified (length (sections (T.content text.now))) meter.old) }
+    ensures few { OnErr result ((n : ℕ) × (n ≤ length (sections (T.content text.now))) × (meter.new ≡ classified n meter.old)) }
+    ensures memory { IsOkUnless result memory_fault }
+{
+    let spans = sections(alloc, text)?;
+    let mut lines = Texts::new(alloc);
+    for span in spans.as_slice() {
+        let classes = classify(alloc, meter, text, *span)?;
+        push_setting_lines(alloc, &mut lines, text, *span, &classes)?;
+    }
+    Settings::of_lines(alloc, &lines)
+}

@@ -1,0 +1,60 @@
+//! The classes of a section's lines.
+ghost use Rattle.std.specs.Prelude.{◌≡◌, ◌+◌, ◌≤◌, length, IfOk, IsOkUnless};
+ghost use Rattle.org_base.specs.Codes.{memory_fault};
+ghost use Rattle.org_base.specs.Counts.{ticked};
+ghost use Rattle.org_base.specs.declared.meter.Tick.TheVariants.{Classify};
+ghost use Rattle.org_class.specs.Classes.{section_classes};
+ghost use Rattle.org_class.specs.Sections.{bytes_in};
+
+use crate::ahead::Ahead;
+use crate::class::Classes;
+use crate::ends::EndPlaces;
+use crate::stage::Stage;
+use org_base::{Fault, Meter, Span, Tick};
+use org_lines::Lines;
+use org_text::Text;
+use std::alloc::Global;
+
+/// The class of each line of a section, in order (Org Syntax, "Headings", "Planning", "Property Drawers", "Blocks"). A
+/// section that doesn't begin with a heading line is taken for the one before the first heading. Want of memory is the
+/// only refusal; the meter counts one classified section then too.
+pub fn classify<T: Text>(
+    alloc: Global,
+    meter: &mut Meter,
+    text: &T,
+    section: Span,
+) -> Result<Classes, Fault>
+    requires within { section.at + section.len ≤ length (T.content text.now) }
+    ensures value { IfOk result (λ classes. classes ≡ section_classes (bytes_in (T.content text.now) section)) }
+    ensures counts { meter.new ≡ ticked Classify meter.old }
+    ensures memory { IsOkUnless result memory_fault }
+{
+    meter.tick(Tick::Classify);
+    classes(alloc, text, section)
+}
+
+fn classes<T: Text>(alloc: Global, text: &T, section: Span) -> Result<Classes, Fault>
+    requires within { section.at + section.len ≤ length (T.content text.now) }
+    ensures value { IfOk result (λ classes. classes ≡ section_classes (bytes_in (T.content text.now) section)) }
+    ensures memory { IsOkUnless result memory_fault }
+{
+    let _len = text.len();
+    let ends = EndPlaces::of_lines(alloc, text, section)?;
+    let mut classes = Classes::new(alloc);
+    let mut stage = Stage::Start;
+    let mut rest = section;
+    let mut number = 0;
+    for line in Lines::new(alloc, text, section) {
+        let line = line?;
+        rest = Span {
+            at: rest.at + line.span.len,
+            len: rest.len - line.span.len,
+        };
+        number += 1;
+        let ahead = Ahead::new(text, rest, number, &ends);
+        let (class, next) = stage.next(alloc, line, &ahead)?;
+        classes.push(class)?;
+        stage = next;
+    }
+    Ok(classes)
+}

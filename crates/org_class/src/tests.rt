@@ -1,0 +1,309 @@
+ghost use Rattle.std.specs.Prelude.{◌<◌, ◌^◌, length};
+
+use crate::{
+    Class, Settings, begins_heading, classify, is_priority, leading_stars, priority_number,
+    push_setting_lines, read_settings, sections,
+};
+use org_base::{Meter, Span, Texts};
+use org_text::{Text, Whole};
+use std::alloc::Global;
+use std::test::Fail;
+
+fn letter(class: Class) -> u8 {
+    match class {
+        Class::Heading => b'H',
+        Class::Planning => b'P',
+        Class::DrawerOpen => b'(',
+        Class::Node => b'n',
+        Class::DrawerEnd => b')',
+        Class::Clock => b'C',
+        Class::Setting => b'S',
+        Class::Comment => b'#',
+        Class::BlockOpen => b'[',
+        Class::Verbatim => b'v',
+        Class::BlockEnd => b']',
+        Class::Plain => b'.',
+    }
+}
+
+// A letter for each line, and a bar behind each section.
+fn letters(alloc: Global, text: &str) -> Result<Vec<u8>, Fail> {
+    let text = Whole::of(alloc, text)?;
+    let mut meter = Meter::new();
+    let mut out = Vec::new(alloc);
+    let spans = sections(alloc, &text)?;
+    for span in spans.as_slice() {
+        let classes = classify(alloc, &mut meter, &text, *span)?;
+        for class in classes.as_slice() {
+            out.push(letter(*class))?;
+        }
+        out.push(b'|')?;
+    }
+    Ok(out)
+}
+
+#[test]
+fn classes_of_texts(rt: HostRuntime) -> Result<(), Fail> {
+    let rows: [(&str, &[u8]); 20] = [
+        ("", b""),
+        ("x", b".|"),
+        ("\n** a\n**\n*\tb\n * c\n* d", b".|H...|H|"),
+        ("* h\n#+BEGIN_EXAMPLE\n<2024-02-28 Wed>\n", b"H..|"),
+        (
+            "* h\n#+BEGIN_EXAMPLE\n<2024-02-28 Wed>\n#+END_EXAMPLE\n",
+            b"H[v]|",
+        ),
+        (
+            "#+BEGIN_A\n#+BEGIN_B\n#+end_a x\n #+End_b \r\n#+TODO: a\n",
+            b".[v]S|",
+        ),
+        ("#+begin_a x\n#+BEGIN_B\n#+END_A\n#+END_B\n", b"[v].|"),
+        ("#+BEGIN_X\n* a\n#+END_X\n", b".|H.|"),
+        ("#+BEGIN_A\n#+BEGIN_A\n#+END_A\n#+END_A\n", b"[v].|"),
+        ("#+BEGIN_A:b\n#+BEGIN_\n#+BEGIN: x\n#+END_X\n", b"S.S.|"),
+        ("#\n# a\n#a\n #+a:b\n#+TODO : A\n#+:\n", b"##.S..|"),
+        (
+            "* a\nSCHEDULED: <2024-02-28>\n:PROPERTIES:\n:Owner+: cy\n :end:\nCLOCK: [2024-02-28 Wed 9:00]\n",
+            b"HP(n)C|",
+        ),
+        (
+            "* a\n\nSCHEDULED: <2024-02-28>\n:PROPERTIES:\n:END:\n",
+            b"H....|",
+        ),
+        (
+            "* a\nSCHEDULED: <2024-02-30>\n:PROPERTIES:\n:END:\n",
+            b"H...|",
+        ),
+        ("SCHEDULED: <2024-02-28>\n", b".|"),
+        ("* a\n:properties:\n:A: 1\nx\n:END:\n", b"H....|"),
+        (
+            "* a\n:PROPERTIES:\n:a:b: 1\n:PROPERTIES:\n:END: x\n:END:\n:END:\n",
+            b"H(nnn).|",
+        ),
+        (
+            "* a\n:PROPERTIES:\n:a++: 1\n:END:\n* b\n:PROPERTIES:\n",
+            b"H...|H.|",
+        ),
+        ("# c\n\n:PROPERTIES:\n:A: 1\n:END:\n* b\n", b"#.(n)|H|"),
+        ("#+TITLE: x\n:PROPERTIES:\n:END:\n", b"S..|"),
+    ];
+    for (text, want) in rows {
+        let found = letters(rt.alloc(), text)?;
+        assert!(rt; found.as_slice() == want, "{text}");
+    }
+    Ok(())
+}
+
+#[test]
+fn places_of_sections(rt: HostRuntime) -> Result<(), Fail> {
+    let text = Whole::of(rt.alloc(), "x\n* TODO a\n* TODO b\n")?;
+    let spans = sections(rt.alloc(), &text)?;
+    assert_eq!(rt; spans.count(), 3);
+    assert_eq!(rt; spans.get(1), Some(Span { at: 2, len: 9 }));
+    assert_eq!(rt; spans.get(3), None);
+    Ok(())
+}
+
+#[test]
+fn class_at_a_place(rt: HostRuntime) -> Result<(), Fail> {
+    let text = Whole::of(rt.alloc(), "* a\n#+TODO: x\n")?;
+    let whole = Span {
+        at: 0,
+        len: text.len() as u32,
+    };
+    let mut meter = Meter::new();
+    let classes = classify(rt.alloc(), &mut meter, &text, whole)?;
+    assert_eq!(rt; classes.count(), 2);
+    assert_eq!(rt; classes.get(1), Some(Class::Setting));
+    assert_eq!(rt; classes.get(2), None);
+    assert_eq!(rt; meter.classified(), 1);
+    let mut lines = Texts::new(rt.alloc());
+    push_setting_lines(rt.alloc(), &mut lines, &text, whole, &classes)?;
+    assert_eq!(rt; lines.count(), 1);
+    Ok(())
+}
+
+#[test]
+fn heading_lines(rt: HostRuntime) {
+    let lines: [(&[u8], bool, usize); 7] = [
+        (b"* a\n", true, 1),
+        (b"** \n", true, 2),
+        (b"*\n", false, 1),
+        (b"*\ta\n", false, 1),
+        (b" * a\n", false, 0),
+        (b"", false, 0),
+        (b"\xef\xbb\xbf* a\n", false, 0),
+    ];
+    for (line, is_heading, stars) in lines {
+        assert_eq!(rt; begins_heading(line), is_heading);
+        assert_eq!(rt; leading_stars(line), stars);
+    }
+}
+
+fn number_of(text: &[u8]) -> Option<u8> {
+    if is_priority(text) {
+        Some(priority_number(text))
+    } else {
+        None
+    }
+}
+
+#[test]
+fn priorities(rt: HostRuntime) {
+    let rows: [(&[u8], Option<u8>); 9] = [
+        (b"A", Some(65)),
+        (b"Z", Some(90)),
+        (b"0", Some(0)),
+        (b"64", Some(64)),
+        (b"65", None),
+        (b"07", None),
+        (b"a", None),
+        (b"AB", None),
+        (b"", None),
+    ];
+    for (text, number) in rows {
+        assert_eq!(rt; number_of(text), number);
+    }
+}
+
+// The place of a word among the keywords, whether it is a done one, and the place of the first of its sequence.
+fn standing(settings: &Settings, word: &[u8]) -> Option<(usize, bool, usize)> {
+    let place = settings.keyword_place(word)?;
+    Some((
+        place,
+        settings.is_done(place),
+        settings.first_of_sequence(place),
+    ))
+}
+
+#[test]
+fn keywords_of_texts(rt: HostRuntime) -> Result<(), Fail> {
+    let rows: [(&str, &[u8], Option<(usize, bool, usize)>); 20] = [
+        ("", b"TODO", Some((0, false, 0))),
+        ("", b"DONE", Some((1, true, 0))),
+        ("", b"todo", None),
+        ("#+TODO: A B | C D\n", b"B", Some((1, false, 0))),
+        ("#+TODO: A B | C D\n", b"C", Some((2, true, 0))),
+        ("#+TODO: A B | C D\n", b"TODO", None),
+        ("#+SEQ_TODO: A B\n", b"A", Some((0, false, 0))),
+        ("#+SEQ_TODO: A B\n", b"B", Some((1, true, 0))),
+        ("#+TYP_TODO: A | B | C\n", b"C", Some((2, true, 0))),
+        ("#+TYP_TODO: A | B | C\n", b"|", None),
+        (
+            "#+TODO: WAIT(w@/!) | DONE(d)\n",
+            b"WAIT",
+            Some((0, false, 0)),
+        ),
+        ("#+TODO: A | B\n#+TODO: B C | D\n", b"B", Some((1, true, 0))),
+        ("#+TODO: A | B\n#+TODO: B C | D\n", b"D", Some((3, true, 2))),
+        ("#+TODO: A B A\n", b"B", Some((1, false, 0))),
+        ("#+TODO: A B A\n", b"A", Some((0, false, 0))),
+        ("#+TODO: | (x)\n", b"DONE", Some((1, true, 0))),
+        ("* h\n#+todo: A\n", b"A", Some((0, true, 0))),
+        ("#+TODO: A |\n", b"A", Some((0, false, 0))),
+        ("#+BEGIN_X\n#+TODO: A B\n#+END_X\n", b"A", None),
+        ("#+BEGIN_X\n#+TODO: A B\n", b"A", Some((0, false, 0))),
+    ];
+    for (text, word, want) in rows {
+        let text = Whole::of(rt.alloc(), text)?;
+        let mut meter = Meter::new();
+        let settings = read_settings(rt.alloc(), &mut meter, &text)?;
+        assert_eq!(rt; standing(&settings, word), want);
+    }
+    Ok(())
+}
+
+// Texts with a comma behind each.
+fn joined(alloc: Global, texts: &Texts) -> Result<Vec<u8>, Fail> {
+    let mut out = Vec::new(alloc);
+    for place in 0..texts.count() {
+        out.extend_from_slice(texts.get(place))?;
+        out.push(b',')?;
+    }
+    Ok(out)
+}
+
+#[test]
+fn other_settings(rt: HostRuntime) -> Result<(), Fail> {
+    let rows: [(&str, &[u8], Option<&[u8]>, u8); 6] = [
+        ("", b"", None, 66),
+        (
+            "#+FILETAGS: :a::b: c\n* x\n#+filetags: d:a\n",
+            b"a,b,c,d,a,",
+            None,
+            66,
+        ),
+        (
+            "#+CATEGORY: work\n#+CATEGORY: home\n",
+            b"",
+            Some(b"work"),
+            66,
+        ),
+        ("#+CATEGORY:\n#+CATEGORY: home\n", b"", Some(b""), 66),
+        (
+            "#+PRIORITIES: A C\n#+PRIORITIES: 1 65 2\n#+PRIORITIES: 1 64 12\n#+PRIORITIES: A Z F\n",
+            b"",
+            None,
+            12,
+        ),
+        ("#+PRIORITIES: A Z F\n", b"", None, 70),
+    ];
+    for (text, tags, category, priority) in rows {
+        let text = Whole::of(rt.alloc(), text)?;
+        let mut meter = Meter::new();
+        let settings = read_settings(rt.alloc(), &mut meter, &text)?;
+        let found = joined(rt.alloc(), settings.file_tags())?;
+        assert_eq!(rt; found.as_slice(), tags);
+        assert!(rt; settings.category() == category);
+        assert_eq!(rt; settings.default_priority(), priority);
+    }
+    Ok(())
+}
+
+#[test]
+fn properties_of_texts(rt: HostRuntime) -> Result<(), Fail> {
+    let rows: [(&str, &[u8], Option<&[u8]>); 9] = [
+        ("#+PROPERTY: Owner ann\n", b"owner", Some(b"ann")),
+        ("#+PROPERTY: Owner ann\n", b"Own", None),
+        (
+            "#+PROPERTY: Owner+ cy\n#+property: OWNER bob\n#+PROPERTY: owner ann\n",
+            b"Owner",
+            Some(b"bob cy"),
+        ),
+        (
+            "#+PROPERTY: Owner+ cy\n* x\n#+PROPERTY: Owner+  d  e \n",
+            b"Owner",
+            Some(b"cy d  e"),
+        ),
+        ("#+PROPERTY: Owner\n", b"Owner", Some(b"")),
+        ("#+PROPERTY: Owner++ cy\n", b"Owner", None),
+        ("#+PROPERTY: Owner++ cy\n", b"Owner+", None),
+        ("#+PROPERTY: + cy\n", b"", None),
+        ("#+PROPERTY:\n", b"", None),
+    ];
+    for (text, name, want) in rows {
+        let text = Whole::of(rt.alloc(), text)?;
+        let mut meter = Meter::new();
+        let settings = read_settings(rt.alloc(), &mut meter, &text)?;
+        assert!(rt; settings.property(name) == want);
+    }
+    Ok(())
+}
+
+#[test]
+fn settings_of_lines(rt: HostRuntime) -> Result<(), Fail> {
+    let mut lines = Texts::new(rt.alloc());
+    lines.push(b"#+TODO: A | B")?;
+    let settings = Settings::of_lines(rt.alloc(), &lines)?;
+    assert_eq!(rt; standing(&settings, b"B"), Some((1, true, 0)));
+    Ok(())
+}
+
+#[test]
+fn each_section_is_counted(rt: HostRuntime) -> Result<(), Fail> {
+    let text = Whole::of(rt.alloc(), "x\n* a\n** b\n")?;
+    let mut meter = Meter::new();
+    let _settings = read_settings(rt.alloc(), &mut meter, &text)?;
+    assert_eq!(rt; meter.classified(), 3);
+    Ok(())
+}

@@ -1,0 +1,9 @@
+pub mod AscendLemmas
+pub mod FirstLemmas
+pub mod MinuteLemmas
+pub mod MonthLemmas
+pub mod MovedLemmas
+pub mod OrderLemmas
+pub mod RepeatLemmas
+pub mod ShiftedLemmas
+pub mod WindowLemmas

@@ -1,0 +1,76 @@
+-- The pairs of a planning line, and the stamp of a clock line (Org Syntax, Planning and Clocks; that pairs are read up to
+-- what is no pair, and that letter case counts: profile).
+use Rattle.std.specs.Prelude.{ℕ, zero, suc, ◌+◌, ◌-◌, Bool, true, false, not, if◌then◌else◌, List, [], ◌∷◌, drop, Option, Some, None, codes, nat_eq}
+use Rattle.std.specs.List.{prefix_len, starts_with}
+use Rattle.std.specs.Option.{option_and_then, option_map}
+use Rattle.org_stamp.specs.declared.pair.Pair.{Pair}
+use Rattle.org_stamp.specs.declared.pair.PlanningWord.{PlanningWord}
+use Rattle.org_stamp.specs.declared.pair.PlanningWord.TheVariants.{Scheduled, Deadline, Closed}
+use Rattle.org_stamp.specs.declared.stamp.Stamp.{Stamp}
+use Rattle.org_stamp.specs.Read.{single_of, stamp_of}
+use Rattle.org_base.specs.Words.{is_space}
+
+-- the keyword at the front, and its length with its colon
+abbrev pub word_at : List ℕ → Option (PlanningWord × ℕ)
+word_at bs =
+    if starts_with nat_eq bs (codes "SCHEDULED:") then Some (Scheduled, 10)
+    else (if starts_with nat_eq bs (codes "DEADLINE:") then Some (Deadline, 9)
+    else (if starts_with nat_eq bs (codes "CLOSED:") then Some (Closed, 7) else None))
+
+-- what is left behind the white space at the front
+abbrev pub past_spaces : List ℕ → List ℕ
+past_spaces bs = drop (prefix_len is_space bs) bs
+
+-- the pair of a keyword whose stamp begins at the place: the first stamp alone, and the end of the longest
+abbrev pub pair_of : PlanningWord → ℕ → List ℕ → Option Pair
+pair_of word at bs =
+    option_and_then (λ all. option_map (λ first. record { word = word; stamp = first.0; at = at; len = first.1; end = at + all.1 }) (single_of bs)) (stamp_of bs)
+
+-- the pair at the front of what stands at the place of a line: a keyword, white space or none, a stamp
+abbrev pub pair_at : ℕ → List ℕ → Option Pair
+pair_at at bs =
+    option_and_then (λ k. let rest = drop k.1 bs in pair_of k.0 (at + (k.1 + prefix_len is_space rest)) (past_spaces rest)) (word_at bs)
+
+-- the pair, and those behind it
+abbrev pub pair_and : ℕ → (ℕ → List Pair) → Option Pair → List Pair
+pair_and at later None = []
+pair_and at later (Some p) = p ∷ later (p.end - (at + 1))
+
+-- the pairs of what stands at the place of a line, behind so many bytes of the last one, with white space or none
+-- between, until something is no pair
+unfoldable pub pairs_from : List ℕ → ℕ → ℕ → List Pair
+pairs_from [] at zero = []
+pairs_from [] at (suc inside) = []
+pairs_from (b ∷ bs) at zero =
+    if is_space b then pairs_from bs (at + 1) 0 else pair_and at (pairs_from bs (at + 1)) (pair_at at (b ∷ bs))
+pairs_from (b ∷ bs) at (suc inside) = pairs_from bs (at + 1) inside
+
+-- the pairs of a line
+abbrev pub pairs : List ℕ → List Pair
+pairs line = pairs_from line 0 0
+
+abbrev pub is_empty : List Pair → Bool
+is_empty [] = true
+is_empty (p ∷ ps) = false
+
+-- the line is a planning line where it stands directly under a heading
+abbrev pub is_planning : List ℕ → Bool
+is_planning line = not (is_empty (pairs line))
+
+abbrev pub if_inactive : Stamp → Option Stamp
+if_inactive s = if s.active then None else Some s
+
+-- the stamp of a clock line, which for a closed clock is a range
+abbrev pub clock_stamp : List ℕ → Option Stamp
+clock_stamp line =
+    let text = past_spaces line in
+    if starts_with nat_eq text (codes "CLOCK:")
+    then option_and_then (λ found. if_inactive found.0) (stamp_of (past_spaces (drop 6 text)))
+    else None
+
+abbrev pub is_some_stamp : Option Stamp → Bool
+is_some_stamp None = false
+is_some_stamp (Some s) = true
+
+abbrev pub is_clock : List ℕ → Bool
+is_clock line = is_some_stamp (clock_stamp line)

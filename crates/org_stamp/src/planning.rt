@@ -1,0 +1,107 @@
+//! Planning lines and clock lines.
+ghost use Rattle.std.specs.Prelude.{◌≡◌, ◌+◌, ◌<◌, ◌≤◌, ◌^◌, [], ◌∷◌, length, drop, MatchOption, IfSome};
+ghost use Rattle.std.specs.List.{prefix_len};
+ghost use Rattle.org_base.specs.Words.{is_space};
+ghost use Rattle.org_stamp.specs.Pair as spec;
+
+use crate::pair::{Pair, PlanningWord};
+use crate::read::{single_of, stamp_of};
+use crate::stamp::Stamp;
+use crate::word::leading_spaces;
+
+/// The keyword at the front, and its length with its colon.
+fn word_at(bytes: &[u8]) -> Option<(PlanningWord, usize)>
+    ensures value { result ≡ spec.word_at bytes.now }
+    ensures bound { IfSome result (λ found. (0 < found.1) × (found.1 ≤ length bytes.now)) }
+{
+    if bytes.starts_with(b"SCHEDULED:") {
+        Some((PlanningWord::Scheduled, 10))
+    } else if bytes.starts_with(b"DEADLINE:") {
+        Some((PlanningWord::Deadline, 9))
+    } else if bytes.starts_with(b"CLOSED:") {
+        Some((PlanningWord::Closed, 7))
+    } else {
+        None
+    }
+}
+
+/// How much white space stands at the front, and what follows it.
+fn past_spaces(bytes: &[u8]) -> (usize, &[u8])
+    ensures count { result.0 ≡ prefix_len is_space bytes.now }
+    ensures rest { result.1.now ≡ drop result.0 bytes.now }
+    ensures within { result.0 ≤ length bytes.now }
+{
+    let gap = leading_spaces(bytes);
+    (gap, &bytes[gap..])
+}
+
+/// The pair of a keyword whose stamp begins at the place.
+fn pair_of(word: PlanningWord, at: usize, bytes: &[u8]) -> Option<Pair>
+    requires { at + length bytes.now < 2 ^ 63 }
+    ensures value { result ≡ spec.pair_of word at bytes.now }
+    ensures bound { IfSome result (λ p. (at ≤ p.end) × (p.end ≤ at + length bytes.now) × (p.at + p.len ≤ at + length bytes.now)) }
+{
+    let (_, all) = stamp_of(bytes)?;
+    let (stamp, len) = single_of(bytes)?;
+    Some(Pair {
+        word,
+        stamp,
+        at,
+        len,
+        end: at + all,
+    })
+}
+
+/// The pair whose keyword stands at the place.
+fn pair_at(line: &[u8], at: usize) -> Option<Pair>
+    requires { at ≤ length line.now }
+    ensures value { result ≡ spec.pair_at at (drop at line.now) }
+    ensures bound { IfSome result (λ p. (at < p.end) × (p.end ≤ length line.now) × (p.at + p.len ≤ length line.now)) }
+{
+    let bytes = &line[at..];
+    let (word, len) = word_at(bytes)?;
+    let (gap, rest) = past_spaces(&bytes[len..]);
+    pair_of(word, at + (len + gap), rest)
+}
+
+/// The first pair of a planning line from the place on, with white space or none before it: a keyword, white space or
+/// none, a stamp (Org Syntax, Planning). None where something else stands there; letter case counts.
+pub fn next_pair(line: &[u8], at: usize) -> Option<Pair>
+    requires { at ≤ length line.now }
+
+    // It is the first of the pairs from there on, and those behind it are the pairs from its end on.
+    ensures value { MatchOption result (spec.pairs_from (drop at line.now) at 0 ≡ [])
+        (λ p. spec.pairs_from (drop at line.now) at 0 ≡ p ∷ spec.pairs_from (drop p.end line.now) p.end 0) }
+    ensures bound { IfSome result (λ p. (at < p.end) × (p.end ≤ length line.now) × (p.at + p.len ≤ length line.now)) }
+{
+    let gap = leading_spaces(&line[at..]);
+    pair_at(line, at + gap)
+}
+
+/// The stamp of a clock line: `CLOCK:` and an inactive stamp, which for a closed clock is a range (Org Syntax, Clocks).
+/// None where the line is no clock line.
+pub fn clock_stamp(line: &[u8]) -> Option<Stamp>
+    ensures value { result ≡ spec.clock_stamp line.now }
+{
+    let (_, text) = past_spaces(line);
+    if !text.starts_with(b"CLOCK:") {
+        return None;
+    }
+    let (_, rest) = past_spaces(&text[6..]);
+    let (stamp, _) = stamp_of(rest)?;
+    if stamp.active { None } else { Some(stamp) }
+}
+
+/// Whether the line is a planning line where it stands directly under a heading: it begins with at least one pair.
+pub fn is_planning(line: &[u8]) -> bool
+    ensures value { result ≡ spec.is_planning line.now }
+{
+    next_pair(line, 0).is_some()
+}
+
+/// Whether the line is a clock line.
+pub fn is_clock(line: &[u8]) -> bool
+    ensures value { result ≡ spec.is_clock line.now }
+{
+    clock_stamp(line).is_some()
+}
