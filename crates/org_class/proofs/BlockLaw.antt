@@ -1,6 +1,6 @@
 -- The classes of a section's body are those of its blocks.
-use Rattle.std.proofs.Common.{Bool, true, false, not, ◌≡◌, ◌≢◌, inl, inr, ℕ, zero, suc, ◌+◌, ◌≤◌, ◌==◌, ◌&&◌, List, [], ◌∷◌, ◌++◌, length, replicate, refl, sym, ap, ◌∙◌, subst, arith, Some, None}
-use Rattle.std.proofs.lemmas.Bool.{cases_Bool, eqb-true, eqb-false, ne_eqb, or_from, or_parts}
+use Rattle.std.proofs.Common.{true, false, ◌≡◌, ◌≢◌, inl, inr, ℕ, zero, suc, ◌+◌, ◌≤◌, ◌==◌, List, [], ◌∷◌, ◌++◌, length, replicate, refl, sym, ap, ◌∙◌, subst, arith, Some, None}
+use Rattle.std.proofs.lemmas.Bool.{cases_Bool, eqb-true, ne_eqb, or_from, or_parts}
 use Rattle.std.proofs.lemmas.List.{length-append, nil_from_length}
 use Rattle.std.specs.List.{list_any}
 use Rattle.org_class.specs.Blocks.{block_name, ends_block, opens_block, body_classes, OpensNone, AreBlocks, none, alone, block}

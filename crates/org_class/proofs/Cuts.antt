@@ -6,7 +6,7 @@ use Rattle.std.proofs.lemmas.Grind.{flat_map-append}
 use Rattle.std.specs.List.{concat, flat_map}
 use Rattle.org_class.specs.Heading.{begins_heading}
 use Rattle.org_class.specs.Classes.{section_classes, section_settings}
-use Rattle.org_class.specs.Sections.{put_before, cut_where, ends_line, sections, is_cut}
+use Rattle.org_class.specs.Sections.{put_before, cut_where, ends_line, sections}
 use Rattle.org_class.specs.Laws.{CutsIntoSections, ClassesAreOfSections, SettingLinesAreOfSections}
 use Rattle.org_class.proofs.HeadingLemmas.{heading_front}
 

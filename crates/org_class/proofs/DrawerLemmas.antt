@@ -1,9 +1,9 @@
 -- Drawers at their place.
-use Rattle.std.proofs.Common.{◌≡◌, inl, inr, ℕ, Bool, true, false, ◌&&◌, ◌||◌, List, [], ◌∷◌, ◌++◌, length, replicate, refl, sym, ap, ◌∙◌, None}
+use Rattle.std.proofs.Common.{◌≡◌, inl, inr, ℕ, true, false, ◌&&◌, List, [], ◌∷◌, ◌++◌, length, replicate, refl, ap, ◌∙◌, None}
 use Rattle.std.proofs.lemmas.Bool.{cases_Bool, and_parts, and_from, or_parts, or_from}
 use Rattle.std.specs.List.{list_all, list_any}
 use Rattle.org_class.specs.Blocks.{body_classes}
-use Rattle.org_class.specs.Drawers.{is_node, is_drawer_open, is_drawer_end, closes_drawer, drawer_classes, classes_below, HasDrawer}
+use Rattle.org_class.specs.Drawers.{is_node, is_drawer_open, is_drawer_end, closes_drawer, drawer_classes, classes_below}
 use Rattle.org_class.specs.Laws.{DrawersAreFound, OthersAreBodies}
 use Rattle.org_class.specs.declared.class.Class.TheVariants.{DrawerOpen, Node, DrawerEnd}
 

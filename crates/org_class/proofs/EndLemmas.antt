@@ -1,5 +1,5 @@
 -- A table of names, and the last end line of each.
-use Rattle.std.proofs.Common.{◌≡◌, inl, inr, ℕ, suc, ◌+◌, ◌-◌, ◌<◌, ◌≤◌, Bool, true, false, cond, ◌==◌, ◌||◌, zero, List, [], ◌∷◌, map, length, drop, get_or, refl, sym, ap, ◌∙◌, arith, true≢false}
+use Rattle.std.proofs.Common.{◌≡◌, inl, inr, ℕ, suc, ◌+◌, Bool, true, false, cond, ◌==◌, ◌||◌, zero, List, [], ◌∷◌, map, drop, refl, sym, ap, ◌∙◌, arith}
 use Rattle.std.specs.Prelude.{bytes_eq, nat_eq, nat_lt, Vec, Some}
 use Rattle.std.specs.List.{list_any}
 use Rattle.std.specs.Global.{Global}

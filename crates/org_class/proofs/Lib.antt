@@ -13,3 +13,4 @@ pub mod SequenceLemmas
 pub mod SettingLemmas
 pub mod SpanLemmas
 pub mod StepLemmas
+pub mod HashLemmas

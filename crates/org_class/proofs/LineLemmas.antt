@@ -1,8 +1,8 @@
 -- The lines behind a line.
-use Rattle.std.proofs.Common.{◌≡◌, ℕ, zero, suc, ◌+◌, ◌-◌, ◌<◌, ◌≤◌, inl, inr, ◌==◌, List, [], ◌∷◌, ◌++◌, map, length, take, drop, refl, sym, ap, ◌∙◌, subst, arith, length-drop}
+use Rattle.std.proofs.Common.{◌≡◌, ℕ, ◌+◌, ◌-◌, ◌<◌, ◌≤◌, inl, inr, ◌==◌, List, [], ◌∷◌, length, take, drop, refl, sym, ap, ◌∙◌, arith}
 use Rattle.std.proofs.lemmas.Bool.{cases_Bool}
-use Rattle.std.proofs.lemmas.List.{drop-drop, drop-take, length-take}
-use Rattle.std.specs.List.{onto_first, slice_range, concat}
+use Rattle.std.proofs.lemmas.List.{drop-drop, drop-take}
+use Rattle.std.specs.List.{onto_first}
 use Rattle.org_base.specs.declared.span.Span.{Span}
 use Rattle.org_lines.specs.Cuts.{lines}
 use Rattle.org_lines.proofs.LineLemmas.{range_is, length_range}

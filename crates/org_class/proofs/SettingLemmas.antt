@@ -1,21 +1,21 @@
 -- One setting line more.
-use Rattle.std.proofs.Common.{◌≡◌, ℕ, zero, suc, ◌+◌, ◌<◌, ◌≤◌, Bool, true, false, ◌==◌, cond, List, [], ◌∷◌, ◌++◌, map, length, drop, get_or, refl, sym, ap, ◌∙◌, inl, inr, arith, append_assoc, append-nil, Some, None, add-one}
-use Rattle.std.specs.Prelude.{Option, slice_get, Result, Ok, Err, OnErr}
-use Rattle.std.specs.Option.{option_or, unwrap_or}
-use Rattle.std.specs.List.{flat_map}
+use Rattle.std.proofs.Common.{◌≡◌, ℕ, zero, suc, ◌+◌, ◌<◌, ◌≤◌, true, false, cond, List, [], ◌∷◌, ◌++◌, length, drop, refl, sym, ap, ◌∙◌, inl, inr, arith, true≢false, append_assoc, append-nil, Some, None}
+use Rattle.std.specs.Prelude.{◌||◌, Option, slice_get, Result, Ok, Err, OnErr}
+use Rattle.std.specs.Option.{option_or}
+use Rattle.std.specs.List.{flat_map, list_any}
 use Rattle.std.proofs.lemmas.Bool.{cases_Bool}
-use Rattle.std.proofs.lemmas.List.{drop_more, drop_all}
+use Rattle.std.proofs.lemmas.List.{drop_more}
 use Rattle.std.proofs.lemmas.Option.{get_or_from_slice_get}
 use Rattle.org_base.specs.Counts.{Counts, ticked}
 use Rattle.org_base.specs.Properties.{Given, Property, with_given, with_all}
 use Rattle.org_base.specs.declared.meter.Tick.TheVariants.{Classify}
 use Rattle.org_lines.specs.Cuts.{Cut}
 use Rattle.org_class.specs.Classes.{is_setting_class, setting_of, lines_of_setting}
-use Rattle.org_class.specs.Keywords.{Keyword, add_line, add_lines, keywords, standard_keywords}
+use Rattle.org_class.specs.Keywords.{add_lines}
 use Rattle.org_class.specs.Laws.{NoLinesAreStandard}
 use Rattle.org_class.specs.Said.{SaidSoFar, nothing_said, with_line, with_lines, settled}
 use Rattle.org_class.specs.SettingLines.{tags_in, category_in, property_in, default_in}
-use Rattle.org_class.specs.Settings.{FileSettings, first_said, settings_of}
+use Rattle.org_class.specs.Settings.{first_said, settings_of}
 use Rattle.org_class.specs.Ticks.{classified}
 use Rattle.org_class.specs.declared.class.Class.{Class}
 use Rattle.org_class.proofs.StepLemmas.{bytes_of}
@@ -96,3 +96,11 @@ one_counted r sections i old before after less tick so_far = on_err r _ (suc i, 
 
 pub none_said : NoLinesAreStandard
 none_said = refl
+
+-- where no class is that of a setting line, there are none
+pub no_settings : (ls : List (List ℕ)) (cs : List Class) → list_any is_setting_class cs ≡ false → lines_of_setting ls cs ≡ []
+no_settings [] cs e = refl
+no_settings (l ∷ ls) [] e = refl
+no_settings (l ∷ ls) (c ∷ cs) e =
+    elim (is_setting_class c) as (λ b. (b || list_any is_setting_class cs) ≡ false → cond b (l ∷ lines_of_setting ls cs) (lines_of_setting ls cs) ≡ [])
+    [ true ↦ λ f. absurd (true≢false f) | false ↦ λ f. no_settings ls cs f ] e

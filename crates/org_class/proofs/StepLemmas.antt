@@ -1,5 +1,5 @@
 -- One line more of an iterator over lines.
-use Rattle.std.proofs.Common.{◌≡◌, ℕ, ◌+◌, ◌-◌, ◌<◌, ◌≤◌, cond, List, [], ◌∷◌, ◌++◌, map, length, drop, sym, ap, ◌∙◌, arith, append_assoc}
+use Rattle.std.proofs.Common.{◌≡◌, ℕ, ◌+◌, ◌-◌, ◌≤◌, cond, List, [], ◌∷◌, ◌++◌, map, length, sym, ap, ◌∙◌, append_assoc}
 use Rattle.org_base.specs.declared.span.Span.{Span}
 use Rattle.org_lines.specs.Cuts.{Cut, lines}
 use Rattle.org_class.specs.Blocks.{ends_block}

@@ -10,6 +10,10 @@ use Rattle.org_class.specs.declared.class.Class.TheVariants.{BlockOpen, Verbatim
 abbrev pub begins_with : List ℕ → List ℕ → Bool
 begins_with a b = same_word (take (length b) a) b
 
+-- `#`, with which the marks of blocks begin
+abbrev pub is_hash : ℕ → Bool
+is_hash b = b == 35
+
 -- the name of the block that the line would open: X of the first word #+BEGIN_X; empty where there is none
 abbrev pub block_name : List ℕ → List ℕ
 block_name l = let w = first_word l in if begins_with w (codes "#+BEGIN_") then drop 8 w else []

@@ -1,5 +1,5 @@
 -- Property drawers (Org Syntax, Property Drawers and Node Properties).
-use Rattle.std.specs.Prelude.{◌≡◌, ℕ, ◌-◌, Bool, false, true, ◌&&◌, ◌||◌, not, ◌==◌, nat_lt, nat_le, if◌then◌else◌, List, [], ◌∷◌, ◌++◌, length, replicate, slice_index, codes, None}
+use Rattle.std.specs.Prelude.{◌≡◌, ℕ, ◌-◌, Bool, false, true, ◌&&◌, ◌||◌, not, ◌==◌, nat_lt, nat_le, if◌then◌else◌, List, [], ◌∷◌, ◌++◌, length, slice_index, codes, None}
 use Rattle.std.specs.List.{list_all, list_any}
 use Rattle.org_base.specs.Words.{trimmed, first_word, same_word}
 use Rattle.org_class.specs.Blocks.{body_classes}

@@ -1,5 +1,5 @@
 -- Laws of sections, classes and settings.
-use Rattle.std.specs.Prelude.{◌≡◌, ◌↔◌, ◌⊎◌, ℕ, ◌<◌, true, false, List, [], ◌∷◌, ◌++◌, map, length, replicate, None, IfSome}
+use Rattle.std.specs.Prelude.{◌≡◌, ◌↔◌, ℕ, true, List, [], ◌∷◌, ◌++◌, map, length, replicate, None}
 use Rattle.std.specs.List.{concat}
 use Rattle.org_lines.specs.Cuts.{lines}
 use Rattle.org_class.specs.Blocks.{body_classes, AreBlocks}

@@ -1,6 +1,8 @@
 //! What a line of a section is.
 ghost use Rattle.std.specs.Prelude.{◌≡◌, ◌++◌, ◌∷◌, [], length, slice_get, OnOk, IsOkUnless};
+ghost use Rattle.std.specs.List.{list_any};
 ghost use Rattle.org_base.specs.Codes.{memory_fault};
+ghost use Rattle.org_class.specs.Classes.{is_setting_class};
 
 use org_base::Fault;
 use std::alloc::Global;
@@ -82,6 +84,15 @@ impl Classes {
         ensures value { result ≡ slice_get self.now place }
     {
         self.as_slice().get(place).copied()
+    }
+
+    /// Whether there is a setting line among them.
+    pub fn has_setting(&self) -> bool
+        ensures value { result ≡ list_any is_setting_class self.now }
+    {
+        self.classes
+            .iter()
+            .any(|class| matches!(*class, Class::Setting))
     }
 
     /// The classes, to go over.

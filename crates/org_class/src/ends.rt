@@ -1,15 +1,17 @@
 //! Where the last end line of each block's name stands.
-ghost use Rattle.std.specs.Prelude.{◌≡◌, ◌+◌, ◌≤◌, [], ℕ, List, if◌then◌else◌, length, IfOk, OnOk, IsOkUnless};
+ghost use Rattle.std.specs.Prelude.{◌≡◌, ◌+◌, ◌≤◌, [], ℕ, List, false, if◌then◌else◌, length, IfOk, OnOk, IsOkUnless};
+ghost use Rattle.std.specs.List.{list_any};
 ghost use Rattle.std.specs.Cow.{cow_slice_items};
 ghost use Rattle.org_base.specs.Codes.{memory_fault};
 ghost use Rattle.org_base.specs.Words.{same_word};
 ghost use Rattle.org_lines.specs.Cuts.{lines};
-ghost use Rattle.org_class.specs.Blocks.{ends_block};
+ghost use Rattle.org_class.specs.Blocks.{ends_block, is_hash};
 ghost use Rattle.org_class.specs.Ends.{place_of, AreLastEnds};
 ghost use Rattle.org_class.specs.Sections.{bytes_in};
 
 use crate::blocks::begins_with;
 use indexmap::IndexMap;
+use memchr::memchr;
 use org_base::words::trimmed;
 use org_base::{Fault, Span};
 use org_lines::{Line, Lines};
@@ -70,6 +72,18 @@ impl EndPlaces {
         ensures value { IfOk result (λ places. AreLastEnds places (lines (bytes_in (T.content text.now) part))) }
         ensures memory { IsOkUnless result memory_fault }
     {
+        if !has_hash(text, part) {
+            return Ok(EndPlaces::new(alloc));
+        }
+        EndPlaces::noted(alloc, text, part)
+    }
+
+    // The same, line by line.
+    fn noted<T: Text>(alloc: Global, text: &T, part: Span) -> Result<EndPlaces, Fault>
+        requires within { part.at + part.len ≤ length (T.content text.now) }
+        ensures value { IfOk result (λ places. AreLastEnds places (lines (bytes_in (T.content text.now) part))) }
+        ensures memory { IsOkUnless result memory_fault }
+    {
         let mut places = EndPlaces::new(alloc);
         let mut number = 0;
         for line in Lines::new(alloc, text, part) {
@@ -87,4 +101,23 @@ impl EndPlaces {
         let folded = name.to_ascii_lowercase(alloc)?;
         Ok(self.by_name.get(folded.as_slice()).copied().unwrap_or(0))
     }
+}
+
+// Whether a `#` stands in a part of the text, as it does where a block ends.
+fn has_hash<T: Text>(text: &T, part: Span) -> bool
+    requires within { part.at + part.len ≤ length (T.content text.now) }
+    ensures none { result ≡ false → list_any is_hash (bytes_in (T.content text.now) part) ≡ false }
+{
+    let _len = text.len();
+    let mut here = part.at as usize;
+    let end = here + part.len as usize;
+    while here < end {
+        let piece = text.piece_at(here);
+        let piece = &piece[..piece.len().min(end - here)];
+        match memchr(b'#', piece) {
+            Some(_) => return true,
+            None => here += piece.len(),
+        }
+    }
+    false
 }

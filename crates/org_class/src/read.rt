@@ -41,6 +41,23 @@ pub fn push_setting_lines<T: Text>(
     ensures ok { OnOk result (texts.new ≡ texts.old ++ lines_of_setting (lines (bytes_in (T.content text.now) section)) classes.now) }
     ensures memory { IsOkUnless result memory_fault }
 {
+    if !classes.has_setting() {
+        return Ok(());
+    }
+    push_lines(alloc, texts, text, section, classes)
+}
+
+fn push_lines<T: Text>(
+    alloc: Global,
+    texts: &mut Texts,
+    text: &T,
+    section: Span,
+    classes: &Classes,
+) -> Result<(), Fault>
+    requires within { section.at + section.len ≤ length (T.content text.now) }
+    ensures ok { OnOk result (texts.new ≡ texts.old ++ lines_of_setting (lines (bytes_in (T.content text.now) section)) classes.now) }
+    ensures memory { IsOkUnless result memory_fault }
+{
     let mut place = 0;
     for line in Lines::new(alloc, text, section) {
         push_setting(texts, classes.get(place), line?)?;

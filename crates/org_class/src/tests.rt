@@ -94,6 +94,33 @@ fn classes_of_texts(rt: HostRuntime) -> Result<(), Fail> {
     Ok(())
 }
 
+// A text of so many equal lines.
+fn repeated(alloc: Global, line: &str, count: usize) -> Result<Whole, Fail> {
+    let mut text = String::new(alloc);
+    for _line in 0..count {
+        text.push_str(line)?;
+    }
+    let text = Whole::of(alloc, text.as_str())?;
+    Ok(text)
+}
+
+// Sections of many lines, each of which could begin a block or a drawer that never ends.
+#[test]
+fn long_sections(rt: HostRuntime) -> Result<(), Fail> {
+    for line in ["#+BEGIN_X\n", ":PROPERTIES:\n", "\n"] {
+        let text = repeated(rt.alloc(), line, 100_000)?;
+        let whole = Span {
+            at: 0,
+            len: text.len() as u32,
+        };
+        let mut meter = Meter::new();
+        let classes = classify(rt.alloc(), &mut meter, &text, whole)?;
+        assert_eq!(rt; classes.count(), 100_000);
+        assert_eq!(rt; classes.get(99_999), Some(Class::Plain));
+    }
+    Ok(())
+}
+
 #[test]
 fn places_of_sections(rt: HostRuntime) -> Result<(), Fail> {
     let text = Whole::of(rt.alloc(), "x\n* TODO a\n* TODO b\n")?;

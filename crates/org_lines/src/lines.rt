@@ -130,6 +130,10 @@ fn first_len<T: Text>(text: &T, at: usize, end: usize) -> usize
     ensures one { (k : ℕ) → at ≤ k → k + 1 < at + result → slice_index (T.content text.now) k ≢ 10 }
     ensures ends { at + result < end → slice_index (T.content text.now) (at + result - 1) ≡ 10 }
 {
+    // An empty line needs no search.
+    if text.piece_at(at)[0] == b'\n' {
+        return 1;
+    }
     let mut here = at;
     while here < end {
         let piece = text.piece_at(here);

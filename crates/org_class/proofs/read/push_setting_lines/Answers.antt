@@ -1,13 +1,13 @@
--- The line is a setting line, or not.
-use Rattle.std.proofs.Common.{◌∙◌, ap, arith, length}
-use Rattle.org_class.proofs.SettingLemmas.{setting_more}
+-- Without a setting line nothing is put behind the texts.
+use Rattle.std.proofs.Common.{◌≡◌, ◌∙◌, ◌++◌, false, ap, sym, append-nil}
+use Rattle.std.specs.List.{list_any}
+use Rattle.org_lines.specs.Cuts.{lines}
+use Rattle.org_class.specs.Classes.{is_setting_class}
+use Rattle.org_class.specs.Sections.{bytes_in}
+use Rattle.org_class.proofs.SettingLemmas.{no_settings}
 use Rattle.org_class.proofs.read.push_setting_lines.Goals as goal
 
-pub loop-line-preserved : goal.loop-line-preserved
-loop-line-preserved g c =
-    let step = rw c.in_ok-line.was at c.in-Some.ensures.steps in
-    let count = ap length step.1 in
-    record {
-      few = omega (arith, count, c.loop-line.invariant.few);
-      all = setting_more c.args.classes.now c.loop-line.place c.loop-line.texts _ _ _ _ step.0 _ _ step.1 step.2.bytes c.get.ensures.value c.in_ok-push_setting.ensures.ok c.loop-line.invariant.all;
-    }
+pub returns-then-not-has_setting-clause-ok : goal.returns-then-not-has_setting-clause-ok
+returns-then-not-has_setting-clause-ok g c =
+    let none : list_any is_setting_class c.args.classes.now ≡ false = sym c.has_setting.ensures.value ∙ c.if-not-has_setting.true in
+    sym (ap (λ more. c.args.texts.now ++ more) (no_settings (lines (bytes_in (g.T.Text.content c.args.text.now) c.args.section)) c.args.classes.now none) ∙ append-nil c.args.texts.now)

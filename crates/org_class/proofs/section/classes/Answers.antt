@@ -1,6 +1,5 @@
 -- The line is passed, and its class is the next.
-use Rattle.std.proofs.Common.{◌≡◌, ◌∙◌, List, ℕ, ◌+◌, ◌-◌, ◌≤◌, sym, ap, arith, length}
-use Rattle.org_base.specs.declared.span.Span.{Span}
+use Rattle.std.proofs.Common.{◌∙◌, ◌+◌, sym, ap, arith, length}
 use Rattle.org_lines.specs.Cuts.{lines}
 use Rattle.org_class.specs.Sections.{bytes_in}
 use Rattle.org_class.proofs.EndLemmas.{ends_known}

@@ -1,5 +1,5 @@
 -- The lines of the whole text are those of the span.
-use Rattle.std.proofs.Common.{◌≡◌, ◌∙◌, List, ℕ, ◌+◌, ◌++◌, ap, map, length, arith}
+use Rattle.std.proofs.Common.{◌≡◌, ◌∙◌, List, ℕ, ◌++◌, ap, length, arith}
 use Rattle.std.specs.List.{concat}
 use Rattle.org_lines.specs.Cuts.{Cut, lines}
 use Rattle.org_class.proofs.SpanLemmas.{spans_left, all_spans, whole_text}

@@ -4,7 +4,7 @@ use Rattle.org_class.specs.Blocks.{ends_block}
 use Rattle.org_class.specs.Ends.{place_of, last_where}
 use Rattle.org_class.specs.Sections.{bytes_in}
 use Rattle.org_class.proofs.EndLemmas.{last_behind}
-use Rattle.org_class.proofs.ends.EndPlaces.of_lines.Given as goal
+use Rattle.org_class.proofs.ends.EndPlaces.noted.Given as goal
 
 -- the last ends so far, or those among the lines that are left, are the last of all
 abbrev pub invariant-loop-line : goal.invariant-loop-line

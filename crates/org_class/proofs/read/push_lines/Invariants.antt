@@ -2,7 +2,7 @@ use Rattle.std.proofs.Common.{◌≡◌, ◌++◌, ◌+◌, ◌≤◌, map, leng
 use Rattle.org_lines.specs.Cuts.{lines}
 use Rattle.org_class.specs.Classes.{lines_of_setting}
 use Rattle.org_class.specs.Sections.{bytes_in}
-use Rattle.org_class.proofs.read.push_setting_lines.Given as goal
+use Rattle.org_class.proofs.read.push_lines.Given as goal
 
 -- the setting lines so far, and those among the lines left, are all
 abbrev pub invariant-loop-line : goal.invariant-loop-line

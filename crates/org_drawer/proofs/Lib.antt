@@ -1,0 +1,6 @@
+pub mod ClockLemmas
+pub mod DrawerLemmas
+pub mod EffortLemmas
+pub mod NodeLemmas
+pub mod PlanningLemmas
+pub mod ReadLemmas

@@ -1,0 +1,19 @@
+-- Lines are read exactly where they are such lines.
+use Rattle.std.proofs.Common.{◌≡◌, Bool, true, false, cond, Some, None, Option, refl}
+use Rattle.std.specs.Option.{is_some, option_map}
+use Rattle.org_stamp.specs.Pair.{clock_stamp, is_some_stamp, is_planning}
+use Rattle.org_stamp.specs.declared.stamp.Stamp.{Stamp}
+use Rattle.org_drawer.specs.declared.clock.ClockLine.{ClockLine}
+use Rattle.org_drawer.specs.Laws.{LinesAreRead}
+use Rattle.org_drawer.specs.Node.{is_node}
+
+by_test : {X : Type 0} (t : Bool) (x : X) → is_some (cond t (Some x) None) ≡ t
+by_test true x = refl
+by_test false x = refl
+
+by_stamp : (f : Stamp → ClockLine) (o : Option Stamp) → is_some (option_map f o) ≡ is_some_stamp o
+by_stamp f None = refl
+by_stamp f (Some s) = refl
+
+pub lines_are_read : LinesAreRead
+lines_are_read line = (by_test (is_planning line) _, by_stamp _ (clock_stamp line), by_test (is_node line) _)

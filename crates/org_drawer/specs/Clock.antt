@@ -1,0 +1,32 @@
+-- Clocks and their minutes (Org Syntax, Clocks; that only the minutes within a period count, and that a missing time is
+-- 00:00: profile).
+use Rattle.std.specs.Prelude.{ℕ, ◌+◌, ◌-◌, min, max, Bool, ◌&&◌, nat_le, nat_lt, List, Option, Some, None}
+use Rattle.std.specs.Option.{option_map, unwrap_or}
+use Rattle.org_cal.specs.Minutes.{minute_of}
+use Rattle.org_stamp.specs.Pair.{clock_stamp}
+use Rattle.org_drawer.specs.declared.clock.ClockLine.{ClockLine}
+
+-- the minute of a day and a time of it; a missing time is 00:00
+abbrev pub minute_at : ℕ × Option ℕ → ℕ
+minute_at (day, time) = minute_of day (unwrap_or time 0)
+
+-- the clock of a clock line; none where the line is no clock line
+abbrev pub clock_of : List ℕ → Option ClockLine
+clock_of line = option_map (λ s. record { from = minute_at (s.day, s.time); to = option_map minute_at s.last }) (clock_stamp line)
+
+-- the minute lies in a clock that runs from one minute up to another
+abbrev pub runs_at : ℕ → ℕ → ℕ → Bool
+runs_at from to minute = nat_le from minute && nat_lt minute to
+
+-- how many minutes two stretches have in common, each up to its end
+abbrev pub common : ℕ → ℕ → ℕ → ℕ → ℕ
+common from to first past = min to past - max from first
+
+-- the minutes of a clock with this end in a stretch; a running clock has none
+abbrev pub minutes_to : ℕ → Option ℕ → ℕ → ℕ → ℕ
+minutes_to from None first past = 0
+minutes_to from (Some to) first past = common from to first past
+
+-- the minutes of a clock from the beginning of a first day to the end of a last one
+abbrev pub minutes_in : ClockLine → ℕ × ℕ → ℕ
+minutes_in clock (first, last) = minutes_to clock.from clock.to (minute_of first 0) (minute_of (last + 1) 0)

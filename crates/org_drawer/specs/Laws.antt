@@ -1,0 +1,41 @@
+-- Laws of what lines say.
+use Rattle.std.specs.Prelude.{◌≡◌, ◌↔◌, ℕ, ◌+◌, ◌-◌, ◌≤◌, true, List, length, drop, Some}
+use Rattle.std.specs.List.{sum_by, count_by, filter_map, range_with_len}
+use Rattle.std.specs.Option.{is_some}
+use Rattle.org_base.specs.Properties.{Given, value_in, value_of}
+use Rattle.org_base.specs.Words.{trim_start, trimmed, first_word}
+use Rattle.org_cal.specs.Minutes.{minute_of}
+use Rattle.org_cal.specs.Pieces.{AreJoined}
+use Rattle.org_stamp.specs.Pair.{is_planning, is_clock}
+use Rattle.org_drawer.specs.Clock.{clock_of, minutes_in, runs_at}
+use Rattle.org_drawer.specs.Node.{given_of, drawer_of, is_node, is_name, node_word}
+use Rattle.org_drawer.specs.Planning.{planning_of}
+use Rattle.org_drawer.specs.declared.clock.ClockLine.{ClockLine}
+
+-- a line is read exactly where it is a planning line, a clock line or a node line
+abbrev pub LinesAreRead : Type 0
+LinesAreRead = (line : List ℕ) →
+    (is_some (planning_of line) ≡ is_planning line) × (is_some (clock_of line) ≡ is_clock line) × (is_some (given_of line) ≡ is_node line)
+
+-- a line gives a name and a value exactly where its first word is that of such a name, and the rest, trimmed, is the value
+abbrev pub NodesAreSpelled : Type 0
+NodesAreSpelled = (line : List ℕ) (g : Given) → (given_of line ≡ Some g) ↔
+    ((first_word line ≡ node_word g.name g.appends) × (is_name g.name ≡ true) × (g.value ≡ trimmed (drop (length (first_word line)) (trim_start line))))
+
+-- what a name has in a drawer is the value that the node lines give to it
+abbrev pub DrawersHaveValues : Type 0
+DrawersHaveValues = (lines : List (List ℕ)) (name : List ℕ) → value_in (drawer_of lines) name ≡ value_of name (filter_map given_of lines)
+
+-- the minutes of a closed clock in days are as many as there are minutes of the days in which it runs
+abbrev pub MinutesAreCounted : Type 0
+MinutesAreCounted = (from to first last : ℕ) → minutes_in (record { from = from; to = Some to }) (first, last)
+    ≡ count_by (runs_at from to) (range_with_len (minute_of first 0) (minute_of (last + 1) 0 - minute_of first 0))
+
+-- what a clock has in pieces that join to a period is in sum what it has in the whole
+abbrev pub PiecesMakeTheWhole : Type 0
+PiecesMakeTheWhole = (clock : ClockLine) (first last : ℕ) (pieces : List (ℕ × ℕ)) → 1 ≤ first → AreJoined first pieces last →
+    sum_by (minutes_in clock) pieces ≡ minutes_in clock (first, last)
+
+-- a clock that ends before it starts has no minutes in any period
+abbrev pub ReversedClocksHaveNone : Type 0
+ReversedClocksHaveNone = (from to first last : ℕ) → to ≤ from → minutes_in (record { from = from; to = Some to }) (first, last) ≡ 0

@@ -1,0 +1,5 @@
+pub mod Clock
+pub mod Effort
+pub mod Laws
+pub mod Node
+pub mod Planning

@@ -1,0 +1,57 @@
+//! Clock lines.
+ghost use Rattle.std.specs.Prelude.{◌≡◌, ◌<◌, ◌≤◌};
+ghost use Rattle.std.specs.Option.{option_map};
+ghost use Rattle.org_drawer.specs.Clock as spec;
+
+use org_cal::{Day, Minute, Period, TimeOfDay};
+use org_stamp::clock_stamp;
+
+/// A clock (Org Syntax, "Clocks"): it runs from one minute to another, or still runs. The end may lie before the start.
+#[derive(Clone, Copy, Debug, PartialEq, Eq)]
+pub struct ClockLine {
+    pub from: Minute,
+    /// None of a running clock.
+    pub to: Option<Minute>,
+}
+
+/// The clock of a clock line, in which a missing time is 00:00; None exactly where the line is no clock line.
+pub fn read_clock(line: &[u8]) -> Option<ClockLine>
+    ensures value { result ≡ spec.clock_of line.now }
+{
+    let stamp = clock_stamp(line)?;
+    Some(ClockLine {
+        from: minute_at(stamp.day, stamp.time),
+        to: stamp.last.map(|(day, time)| minute_at(day, time)),
+    })
+}
+
+/// The minute of a day and a time of it, which is 00:00 where it is missing.
+fn minute_at(day: Day, time: Option<TimeOfDay>) -> Minute
+    ensures value { result ≡ spec.minute_at (day, time) }
+{
+    Minute::at(day, time.unwrap_or(TimeOfDay::of_minutes(0)))
+}
+
+impl ClockLine {
+    /// The minutes that the clock and the period have in common, the period being from its first day 00:00 to the end of
+    /// its last day. A clock that runs, or ends before it starts, has none. They are fewer than those of all years.
+    pub fn minutes_in(&self, period: Period) -> u64
+        ensures value { result ≡ spec.minutes_in self.now (period.first, period.last) }
+        ensures below { result < 5_258_964_960 }
+    {
+        let first = (period.first.number() as u64 - 1) * 1440;
+        let past = period.last.number() as u64 * 1440;
+        match self.to {
+            Some(to) => common(self.from.number(), to.number(), first, past),
+            None => 0,
+        }
+    }
+}
+
+/// How many minutes two stretches have in common, each up to its end.
+fn common(from: u64, to: u64, first: u64, past: u64) -> u64
+    ensures value { result ≡ spec.common from to first past }
+    ensures most { result ≤ to }
+{
+    to.min(past).saturating_sub(from.max(first))
+}

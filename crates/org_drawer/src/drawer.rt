@@ -1,0 +1,39 @@
+//! Property drawers.
+ghost use Rattle.std.specs.Prelude.{◌≡◌, IfOk, OnOk, IsOkUnless};
+ghost use Rattle.std.specs.Option.{option_to_list};
+ghost use Rattle.org_base.specs.Codes.{memory_fault};
+ghost use Rattle.org_base.specs.Properties.{with_all};
+ghost use Rattle.org_drawer.specs.Node as spec;
+
+use crate::node::node_of;
+use org_base::{Fault, Texts};
+use std::alloc::Global;
+
+/// The properties of a drawer, each name with its value. `get` takes no memory.
+pub use org_base::Properties as Drawer;
+
+/// The properties that node lines give (Org Syntax, "Property Drawers"): a line's first word is `:NAME:` or `:NAME+:`,
+/// NAME not empty and not ending in `+`, and its value is the rest without white space at the ends. A line that is none
+/// gives nothing. `:PROPERTIES:` and `:END:` are such words too, so a drawer's first and last line are to be left out.
+/// Want of memory is its only refusal.
+pub fn read_drawer(alloc: Global, lines: &Texts) -> Result<Drawer, Fault>
+    ensures value { IfOk result (λ drawer. drawer ≡ spec.drawer_of lines.now) }
+    ensures memory { IsOkUnless result memory_fault }
+{
+    let mut drawer = Drawer::new(alloc);
+    for place in 0..lines.count() {
+        add_line(&mut drawer, lines.get(place))?;
+    }
+    Ok(drawer)
+}
+
+/// Adds what a line gives.
+fn add_line(drawer: &mut Drawer, line: &[u8]) -> Result<(), Fault>
+    ensures ok { OnOk result (drawer.new ≡ with_all drawer.old (option_to_list (spec.given_of line.now))) }
+    ensures memory { IsOkUnless result memory_fault }
+{
+    match node_of(line) {
+        Some(node) => drawer.add(node.name, node.appends, node.value),
+        None => Ok(()),
+    }
+}

@@ -1,0 +1,41 @@
+//! Laws of the definitions. Each is a function without parameters whose contract is the law.
+ghost use Rattle.org_drawer.specs.Laws.{DrawersHaveValues, LinesAreRead, MinutesAreCounted, NodesAreSpelled, PiecesMakeTheWhole, ReversedClocksHaveNone};
+
+use org_base::values_are_of_their_names;
+
+/// A line is read exactly where it is a planning line, a clock line or a node line.
+#[tactic(auto, using(crate::proofs::ReadLemmas::lines_are_read))]
+pub fn lines_are_read()
+    ensures { LinesAreRead }
+{}
+
+/// A line gives a name and a value exactly where its first word is `:NAME:`, or `:NAME+:` for an appended value, NAME not
+/// empty and not ending in `+`, and the value is the trimmed rest.
+pub fn nodes_are_spelled()
+    ensures { NodesAreSpelled }
+{}
+
+/// What a name has in a drawer is the value that the node lines give to it: the first plain one, then the appended ones,
+/// one space between.
+pub fn drawers_have_values()
+    ensures { DrawersHaveValues }
+{
+    values_are_of_their_names();
+}
+
+/// The minutes of a closed clock in days are as many as there are minutes of the days in which it runs.
+#[tactic(auto, using(crate::proofs::ClockLemmas::minutes_are_counted))]
+pub fn minutes_are_counted()
+    ensures { MinutesAreCounted }
+{}
+
+/// What a clock has in the pieces of a period, as its days or weeks, is in sum what it has in the whole.
+#[tactic(auto, using(crate::proofs::ClockLemmas::pieces_make_the_whole))]
+pub fn pieces_make_the_whole()
+    ensures { PiecesMakeTheWhole }
+{}
+
+/// A clock that ends before it starts has no minutes in any period.
+pub fn reversed_clocks_have_none()
+    ensures { ReversedClocksHaveNone }
+{}

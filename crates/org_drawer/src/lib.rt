@@ -1,0 +1,19 @@
+//! What the lines under a heading say: its planning line, its property drawer, its clock lines and its effort.
+//!
+//! What is read of a line is what one definition says of it, and nothing exactly where it is no such line. No call but
+//! `read_drawer` takes memory.
+#![tactic(auto)]
+
+mod clock;
+mod drawer;
+mod effort;
+pub mod laws;
+mod node;
+mod planning;
+#[cfg(test)]
+mod tests;
+
+pub use clock::{ClockLine, read_clock};
+pub use drawer::{Drawer, read_drawer};
+pub use effort::effort_minutes;
+pub use planning::{Planning, read_planning};

@@ -1,0 +1,73 @@
+//! The node lines of a property drawer.
+ghost use Rattle.std.specs.Prelude.{◌≡◌, ◌+◌, ◌≤◌, true, length};
+ghost use Rattle.std.specs.Option.{option_map};
+ghost use Rattle.org_drawer.specs.Node as spec;
+
+use org_base::words::{first_word, trim_start, trimmed};
+
+/// What a node line gives (Org Syntax, "Node Properties").
+#[derive(Drop)]
+pub(crate) struct Node<'a> {
+    /// The name as it is written.
+    pub name: &'a [u8],
+    /// Whether the value is appended to those that the name has.
+    pub appends: bool,
+    /// The rest of the line, without white space at its ends.
+    pub value: &'a [u8],
+}
+
+/// What the line gives; None exactly where it is no node line.
+pub(crate) fn node_of(line: &[u8]) -> Option<Node<'_>>
+    ensures value { option_map (λ n. record { name = n.name.now; appends = n.appends; value = n.value.now }) result ≡ spec.given_of line.now }
+{
+    let word = first_word(line);
+    if is_node_word(word) {
+        Some(node_from(word, trim_start(line)))
+    } else {
+        None
+    }
+}
+
+/// `:NAME:` or `:NAME+:`, where NAME isn't empty and doesn't end in `+`.
+fn is_node_word(word: &[u8]) -> bool
+    ensures value { result ≡ spec.is_node_word word.now }
+{
+    let n = word.len();
+    if n < 3 || word[0] != b':' || word[n - 1] != b':' {
+        return false;
+    }
+    let len = name_len(word);
+    len > 0 && word[len] != b'+'
+}
+
+/// Whether a plus stands before the last byte.
+fn has_plus(word: &[u8]) -> bool
+    requires { 3 ≤ length word.now }
+    ensures value { result ≡ spec.has_plus word.now }
+{
+    word[word.len() - 2] == b'+'
+}
+
+/// The length of NAME.
+fn name_len(word: &[u8]) -> usize
+    requires { 3 ≤ length word.now }
+    ensures value { result ≡ spec.name_len word.now }
+    ensures within { result + 2 ≤ length word.now }
+{
+    let behind = if has_plus(word) { 3 } else { 2 };
+    word.len() - behind
+}
+
+/// What a first word and the line from it on give.
+fn node_from<'a>(word: &'a [u8], rest: &'a [u8]) -> Node<'a>
+    requires is_node { spec.is_node_word word.now ≡ true }
+    requires within { length word.now ≤ length rest.now }
+    ensures value { record { name = result.name.now; appends = result.appends; value = result.value.now } ≡ spec.given word.now rest.now }
+{
+    let len = name_len(word);
+    Node {
+        name: &word[1..][..len],
+        appends: has_plus(word),
+        value: trimmed(&rest[word.len()..]),
+    }
+}

@@ -1,0 +1,64 @@
+//! Planning lines.
+ghost use Rattle.std.specs.Prelude.{◌≡◌, ◌+◌, ◌<◌, ◌≤◌, ◌^◌, length, IfSome};
+ghost use Rattle.org_drawer.specs.Planning as spec;
+
+use org_base::Span;
+use org_stamp::{Pair, PlanningWord, Stamp, is_planning, next_pair};
+
+/// What the planning line of a heading says (Org Syntax, "Planning"): for each keyword its last stamp, with the stamp's
+/// part of the line in bytes. A range counts as its first stamp.
+#[derive(Clone, Copy, Debug, PartialEq, Eq)]
+pub struct Planning {
+    pub scheduled: Option<(Stamp, Span)>,
+    pub deadline: Option<(Stamp, Span)>,
+    pub closed: Option<(Stamp, Span)>,
+}
+
+/// What a planning line says; None exactly where the line is none. Whether it stands directly under a heading isn't asked.
+pub fn read_planning(line: &[u8]) -> Option<Planning>
+    requires { length line.now < 2 ^ 32 }
+    ensures value { result ≡ spec.planning_of line.now }
+    ensures inside { IfSome result (λ planning. spec.AreInside line.now planning) }
+{
+    if !is_planning(line) {
+        return None;
+    }
+    let mut planning = Planning {
+        scheduled: None,
+        deadline: None,
+        closed: None,
+    };
+    let mut at = 0;
+    while let Some(pair) = next_pair(line, at) {
+        at = pair.end;
+        planning = with_pair(planning, pair);
+    }
+    Some(planning)
+}
+
+/// The same with one more pair, which counts before those of its keyword so far.
+fn with_pair(planning: Planning, pair: Pair) -> Planning
+    requires at { pair.at < 2 ^ 32 }
+    requires len { pair.len < 2 ^ 32 }
+    ensures value { result ≡ spec.with_pair planning pair }
+{
+    let part = Span {
+        at: pair.at as u32,
+        len: pair.len as u32,
+    };
+    let found = Some((pair.stamp, part));
+    match pair.word {
+        PlanningWord::Scheduled => Planning {
+            scheduled: found,
+            ..planning
+        },
+        PlanningWord::Deadline => Planning {
+            deadline: found,
+            ..planning
+        },
+        PlanningWord::Closed => Planning {
+            closed: found,
+            ..planning
+        },
+    }
+}

@@ -1,0 +1,13 @@
+pub mod Automaton
+pub mod Compare
+pub mod Decimal
+pub mod Draft
+pub mod Drafted
+pub mod Grammar
+pub mod Holds
+pub mod Laws
+pub mod Names
+pub mod Patterns
+pub mod Refusal
+pub mod Times
+pub mod Tree

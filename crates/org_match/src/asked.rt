@@ -1,0 +1,122 @@
+//! Terms before the slash, with what searches for their patterns.
+ghost use Rattle.std.specs.Prelude.{◌≡◌, IfOk, IsOkUnless, bytes_eq};
+ghost use Rattle.std.specs.List.{list_any};
+ghost use Rattle.org_base.specs.Codes.{memory_fault};
+ghost use Rattle.org_match.specs.Holds as spec;
+ghost use Rattle.org_match.specs.Patterns.{found};
+ghost use Rattle.org_match.specs.Tree.{built_item_of, sign_of};
+
+use crate::built::{BuiltItem, BuiltTerm};
+use crate::compare::compares;
+use crate::facts::Facts;
+use crate::pattern::Searcher;
+use crate::tree::{Link, Sign};
+use org_base::Fault;
+use org_cal::Moment;
+use std::alloc::Global;
+use std::marker::Model;
+
+/// A term with what stands before it, and what searches for its pattern where it has one. Contracts see the grammar's
+/// item.
+#[derive(Drop)]
+pub struct Asked<'a> {
+    item: &'a BuiltItem,
+    searcher: Option<Searcher<'a>>,
+}
+
+impl<'a> Model for Asked<'a> {
+    ghost use Rattle.std.specs.Prelude.{◌≡◌};
+    ghost use Rattle.org_match.specs.Grammar.{Item};
+    ghost use Rattle.org_match.specs.Refusal.{item_pattern};
+    ghost use Rattle.org_match.specs.Tree.{built_item_of};
+
+    ghost Value = { Item };
+
+    ghost view = { λ a. built_item_of a.item.now };
+
+    ghost invariant = { λ a. a.searcher ≡ item_pattern (built_item_of a.item.now) };
+}
+
+impl<'a> Asked<'a> {
+    /// The item, with what searches for its pattern. Want of memory is its only refusal.
+    pub fn new(alloc: Global, item: &'a BuiltItem) -> Result<Asked<'a>, Fault>
+        ensures value { IfOk result (λ asked. asked ≡ built_item_of item.now) }
+        ensures memory { IsOkUnless result memory_fault }
+    {
+        let searcher = match item.term.pattern() {
+            Some(pattern) => Some(pattern.searcher(alloc)?),
+            None => None,
+        };
+        Ok(Asked { item, searcher })
+    }
+
+    /// Whether a bar stands before the term.
+    pub fn begins_part(&self) -> bool
+        ensures value { result ≡ spec.is_or (spec.link_of self.now) }
+    {
+        self.item.link == Link::Or
+    }
+
+    /// Whether the term holds, or doesn't behind a minus. A missing property counts as an empty text. Want of memory is
+    /// its only refusal.
+    pub fn holds<F: Facts>(
+        &mut self,
+        alloc: Global,
+        facts: &F,
+        moment: Moment,
+    ) -> Result<bool, Fault>
+        ensures value { IfOk result (λ yes. yes ≡ spec.item_holds (spec.tag_term_holds (F.tags facts.now) (F.value facts.now) moment) self.old) }
+        ensures same { self.new ≡ self.old }
+        ensures memory { IsOkUnless result memory_fault }
+    {
+        let item = self.item;
+        let holds = match &item.term {
+            BuiltTerm::Tag(name) => has_tag(facts, name.as_str()),
+            BuiltTerm::Found(_) => match &mut self.searcher {
+                Some(searcher) => finds_tag(facts, searcher),
+                // A pattern has a searcher, so this is never reached.
+                None => false,
+            },
+            BuiltTerm::Compare(name, op, value) => match facts.value(alloc, name.as_str())? {
+                Some(text) => compares(moment, *op, text.as_str(), value, &mut self.searcher),
+                None => compares(moment, *op, "", value, &mut self.searcher),
+            },
+        };
+        Ok(signed(item.sign, holds))
+    }
+}
+
+/// A minus negates its term.
+pub fn signed(sign: Sign, holds: bool) -> bool
+    ensures value { result ≡ spec.signed (sign_of sign) holds }
+{
+    match sign {
+        Sign::Minus => !holds,
+        _ => holds,
+    }
+}
+
+/// Whether the name is one of the tags.
+fn has_tag<F: Facts>(facts: &F, name: &str) -> bool
+    ensures value { result ≡ list_any (bytes_eq name.now) (F.tags facts.now) }
+{
+    for place in 0..facts.tag_count() {
+        if name == facts.tag(place) {
+            return true;
+        }
+    }
+    false
+}
+
+/// Whether the pattern is found in one of the tags.
+fn finds_tag<F: Facts>(facts: &F, searcher: &mut Searcher<'_>) -> bool
+    ensures value { result ≡ list_any (found searcher.old) (F.tags facts.now) }
+    ensures same { searcher.new ≡ searcher.old }
+{
+    for place in 0..facts.tag_count() {
+        if searcher.is_found(facts.tag(place)) {
+            return true;
+        }
+    }
+    false
+}

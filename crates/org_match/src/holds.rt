@@ -1,0 +1,166 @@
+//! Whether an expression holds of a heading.
+ghost use Rattle.std.specs.Prelude.{◌≡◌, ◌&&◌, IfOk, IsOkUnless, map};
+ghost use Rattle.org_base.specs.Codes.{memory_fault};
+ghost use Rattle.org_match.specs.Holds as spec;
+ghost use Rattle.org_match.specs.Tree.{built_item_of, built_term_of};
+
+use crate::asked::{Asked, signed};
+use crate::built::{BuiltItem, BuiltTerm, Match};
+use crate::facts::Facts;
+use crate::tree::{Kind, Link};
+use org_base::Fault;
+use org_cal::Moment;
+use std::alloc::Global;
+use std::marker::Model;
+
+/// An expression with what searches for its patterns, made once to be asked of many headings.
+#[derive(Drop)]
+pub struct Testing<'a> {
+    expression: &'a Match,
+    asked: Vec<Asked<'a>>,
+}
+
+impl<'a> Model for Testing<'a> {
+    ghost use Rattle.std.specs.Prelude.{◌≡◌};
+    ghost use Rattle.org_match.specs.Grammar.{Expr};
+    ghost use Rattle.org_match.specs.Holds.{tag_items};
+
+    ghost Value = { Expr };
+
+    ghost view = { λ t. t.expression.now };
+
+    ghost invariant = { λ t. t.asked.items ≡ tag_items t.expression.now };
+}
+
+impl<'a> Testing<'a> {
+    /// The expression, with what searches for its patterns. Want of memory is its only refusal.
+    pub fn new(alloc: Global, expression: &'a Match) -> Result<Testing<'a>, Fault>
+        ensures value { IfOk result (λ testing. testing ≡ expression.now) }
+        ensures memory { IsOkUnless result memory_fault }
+    {
+        let asked = asked_of(alloc, expression.tags.as_slice())?;
+        Ok(Testing { expression, asked })
+    }
+
+    /// Whether the expression holds of a heading at a moment, as [`Match::test`]. Want of memory is its only refusal, and
+    /// leaves the expression as it was.
+    pub fn test<F: Facts>(
+        &mut self,
+        alloc: Global,
+        facts: &F,
+        moment: &Moment,
+    ) -> Result<bool, Fault>
+        ensures value { IfOk result (λ yes. yes ≡ spec.holds (F.tags facts.now) (F.value facts.now) (F.keyword facts.now) (F.finished facts.now) moment.now self.old) }
+        ensures memory { IsOkUnless result memory_fault }
+        ensures same { self.new ≡ self.old }
+    {
+        let expression = self.expression;
+        let is_open = facts.keyword().is_some() && !facts.is_finished();
+        if expression.kind == Kind::Open && !is_open {
+            return Ok(false);
+        }
+        if expression.kind != Kind::Tags && !todo_holds(facts, expression.todo.as_slice()) {
+            return Ok(false);
+        }
+        tags_hold(alloc, facts, moment, self.asked.as_mut_slice())
+    }
+}
+
+impl Match {
+    /// Whether the expression holds of a heading at a moment (Org manual 9.6, Matching tags and properties). To ask of many
+    /// headings, make a [`Testing`] of it. Want of memory is its only refusal.
+    pub fn test<F: Facts>(&self, alloc: Global, facts: &F, moment: Moment) -> Result<bool, Fault>
+        ensures value { IfOk result (λ yes. yes ≡ spec.holds (F.tags facts.now) (F.value facts.now) (F.keyword facts.now) (F.finished facts.now) moment self.now) }
+        ensures memory { IsOkUnless result memory_fault }
+    {
+        let mut testing = Testing::new(alloc, self)?;
+        testing.test(alloc, facts, &moment)
+    }
+}
+
+/// The items, each with what searches for its pattern.
+fn asked_of<'a>(alloc: Global, items: &'a [BuiltItem]) -> Result<Vec<Asked<'a>>, Fault>
+    ensures value { IfOk result (λ asked. asked.items ≡ map built_item_of items.now) }
+    ensures memory { IsOkUnless result memory_fault }
+{
+    let mut asked = Vec::new(alloc);
+    for item in items {
+        asked.push(Asked::new(alloc, item)?)?;
+    }
+    Ok(asked)
+}
+
+/// Whether all terms of some part between bars hold.
+fn tags_hold<F: Facts>(
+    alloc: Global,
+    facts: &F,
+    moment: &Moment,
+    items: &mut [Asked<'_>],
+) -> Result<bool, Fault>
+    ensures value { IfOk result (λ yes. yes ≡ spec.items_hold (spec.tag_term_holds (F.tags facts.now) (F.value facts.now) moment.now) items.old) }
+    ensures memory { IsOkUnless result memory_fault }
+    ensures same { items.new ≡ items.old }
+{
+    let mut all = true;
+    for item in items.iter_mut() {
+        if item.begins_part() {
+            if all {
+                return Ok(true);
+            }
+            all = true;
+        }
+        all = holds_too(alloc, facts, moment, all, item)?;
+    }
+    Ok(all)
+}
+
+/// Whether the terms before one hold, and it too. Where they don't, it isn't looked at.
+fn holds_too<F: Facts>(
+    alloc: Global,
+    facts: &F,
+    moment: &Moment,
+    all: bool,
+    item: &mut Asked<'_>,
+) -> Result<bool, Fault>
+    ensures value { IfOk result (λ yes. yes ≡ (all && spec.item_holds (spec.tag_term_holds (F.tags facts.now) (F.value facts.now) moment.now) item.old)) }
+    ensures memory { IsOkUnless result memory_fault }
+    ensures same { item.new ≡ item.old }
+{
+    if !all {
+        return Ok(false);
+    }
+    item.holds(alloc, facts, *moment)
+}
+
+/// Whether all keywords of some part between bars are the heading's, or aren't behind a minus.
+fn todo_holds<F: Facts>(facts: &F, items: &[BuiltItem]) -> bool
+    ensures value { result ≡ spec.items_hold (spec.todo_term_holds (F.keyword facts.now)) (map built_item_of items.now) }
+{
+    let mut all = true;
+    for item in items {
+        if item.link == Link::Or {
+            if all {
+                return true;
+            }
+            all = true;
+        }
+        if all {
+            all = signed(item.sign, todo_term_holds(facts, &item.term));
+        }
+    }
+    all
+}
+
+/// Whether a term behind the slash holds.
+fn todo_term_holds<F: Facts>(facts: &F, term: &BuiltTerm) -> bool
+    ensures value { result ≡ spec.todo_term_holds (F.keyword facts.now) (built_term_of term.now) }
+{
+    match term {
+        BuiltTerm::Tag(name) => match facts.keyword() {
+            Some(keyword) => keyword == name.as_str(),
+            None => false,
+        },
+        BuiltTerm::Found(_) => false,
+        BuiltTerm::Compare(_, _, _) => false,
+    }
+}

@@ -1,0 +1,11 @@
+//! Shapes of terms.
+
+/// What the term that is being read is.
+#[derive(Clone, Copy, PartialEq, Eq)]
+pub enum Shape {
+    AsTag,
+    AsFound,
+    AsNumber,
+    AsQuoted,
+    AsPattern,
+}
