@@ -35,11 +35,10 @@ fn standard(alloc: Global) -> Result<Settings, Fail> {
 }
 
 // A head as `stars|keyword|cookie|COMMENT|title`, with a bar before each tag.
-fn shown(alloc: Global, line: &[u8]) -> Result<Vec<u8>, Fail>
+fn shown(alloc: Global, line: &[u8], settings: &Settings) -> Result<Vec<u8>, Fail>
     requires { length line.now < 2 ^ 32 }
 {
-    let settings = standard(alloc)?;
-    let head = read_head(alloc, line, &settings)?;
+    let head = read_head(alloc, line, settings)?;
     let mut text = Vec::new(alloc);
     for _star in 0..head.level {
         text.push(b'*')?;
@@ -87,9 +86,10 @@ fn heads(rt: HostRuntime) -> Result<(), Fail> {
         (b"*   a\t b  c \t\r\n", b"*||||a\t b  c"),
         (b"* x :a:b:c:d:e:a:\r\n", b"*||||x|a|b|c|d|e|a"),
     ];
+    let settings = standard(rt.alloc())?;
     for (line, head) in rows {
         assert!(rt; line.len() < 100);
-        let text = shown(rt.alloc(), line)?;
+        let text = shown(rt.alloc(), line, &settings)?;
         assert_eq!(rt; text.as_slice(), head);
     }
     Ok(())
