@@ -192,13 +192,70 @@ fn measure(program: &str, own: &str) -> io::Result<()> {
         ("one-byte lines", "\n"),
         ("headings of one star", "* \n"),
     ] {
-        let text = line.repeat(8 * MIB / line.len());
-        write_stream(&stream, &text, 1)?;
-        compare(program, own, &stream)?;
-        let (proved, plain) = both(program, own, &stream)?;
-        row(8 * MIB, what, proved, plain);
+        measure_text(program, own, &stream, what, &line.repeat(8 * MIB / line.len()))?;
     }
+    for (what, text) in [
+        ("a section, 4 MiB", section_of(4 * MIB)),
+        ("a section, 8 MiB", section_of(8 * MIB)),
+        ("a drawer, 50,000 names", drawer_of(50_000)),
+        ("a drawer, 100,000 names", drawer_of(100_000)),
+    ] {
+        measure_text(program, own, &stream, what, &text)?;
+    }
+    measure_text(program, own, &stream, "headings of one level", &headings_of_one_level())?;
+    measure_text(program, own, &stream, "levels to 4,090 and back", &levels_up_and_down())?;
     std::fs::remove_dir_all(&folder)
+}
+
+fn measure_text(program: &str, own: &str, stream: &str, what: &str, text: &str) -> io::Result<()> {
+    write_stream(stream, text, 1)?;
+    compare(program, own, stream)?;
+    let (proved, plain) = both(program, own, stream)?;
+    row(text.len(), what, proved, plain);
+    Ok(())
+}
+
+// One section: a heading and lines of words, a clock among ten of them.
+fn section_of(bytes: usize) -> String {
+    let mut numbers = Numbers(88172645463325252);
+    let mut out = String::from("* TODO a\n");
+    while out.len() + 100 < bytes {
+        if numbers.below(10) == 0 {
+            out.push_str("CLOCK: [2024-02-27 Tue 23:30]--[2024-02-28 Wed 00:45]\n");
+        }
+        out.push_str(&format!("{}\n", numbers.words(6)));
+    }
+    out
+}
+
+// A heading with a drawer of so many names.
+fn drawer_of(names: usize) -> String {
+    let lines: Vec<String> = (0..names).map(|name| format!(":name{name}: value\n")).collect();
+    format!("* TODO a\n:PROPERTIES:\n{}:END:\n", lines.concat())
+}
+
+// 8 MiB of nearly 200,000 headings of one level.
+fn headings_of_one_level() -> String {
+    let mut numbers = Numbers(88172645463325252);
+    let mut out = String::new();
+    while out.len() + 42 <= 8 * MIB {
+        let line = format!("* TODO {}", numbers.words(6));
+        out.push_str(&format!("{line:<41.41}\n"));
+    }
+    out
+}
+
+// 8 MiB of headings of levels 1 to 4,090 and back, each level once on the way down and once on the way up.
+fn levels_up_and_down() -> String {
+    let mut out = String::new();
+    for level in (1..=4090).chain((1..4090).rev()) {
+        let line = format!("{} TODO a\n", "*".repeat(level));
+        if out.len() + line.len() > 8 * MIB {
+            break;
+        }
+        out.push_str(&line);
+    }
+    out
 }
 
 // The least time of a part of the engine over a text on standard input.
@@ -275,22 +332,45 @@ fn plain() -> io::Result<()> {
 fn todo(files: &[(String, String)]) -> String {
     let mut rows: Vec<(u32, String)> = Vec::new();
     for (name, text) in files {
-        let base = name.rsplit('/').next().unwrap_or("");
-        let category = match base.rsplit_once('.') {
-            Some((stem, _)) if !stem.is_empty() => stem,
-            _ => base,
-        };
+        let settings = settings(text);
+        let category = settings.category.unwrap_or_else(|| stem(name));
         let label = format!("{category}:");
         let column = format!("  {label:<11} ");
-        let keywords = keywords(text);
-        for line in text.lines() {
-            if let Some((priority, head)) = open_heading(line, &keywords) {
-                rows.push((priority, format!("{column}{head}\n")));
+        let mut above: Vec<Heading> = Vec::new();
+        for heading in text.lines().filter_map(|line| heading(line, &settings)) {
+            while above.last().is_some_and(|ancestor| ancestor.level >= heading.level) {
+                above.pop();
             }
+            above.push(heading);
+            rows.extend(row_of(&above, &settings, &column));
         }
     }
     rows.sort_by_key(|row| row.0);
     rows.into_iter().map(|row| row.1).collect()
+}
+
+// The row of the last of these headings, each of which is an ancestor of those behind it; none where the list leaves it out.
+fn row_of(above: &[Heading], settings: &Settings, column: &str) -> Option<(u32, String)> {
+    let heading = above.last()?;
+    if heading.keyword.is_none_or(|keyword| settings.done[keyword]) || above.iter().any(|h| h.hides) {
+        return None;
+    }
+    let mut seen = HashSet::new();
+    let named = settings.file_tags.iter().chain(above.iter().flat_map(|h| &h.tags));
+    let tags: Vec<&str> = named.copied().filter(|tag| seen.insert(*tag)).collect();
+    let shown = if tags.is_empty() { String::new() } else { format!(":{}:", tags.join(":")) };
+    let parts = [heading.keyword.unwrap_or(""), heading.cookie, heading.title, &shown];
+    let parts: Vec<&str> = parts.iter().copied().filter(|part| !part.is_empty()).collect();
+    Some((heading.priority, format!("{column}{}\n", parts.join(" "))))
+}
+
+// The last part of a file's name, without its extension.
+fn stem(name: &str) -> &str {
+    let base = name.rsplit('/').next().unwrap_or("");
+    match base.rsplit_once('.') {
+        Some((stem, _)) if !stem.is_empty() => stem,
+        _ => base,
+    }
 }
 
 // The name behind such a mark, if the text begins with it, whatever the case of its letters.
@@ -340,13 +420,16 @@ fn is_heading(line: &str) -> bool {
     behind.len() < line.len() && behind.starts_with(' ')
 }
 
-// The keywords of a file, each with whether it is done, and the priority of a heading without a cookie.
-struct Keywords<'a> {
+// What the setting lines of a file say: each keyword with whether it is done, the priority of a heading without a cookie,
+// the tags of all headings, the category.
+struct Settings<'a> {
     done: HashMap<&'a str, bool>,
     priority: u32,
+    file_tags: Vec<&'a str>,
+    category: Option<&'a str>,
 }
 
-fn keywords(text: &str) -> Keywords<'_> {
+fn settings(text: &str) -> Settings<'_> {
     let mut found = Vec::new();
     let mut section = Vec::new();
     for line in text.split_inclusive('\n') {
@@ -357,7 +440,7 @@ fn keywords(text: &str) -> Keywords<'_> {
         section.push(line);
     }
     section_settings(&section, &mut found);
-    let mut keywords = Keywords { done: HashMap::new(), priority: 0 };
+    let mut settings = Settings { done: HashMap::new(), priority: 0, file_tags: Vec::new(), category: None };
     for (key, value) in found {
         match key.to_ascii_uppercase().as_str() {
             "TODO" | "SEQ_TODO" | "TYP_TODO" => {
@@ -366,24 +449,26 @@ fn keywords(text: &str) -> Keywords<'_> {
                 for (place, word) in words.into_iter().enumerate() {
                     let word = if word.ends_with(')') { word.split('(').next().unwrap_or("") } else { word };
                     if !word.is_empty() && word != "|" {
-                        keywords.done.entry(word).or_insert(place >= bar);
+                        settings.done.entry(word).or_insert(place >= bar);
                     }
                 }
             }
-            "PRIORITIES" if keywords.priority == 0 => {
+            "PRIORITIES" if settings.priority == 0 => {
                 let words: Vec<&str> = value.split_whitespace().collect();
-                keywords.priority = words.get(2).and_then(|word| priority_of(&format!("[#{word}]"))).unwrap_or(0);
+                settings.priority = words.get(2).and_then(|word| priority_of(&format!("[#{word}]"))).unwrap_or(0);
             }
+            "FILETAGS" => settings.file_tags.extend(value.split([':', ' ', '\t', '\r']).filter(|tag| !tag.is_empty())),
+            "CATEGORY" if settings.category.is_none() => settings.category = Some(value),
             _ => {}
         }
     }
-    if keywords.done.is_empty() {
-        keywords.done = HashMap::from([("TODO", false), ("DONE", true)]);
+    if settings.done.is_empty() {
+        settings.done = HashMap::from([("TODO", false), ("DONE", true)]);
     }
-    if keywords.priority == 0 {
-        keywords.priority = 66;
+    if settings.priority == 0 {
+        settings.priority = 66;
     }
-    keywords
+    settings
 }
 
 fn first_word(text: &str) -> (&str, &str) {
@@ -408,45 +493,40 @@ fn is_tags(word: &str) -> bool {
         && word.chars().all(|c| c.is_alphanumeric() || "_@#%:".contains(c))
 }
 
-fn open_heading(line: &str, keywords: &Keywords) -> Option<(u32, String)> {
-    let stars = line.bytes().take_while(|b| *b == b'*').count();
-    let rest = line[stars..].strip_prefix(' ').filter(|_| stars > 0)?;
-    let (keyword, rest) = first_word(rest);
-    if *keywords.done.get(keyword)? {
-        return None;
+// A heading line's parts.
+struct Heading<'a> {
+    level: usize,
+    keyword: Option<&'a str>,
+    cookie: &'a str,
+    priority: u32,
+    hides: bool,
+    title: &'a str,
+    tags: Vec<&'a str>,
+}
+
+fn heading<'a>(line: &'a str, settings: &Settings) -> Option<Heading<'a>> {
+    let level = line.bytes().take_while(|b| *b == b'*').count();
+    let mut rest = line[level..].strip_prefix(' ').filter(|_| level > 0)?;
+    let (word, behind) = first_word(rest);
+    let keyword = settings.done.contains_key(word).then_some(word);
+    if keyword.is_some() {
+        rest = behind;
     }
-    let (mut parts, mut rest, mut priority) = (vec![keyword], rest, keywords.priority);
+    let (mut cookie, mut priority) = ("", settings.priority);
     let (word, behind) = first_word(rest);
     if let Some(number) = priority_of(word) {
-        parts.push(word);
-        (rest, priority) = (behind, number);
+        (cookie, priority, rest) = (word, number, behind);
     }
-    if first_word(rest).0 == "COMMENT" {
-        return None;
-    }
-    let rest = rest.trim();
+    let (word, behind) = first_word(rest);
+    let is_comment = word == "COMMENT";
+    let rest = if is_comment { behind } else { rest }.trim();
     let last = rest.rsplit([' ', '\t', '\r']).next().unwrap_or("");
     let (title, tags) = if is_tags(last) {
         (rest[..rest.len() - last.len()].trim_end(), last)
     } else {
         (rest, "")
     };
-    if !title.is_empty() {
-        parts.push(title);
-    }
-    let mut seen = HashSet::new();
-    let mut own = Vec::new();
-    for tag in tags.split(':').filter(|tag| !tag.is_empty()) {
-        if tag == "ARCHIVE" {
-            return None;
-        }
-        if seen.insert(tag) {
-            own.push(tag);
-        }
-    }
-    let shown = format!(":{}:", own.join(":"));
-    if !own.is_empty() {
-        parts.push(&shown);
-    }
-    Some((priority, parts.join(" ")))
+    let tags: Vec<&str> = tags.split(':').filter(|tag| !tag.is_empty()).collect();
+    let hides = is_comment || tags.contains(&"ARCHIVE");
+    Some(Heading { level, keyword, cookie, priority, hides, title, tags })
 }

@@ -1,7 +1,7 @@
-pub mod CategoryLemmas
 pub mod CountLemmas
+pub mod FileLemmas
 pub mod FilesLemmas
 pub mod GatherLemmas
+pub mod HeadLemmas
 pub mod StepLemmas
-pub mod TagLemmas
 pub mod TodoLemmas

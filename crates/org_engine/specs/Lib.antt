@@ -1,8 +1,7 @@
 pub mod World
 pub mod Files
-pub mod Category
-pub mod Seen
-pub mod Tags
+pub mod Counts
+pub mod FileOutline
 pub mod Layout
 pub mod TodoList
 pub mod Sections

@@ -4,13 +4,14 @@
 //! of one definition, `step`.
 #![tactic(auto)]
 
-mod category;
 mod engine;
+mod file;
 mod kept;
 mod list;
 mod question;
 mod row;
-mod tags;
+#[cfg(test)]
+mod tests;
 mod todo;
 mod world;
 

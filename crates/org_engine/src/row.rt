@@ -1,56 +1,64 @@
 //! The text of a row of a list.
-ghost use Rattle.std.specs.Prelude.{◌≡◌, ◌^◌, ◌<◌, ◌++◌, string_bytes, IfOk, IfSome, OnOk, OnErr, IsOkUnless};
+ghost use Rattle.std.specs.Prelude.{◌≡◌, ◌^◌, ◌<◌, ◌++◌, IfOk, IfSome, OnOk, IsOkUnless};
 ghost use Rattle.org_base.specs.Codes.{memory_fault};
 ghost use Rattle.org_head.specs.Head.{AreInside};
 ghost use Rattle.org_head.specs.Spans.{IsInside};
-ghost use Rattle.org_engine.specs.Layout.{padded, category_column, joined, optional_part, head_text};
+ghost use Rattle.org_engine.specs.Layout.{width_of, padded, category_column, joined, optional_part, head_text};
 
-use crate::category::category_of;
-use crate::tags::tags_text;
-use org_base::{Fault, Span};
+use org_base::{Fault, Span, Texts};
 use org_head::{Head, part};
-use std::alloc::{AllocError, Global};
+use org_inherit::tags_text;
+use std::alloc::Global;
 use unicode_width::UnicodeWidthStr;
 
-/// Two spaces, and the category of the file of this name with a colon in a column of 12.
-pub fn category_column(alloc: Global, name: &str) -> Result<String, Fault>
-    ensures value { IfOk result (λ column. string_bytes column ≡ category_column name.now) }
+/// Two spaces, and the category with a colon in a column of 12.
+pub fn category_column(alloc: Global, category: &[u8]) -> Result<Vec<u8>, Fault>
+    ensures value { IfOk result (λ column. column.items ≡ category_column category.now) }
     ensures memory { IsOkUnless result memory_fault }
 {
-    let mut label = String::from_str(alloc, category_of(name))?;
-    label.push(':')?;
-    let mut column = String::from_str(alloc, "  ")?;
-    pad(&mut column, &label, 12)?;
+    let mut label = Vec::from_slice(alloc, category)?;
+    label.push(b':')?;
+    let mut column = Vec::from_slice(alloc, b"  ")?;
+    pad(&mut column, label.as_slice(), 12)?;
     Ok(column)
 }
 
-// Appends a text and the spaces that fill its column, at least one. Where memory is refused nothing is appended.
-fn pad(out: &mut String, text: &str, column: usize) -> Result<(), AllocError>
-    requires { column < 2 ^ 32 }
-    ensures ok { OnOk result (string_bytes out.new ≡ string_bytes out.old ++ padded text.now column) }
-    ensures err { OnErr result (string_bytes out.new ≡ string_bytes out.old) }
+// How many columns a text takes. All texts of files are UTF-8; of other bytes each would take one.
+fn width(text: &[u8]) -> usize
+    ensures value { result ≡ width_of text.now }
 {
-    let spaces = column.saturating_sub(text.width()).max(1);
-    out.reserve(text.len() + spaces)?;
-    out.push_str(text).unwrap();
+    match str::from_utf8(text) {
+        Ok(text) => text.width(),
+        Err(_) => text.len(),
+    }
+}
+
+// Appends a text and the spaces that fill its column, at least one.
+fn pad(out: &mut Vec<u8>, text: &[u8], column: usize) -> Result<(), Fault>
+    requires { column < 2 ^ 32 }
+    ensures ok { OnOk result (out.new.items ≡ out.old.items ++ padded text.now column) }
+    ensures memory { IsOkUnless result memory_fault }
+{
+    out.extend_from_slice(text)?;
+    let spaces = column.saturating_sub(width(text)).max(1);
     for _space in 0..spaces {
-        out.push(' ').unwrap();
+        out.push(b' ')?;
     }
     Ok(())
 }
 
-/// The keyword, the cookie as written, the title and the tags of a heading line, those that aren't empty, with one
-/// space between.
-pub fn head_text(alloc: Global, line: &[u8], head: &Head) -> Result<Vec<u8>, Fault>
+/// The keyword, the cookie as written, the title and all tags of a heading, those that aren't empty, with one space
+/// between.
+pub fn head_text(alloc: Global, line: &[u8], head: &Head, tags: &Texts) -> Result<Vec<u8>, Fault>
     requires within { AreInside line.now head.now }
-    ensures value { IfOk result (λ text. text.items ≡ head_text line.now head.now) }
+    ensures value { IfOk result (λ text. text.items ≡ head_text line.now head.now tags.now) }
     ensures memory { IsOkUnless result memory_fault }
 {
     let mut text = Vec::with_capacity(alloc, line.len())?;
     join(&mut text, optional_part(line, head.keyword))?;
     join(&mut text, optional_part(line, head.priority))?;
     join(&mut text, part(line, head.title))?;
-    let tags = tags_text(alloc, line, head.tags.as_slice())?;
+    let tags = tags_text(alloc, tags)?;
     join(&mut text, tags.as_slice())?;
     Ok(text)
 }

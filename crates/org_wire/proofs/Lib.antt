@@ -1,4 +1,5 @@
 pub mod LineLemmas
+pub mod NameLemmas
 pub mod WroteLemmas
 pub mod PayloadLemmas
 pub mod RunLemmas

@@ -9,7 +9,7 @@ use Rattle.org_engine.specs.Step as step
 use Rattle.org_wire.specs.Replies.{reply_bytes, fault_bytes}
 use Rattle.org_wire.specs.Stream.{reading_of, IsReplaceable}
 use Rattle.org_wire.specs.declared.command.Command.{Command}
-use Rattle.org_wire.specs.declared.command.Command.TheVariants.{Add, Drop, Text, Todo}
+use Rattle.org_wire.specs.declared.command.Command.TheVariants.{Add, Drop, Inherit, Text, Todo}
 use Rattle.org_wire.specs.declared.command.Next.{Next}
 use Rattle.org_wire.specs.declared.command.Next.TheVariants.{Given, Refused, Last, Ended}
 use Rattle.org_wire.specs.declared.reply.Reply.{Reply}
@@ -21,6 +21,7 @@ use Rattle.org_wire.specs.declared.whole.End.TheVariants.{Done, Stopped}
 abbrev pub meaning : Command → step.Command
 meaning (Add name text) = step.AddFile name text
 meaning (Drop name) = step.DropFile name
+meaning (Inherit names) = step.Inherit names
 meaning (Text name) = step.TextOf name
 meaning Todo = step.Ask step.TodoList
 

@@ -1,6 +1,6 @@
 //! The commands of a stream.
 
-use org_base::{Bytes, Fault, Name};
+use org_base::{Bytes, Fault, Name, Texts};
 
 /// A command, one variant for each line that is one.
 #[derive(Drop)]
@@ -9,6 +9,8 @@ pub enum Command {
     Add(Name, Bytes),
     /// `drop NAME`: takes a file out.
     Drop(Name),
+    /// `inherit NAME ..`: names the properties that headings inherit; none without a name.
+    Inherit(Texts),
     /// `text NAME`: asks for a file's text.
     Text(Name),
     /// `todo`: asks for the TODO list.

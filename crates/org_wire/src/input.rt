@@ -5,6 +5,7 @@ ghost use Rattle.org_base.specs.Codes.{memory_fault};
 use crate::command::{Command, Next};
 use crate::counted::Counted;
 use crate::line::LineBuffer;
+use crate::names::names_in;
 use crate::parse::{Parsed, parse_line};
 use crate::room::{MOST_ROOM, Room};
 use org_base::{Bytes, Code, Fault, Name};
@@ -270,6 +271,10 @@ impl<'a, R: Read> Input<'a, R> {
             Parsed::Todo => Next::Given(Command::Todo),
             Parsed::Drop(name) => match Name::new(self.alloc, name) {
                 Ok(name) => Next::Given(Command::Drop(name)),
+                Err(_) => Next::Refused(Fault::Plain(Code::Memory)),
+            },
+            Parsed::Inherit(words) => match names_in(self.alloc, words) {
+                Ok(names) => Next::Given(Command::Inherit(names)),
                 Err(_) => Next::Refused(Fault::Plain(Code::Memory)),
             },
             Parsed::Text(name) => match Name::new(self.alloc, name) {

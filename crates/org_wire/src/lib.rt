@@ -9,6 +9,7 @@ mod counted;
 mod digits;
 mod input;
 mod line;
+mod names;
 mod next;
 mod parse;
 mod reply;

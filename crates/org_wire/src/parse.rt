@@ -1,8 +1,9 @@
 //! What a line says, read without memory.
 ghost use Rattle.std.specs.Prelude.{◌≡◌, None, Some, IfSome, IfNone, MatchOption, true, false};
 ghost use Rattle.org_wire.specs.Lines.{cut_at};
-ghost use Rattle.org_wire.specs.Stream.{number_of, is_name, line_of, drop_line, text_line, add_line};
+ghost use Rattle.org_wire.specs.Stream.{number_of, is_name, are_words, line_of, drop_line, inherit_line, text_line, add_line};
 ghost use Rattle.org_wire.specs.Parsed.{said};
+ghost use Rattle.std.specs.Str.{is_utf8};
 
 use org_base::is_file_name;
 
@@ -16,6 +17,8 @@ pub(crate) enum Parsed<'a> {
     Bad,
     Todo,
     Drop(&'a str),
+    /// The names to inherit, with one space between them; None without a name.
+    Inherit(Option<&'a [u8]>),
     Text(&'a str),
     /// A file to add, and how long its text is.
     Frame(&'a str, u64),
@@ -68,6 +71,29 @@ fn name(word: &[u8]) -> Option<&str>
     }
 }
 
+fn is_utf8(text: &[u8]) -> bool
+    ensures value { result ≡ is_utf8 text.now }
+{
+    str::from_utf8(text).is_ok()
+}
+
+// Whether single spaces separate words in the text, none of them empty.
+fn are_words(text: &[u8]) -> bool
+    ensures value { result ≡ are_words true text.now }
+{
+    let mut begins = true;
+    for byte in text {
+        if *byte != b' ' {
+            begins = false;
+        } else if begins {
+            return false;
+        } else {
+            begins = true;
+        }
+    }
+    !begins
+}
+
 /// What a line says. Words are separated by exactly one space, and none is empty.
 #[tactic(auto, unfolding(crate::specs::Stream::line_of))]
 pub(crate) fn parse_line(line: &[u8]) -> Parsed<'_>
@@ -75,6 +101,9 @@ pub(crate) fn parse_line(line: &[u8]) -> Parsed<'_>
 {
     if line == b"todo".as_slice() {
         return Parsed::Todo;
+    }
+    if line == b"inherit".as_slice() {
+        return Parsed::Inherit(None);
     }
     let Some((word, rest)) = cut(line, b' ') else {
         return Parsed::Bad;
@@ -84,6 +113,9 @@ pub(crate) fn parse_line(line: &[u8]) -> Parsed<'_>
     }
     if word == b"drop".as_slice() {
         return parse_drop(rest);
+    }
+    if word == b"inherit".as_slice() {
+        return parse_inherit(rest);
     }
     if word == b"add".as_slice() {
         return parse_add(rest);
@@ -98,6 +130,17 @@ fn parse_drop(rest: &[u8]) -> Parsed<'_>
     match name(rest) {
         Some(name) => Parsed::Drop(name),
         None => Parsed::Bad,
+    }
+}
+
+// What stands behind `inherit`.
+fn parse_inherit(rest: &[u8]) -> Parsed<'_>
+    ensures value { inherit_line rest.now ≡ said result }
+{
+    if is_utf8(rest) && are_words(rest) {
+        Parsed::Inherit(Some(rest))
+    } else {
+        Parsed::Bad
     }
 }
 

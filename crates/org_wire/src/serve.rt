@@ -12,12 +12,6 @@ use org_text::Text;
 pub(crate) fn serve<T: Text>(engine: &mut Engine<T>, command: Command) -> Reply
     ensures value { Serves command engine.old.state result engine.new.state }
 {
-    answer(engine, &command)
-}
-
-fn answer<T: Text>(engine: &mut Engine<T>, command: &Command) -> Reply
-    ensures value { Serves command.now engine.old.state result engine.new.state }
-{
     match command {
         Command::Add(name, text) => match engine.add(name.as_str(), text.as_slice()) {
             Ok(serial) => Reply::Serial(serial),
@@ -27,6 +21,7 @@ fn answer<T: Text>(engine: &mut Engine<T>, command: &Command) -> Reply
             Ok(serial) => Reply::Serial(serial),
             Err(fault) => Reply::Refused(fault),
         },
+        Command::Inherit(names) => Reply::Serial(engine.set_inherit(names)),
         Command::Text(name) => match engine.text_of(name.as_str()) {
             Ok(text) => Reply::Shown(Bytes::new(text.into_bytes())),
             Err(fault) => Reply::Refused(fault),

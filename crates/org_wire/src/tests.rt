@@ -2,7 +2,7 @@
 ghost use Rattle.std.specs.Prelude.{◌≡◌};
 
 use super::*;
-use org_base::{Code, Fault};
+use org_base::{Code, Fault, Texts};
 use org_cal::Moment;
 use org_engine::{Engine, LAST_SERIAL, View};
 use org_text::Whole;
@@ -224,7 +224,7 @@ fn numbers_of_faults(rt: HostRuntime) -> Result<(), Fail> {
 
 #[test]
 fn commands_of_an_input(rt: HostRuntime) -> Result<(), Fail> {
-    let mut reader = Counted::new(b"todo\nfrob\nadd a.org 0\n".as_slice());
+    let mut reader = Counted::new(b"todo\nfrob\nadd a.org 0\ninherit a bc\n".as_slice());
     let mut input = Input::new(rt.alloc(), &mut reader)?;
     let first = read_command(&mut input);
     assert!(rt; matches!(first, Next::Given(Command::Todo)));
@@ -232,6 +232,11 @@ fn commands_of_an_input(rt: HostRuntime) -> Result<(), Fail> {
     assert!(rt; matches!(second, Next::Refused(Fault::Plain(Code::Command))));
     let third = read_command(&mut input);
     assert!(rt; matches!(third, Next::Given(Command::Add(_, _))));
+    let Next::Given(Command::Inherit(names)) = read_command(&mut input) else {
+        return Err("no names".into());
+    };
+    assert_eq!(rt; names.count(), 2);
+    assert_eq!(rt; names.get(1), b"bc".as_slice());
     let last = read_command(&mut input);
     assert!(rt; matches!(last, Next::Ended));
     Ok(())
@@ -254,6 +259,8 @@ fn calls_of_an_engine(rt: HostRuntime) -> Result<(), Fail> {
     assert_eq!(rt; list.as_slice(), b"  a:          TODO a\n".as_slice());
     assert_eq!(rt; engine.work(), Ok(false));
     assert_eq!(rt; engine.pending(), 0);
-    assert_eq!(rt; engine.meter().read(), 0);
+    assert_eq!(rt; engine.meter().classified(), 2);
+    assert_eq!(rt; engine.meter().read(), 2);
+    assert_eq!(rt; engine.set_inherit(Texts::new(rt.alloc())), 3);
     Ok(())
 }

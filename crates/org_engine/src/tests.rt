@@ -1,0 +1,361 @@
+//! Entries, outlines and what headings inherit, over files that are read.
+ghost use Rattle.std.specs.Prelude.{◌≡◌, [], ◌∷◌, IfOk};
+
+use crate::file::{FileOutline, read_file};
+use org_base::{Bytes, Fault, Meter, Texts};
+use org_cal::{Day, Minute, TimeOfDay};
+use org_drawer::Planning;
+use org_entry::Entry;
+use org_inherit::{Inherit, Inherits, category_of, tags_text};
+use org_outline::{Entries, Outline};
+use org_text::{Text, Whole};
+use std::alloc::Global;
+use std::test::Fail;
+
+fn read(alloc: Global, text: &str) -> Result<FileOutline, Fault> {
+    let text = Whole::of(alloc, text)?;
+    read_file(alloc, &mut Meter::new(), &text)
+}
+
+// Whether the entries at these places have these tags.
+fn tags_are(alloc: Global, file: &FileOutline, rows: &[(usize, &str)]) -> Result<bool, Fault> {
+    let names = Texts::new(alloc);
+    let inherit = Inherit::new(alloc, &file.outline, &file.settings, "work.org", &names)?;
+    for (place, want) in rows {
+        if *place >= file.outline.count() {
+            return Ok(false);
+        }
+        let tags = inherit.all_tags(*place)?;
+        let shown = tags_text(alloc, &tags)?;
+        if shown.as_slice() != want.as_bytes() {
+            return Ok(false);
+        }
+    }
+    Ok(true)
+}
+
+#[test]
+fn tags_come_from_the_outermost(rt: HostRuntime) -> Result<(), Fail> {
+    let alloc = rt.alloc();
+    let text = "#+FILETAGS: :f:\n* a :x:y:\n*** b :y:z:y:\n** c :f:w:\n* d\n";
+    let file = read(alloc, text)?;
+    let rows = [
+        (0, ":f:"),
+        (1, ":f:x:y:"),
+        (2, ":f:x:y:z:"),
+        (3, ":f:x:y:w:"),
+        (4, ":f:"),
+    ];
+    assert!(rt; tags_are(alloc, &file, &rows)?);
+    Ok(())
+}
+
+// Whether just these entries are hidden.
+fn hidden_are(alloc: Global, file: &FileOutline, wants: &[bool]) -> Result<bool, Fault> {
+    let names = Texts::new(alloc);
+    let inherit = Inherit::new(alloc, &file.outline, &file.settings, "work.org", &names)?;
+    for (place, want) in wants.iter().enumerate() {
+        if place >= file.outline.count() || inherit.hidden(place) != *want {
+            return Ok(false);
+        }
+    }
+    Ok(true)
+}
+
+#[test]
+fn hidden_with_what_is_below(rt: HostRuntime) -> Result<(), Fail> {
+    let alloc = rt.alloc();
+    let text =
+        "#+FILETAGS: :ARCHIVE:\n* COMMENT p\n** TODO a\n* TODO b\n* c :x:ARCHIVE:\n*** d\n** e\n* COMMENTS\n";
+    let file = read(alloc, text)?;
+    let wants = [false, true, true, false, true, true, true, false];
+    assert!(rt; hidden_are(alloc, &file, &wants)?);
+    Ok(())
+}
+
+// Whether the second entry of a file has this category.
+fn category_is(alloc: Global, text: &str, want: &str) -> Result<bool, Fault> {
+    let file = read(alloc, text)?;
+    let names = Texts::new(alloc);
+    let inherit = Inherit::new(alloc, &file.outline, &file.settings, "d/x.y.org", &names)?;
+    Ok(file.outline.count() > 1 && inherit.category(1) == want.as_bytes())
+}
+
+#[test]
+fn categories(rt: HostRuntime) -> Result<(), Fail> {
+    let rows = [
+        ("* a\n* b\n", "x.y"),
+        ("#+CATEGORY: work\n* a\n", "work"),
+        ("#+CATEGORY: work\n#+PROPERTY: category home\n* a\n", "home"),
+        (
+            ":PROPERTIES:\n:CATEGORY: front\n:END:\n#+PROPERTY: CATEGORY home\n* a\n",
+            "front",
+        ),
+        (
+            "* a\n:PROPERTIES:\n:Category: own\n:END:\n*** b\n#+CATEGORY: work\n",
+            "own",
+        ),
+    ];
+    for (text, want) in rows {
+        assert!(rt; category_is(rt.alloc(), text, want)?, "{text}");
+    }
+    let names = [
+        ("x.y.org", "x.y"),
+        ("d/.e.f", ".e"),
+        ("..", "."),
+        ("a.", "a"),
+        ("t/", ""),
+    ];
+    for (name, want) in names {
+        assert_eq!(rt; category_of(name), want);
+    }
+    Ok(())
+}
+
+fn lent(value: &Option<Bytes>) -> Option<&[u8]> {
+    match value {
+        Some(value) => Some(value.as_slice()),
+        None => None,
+    }
+}
+
+// Whether names have these values at these places, where the values of some names are inherited.
+fn values_are(
+    alloc: Global,
+    file: &FileOutline,
+    inherited: &Texts,
+    rows: &[(usize, &str, Option<&[u8]>)],
+) -> Result<bool, Fault> {
+    let inherit = Inherit::new(
+        alloc,
+        &file.outline,
+        &file.settings,
+        "d/work.org",
+        inherited,
+    )?;
+    for (place, name, want) in rows {
+        if *place >= file.outline.count() {
+            return Ok(false);
+        }
+        let value = inherit.value(*place, name.as_bytes())?;
+        if lent(&value) != *want {
+            return Ok(false);
+        }
+    }
+    Ok(true)
+}
+
+#[test]
+fn values_of_names(rt: HostRuntime) -> Result<(), Fail> {
+    let alloc = rt.alloc();
+    let text =
+        "#+PROPERTY: Owner ann\n* a\n:PROPERTIES:\n:OWNER: bob\n:Owner+: cy\n:END:\n** b\n* c\n";
+    let file = read(alloc, text)?;
+    let mut names = Texts::new(alloc);
+    let own: [(usize, &str, Option<&[u8]>); 3] = [
+        (1, "Owner", Some(b"bob cy")),
+        (2, "Owner", None),
+        (3, "Owner", None),
+    ];
+    assert!(rt; values_are(alloc, &file, &names, &own)?);
+    names.push(b"owner")?;
+    let inherited: [(usize, &str, Option<&[u8]>); 3] = [
+        (1, "Owner", Some(b"bob cy")),
+        (2, "Owner", Some(b"bob cy")),
+        (3, "Owner", Some(b"ann")),
+    ];
+    assert!(rt; values_are(alloc, &file, &names, &inherited)?);
+    Ok(())
+}
+
+#[test]
+fn values_of_special_names(rt: HostRuntime) -> Result<(), Fail> {
+    let alloc = rt.alloc();
+    let text =
+        "#+FILETAGS: :f:\n#+PRIORITIES: A Z F\n* TODO [#12] t i :x:x:\nSCHEDULED: <2024-02-28 Wed>--<2024-02-29 Thu> DEADLINE: <2024-03-01 Fri +1w> CLOSED: [2024-02-27 Tue 9:00]\n:PROPERTIES:\n:ITEM: other\n:END:\n** b\n";
+    let file = read(alloc, text)?;
+    let rows: [(usize, &str, Option<&[u8]>); 18] = [
+        (1, "todo", Some(b"TODO")),
+        (1, "PRIORITY", Some(b"12")),
+        (1, "Level", Some(b"1")),
+        (1, "ITEM", Some(b"t i")),
+        (1, "CATEGORY", Some(b"work")),
+        (1, "FILE", Some(b"d/work.org")),
+        (1, "TAGS", Some(b":x:x:")),
+        (1, "ALLTAGS", Some(b":f:x:")),
+        (1, "SCHEDULED", Some(b"<2024-02-28 Wed>")),
+        (1, "DEADLINE", Some(b"<2024-03-01 Fri +1w>")),
+        (1, "closed", Some(b"[2024-02-27 Tue 9:00]")),
+        (2, "TODO", None),
+        (2, "PRIORITY", Some(b"F")),
+        (2, "TAGS", None),
+        (2, "ALLTAGS", Some(b":f:x:")),
+        (2, "CLOSED", None),
+        (0, "LEVEL", None),
+        (0, "CATEGORY", Some(b"work")),
+    ];
+    assert!(rt; values_are(alloc, &file, &Texts::new(alloc), &rows)?);
+    Ok(())
+}
+
+fn both<'a>(alloc: Global, first: Inherit<'a>, second: Inherit<'a>) -> Result<Inherits<'a>, Fault>
+    ensures { IfOk result (λ inherits. inherits ≡ first.entry ∷ second.entry ∷ []) }
+{
+    let mut inherits = Inherits::new(alloc);
+    inherits.push(first)?;
+    inherits.push(second)?;
+    Ok(inherits)
+}
+
+// The category in the second of two files of one text.
+fn second_category_is(alloc: Global, file: &FileOutline, want: &str) -> Result<bool, Fault> {
+    let names = Texts::new(alloc);
+    let first = Inherit::new(alloc, &file.outline, &file.settings, "a.org", &names)?;
+    let second = Inherit::new(alloc, &file.outline, &file.settings, "b.org", &names)?;
+    let inherits = both(alloc, first, second)?;
+    Ok(
+        file.outline.count() > 0
+            && inherits.count() == 2
+            && inherits.get(1).category(0) == want.as_bytes(),
+    )
+}
+
+#[test]
+fn several_files(rt: HostRuntime) -> Result<(), Fail> {
+    let file = read(rt.alloc(), "* a\n")?;
+    assert!(rt; second_category_is(rt.alloc(), &file, "b")?);
+    Ok(())
+}
+
+// The heading line of an entry, its parent, its outermost ancestor and its end.
+type Row = (&'static str, Option<usize>, Option<usize>, usize);
+
+// Whether an outline has these entries.
+fn has(outline: &Outline, rows: &[Row]) -> bool {
+    if outline.count() != rows.len() {
+        return false;
+    }
+    for place in 0..rows.len() {
+        let (line, parent, outermost, end) = rows[place];
+        let same = outline.entry(place).line() == line.as_bytes()
+            && outline.parent(place) == parent
+            && outline.ancestors(place).last() == outermost
+            && outline.end_of(place) == end;
+        if !same {
+            return false;
+        }
+    }
+    true
+}
+
+// Takes the entries of a range out, if there are so many.
+fn take_out(alloc: Global, outline: &mut Outline, start: usize, end: usize) -> Result<bool, Fault> {
+    if start > end || end > outline.count() {
+        return Ok(false);
+    }
+    match outline.replace(start..end, Entries::new(alloc)) {
+        Ok(()) => Ok(true),
+        Err(refused) => Err(refused.fault()),
+    }
+}
+
+#[test]
+fn replaced_and_shared(rt: HostRuntime) -> Result<(), Fail> {
+    let alloc = rt.alloc();
+    let mut file = read(alloc, "x\n* a\n*** b\n**** c\n** d\n* e\n")?;
+    let before = [
+        ("", None, None, 1),
+        ("* a\n", None, None, 5),
+        ("*** b\n", Some(1), Some(1), 4),
+        ("**** c\n", Some(2), Some(1), 4),
+        ("** d\n", Some(1), Some(1), 5),
+        ("* e\n", None, None, 6),
+    ];
+    assert!(rt; has(&file.outline, &before));
+    let kept = file.outline.share()?;
+    assert!(rt; take_out(alloc, &mut file.outline, 1, 3)?);
+    let after = [
+        ("", None, None, 1),
+        ("**** c\n", None, None, 2),
+        ("** d\n", None, None, 3),
+        ("* e\n", None, None, 4),
+    ];
+    assert!(rt; has(&file.outline, &after));
+    assert!(rt; has(&kept, &before));
+    Ok(())
+}
+
+fn title(entry: &Entry) -> Option<&[u8]> {
+    match &entry.head {
+        Some(head) => Some(entry.part(head.title)),
+        None => None,
+    }
+}
+
+fn deadline(entry: &Entry) -> Option<&[u8]> {
+    match &entry.planning {
+        Some(
+            Planning {
+                deadline: Some((_, place)),
+                ..
+            },
+        ) => Some(entry.part(*place)),
+        _ => None,
+    }
+}
+
+// Whether the plain stamps of an entry stand at these places.
+fn stamps_stand_at(entry: &Entry, places: &[usize]) -> bool {
+    if entry.stamps.count() != places.len() {
+        return false;
+    }
+    for (place, stamp) in entry.stamps.as_slice().iter().enumerate() {
+        if stamp.at != places[place] {
+            return false;
+        }
+    }
+    true
+}
+
+fn first_clock(entry: &Entry) -> Option<Minute> {
+    match entry.clocks.as_slice().get(0) {
+        Some(clock) => Some(clock.from),
+        None => None,
+    }
+}
+
+#[test]
+fn entries_of_sections(rt: HostRuntime) -> Result<(), Fail> {
+    let text = "# <2024-02-25>
+:PROPERTIES:
+:Owner: ann
+:END:
+SCHEDULED: <2024-02-28>
+* TODO a <2024-02-28 Wed>  :x:
+ DEADLINE: <2024-03-01 Fri>
+:PROPERTIES:
+:Owner: bob
+:Owner+: cy
+:END:
+CLOCK: [2024-02-27 Tue 23:30]--[2024-02-28 Wed 00:45]
+# <2024-02-29>
+x [2024-02-26] <2024-02-27 Tue>
+";
+    let file = read(rt.alloc(), text)?;
+    assert!(rt; file.outline.count() == 2);
+    let front = file.outline.entry(0);
+    assert!(rt; front.head.is_none() && front.planning.is_none());
+    assert!(rt; front.line().is_empty());
+    assert!(rt; front.drawer.get(b"OWNER") == Some(b"ann".as_slice()));
+    assert!(rt; stamps_stand_at(front, &[57]));
+    let entry = file.outline.entry(1);
+    assert!(rt; entry.text.as_slice().len() == 59);
+    assert!(rt; entry.line() == b"* TODO a <2024-02-28 Wed>  :x:\n".as_slice());
+    assert!(rt; title(entry) == Some(b"a <2024-02-28 Wed>".as_slice()));
+    assert!(rt; deadline(entry) == Some(b"<2024-03-01 Fri>".as_slice()));
+    assert!(rt; entry.drawer.get(b"owner") == Some(b"bob cy".as_slice()));
+    assert!(rt; stamps_stand_at(entry, &[9, 186]));
+    let start = Minute::at(Day::read(b"2024-02-27")?, TimeOfDay::of_minutes(1410));
+    assert!(rt; first_clock(entry) == Some(start));
+    Ok(())
+}

@@ -1,0 +1,56 @@
+-- What lines say one by one is what they say together.
+use Rattle.std.proofs.Common.{◌≡◌, ℕ, ◌+◌, List, [], ◌∷◌, ◌++◌, map, length, refl, sym, ap, ◌∙◌, arith, append-nil, append_assoc}
+use Rattle.std.proofs.lemmas.List.{length-map}
+use Rattle.std.specs.List.{flat_map, concat}
+use Rattle.org_class.specs.Classes.{section_classes}
+use Rattle.org_class.specs.Settings.{FileSettings}
+use Rattle.org_class.specs.declared.class.Class.{Class}
+use Rattle.org_entry.specs.Draft.{EntrySoFar, nothing_said, with_line, with_lines, ended}
+use Rattle.org_entry.specs.Entry.{PlacedLine, text_of, nodes_of, clocks_of, stamps_of, head_from, planning_from, placed, entry_of_lines}
+use Rattle.org_entry.proofs.ClassLemmas.{length-classes}
+use Rattle.org_lines.specs.Cuts.{Cut, lines}
+
+-- what lines say behind what was said
+abbrev said_then : FileSettings → EntrySoFar → List PlacedLine → EntrySoFar
+said_then settings so_far ls = record {
+  text = so_far.text ++ flat_map (λ l. text_of l.class l.bytes) ls;
+  head = head_from settings so_far.head ls;
+  planning = planning_from so_far.planning ls;
+  nodes = so_far.nodes ++ flat_map (λ l. nodes_of l.class l.bytes) ls;
+  stamps = so_far.stamps ++ flat_map (λ l. stamps_of settings l.at l.class l.bytes) ls;
+  clocks = so_far.clocks ++ flat_map (λ l. clocks_of l.class l.bytes) ls;
+}
+
+said_by_lines : (settings : FileSettings) (so_far : EntrySoFar) (ls : List PlacedLine) → with_lines settings so_far ls ≡ said_then settings so_far ls
+said_by_lines settings so_far [] = rw (append-nil so_far.text, append-nil so_far.nodes, append-nil so_far.stamps, append-nil so_far.clocks) refl
+said_by_lines settings so_far (l ∷ ls) =
+    let text = append_assoc so_far.text (text_of l.class l.bytes) (flat_map (λ k. text_of k.class k.bytes) ls) in
+    let nodes = append_assoc so_far.nodes (nodes_of l.class l.bytes) (flat_map (λ k. nodes_of k.class k.bytes) ls) in
+    let stamps = append_assoc so_far.stamps (stamps_of settings l.at l.class l.bytes) (flat_map (λ k. stamps_of settings k.at k.class k.bytes) ls) in
+    let clocks = append_assoc so_far.clocks (clocks_of l.class l.bytes) (flat_map (λ k. clocks_of k.class k.bytes) ls) in
+    said_by_lines settings (with_line settings so_far l) ls ∙ rw (text, nodes, stamps, clocks) refl
+
+-- the entry of all lines
+pub lines_end : (settings : FileSettings) (ls : List PlacedLine) → ended (with_lines settings nothing_said ls) ≡ entry_of_lines settings ls
+lines_end settings ls = ap ended (said_by_lines settings nothing_said ls)
+
+-- at first as many lines are left as there are classes
+pub classes_left : (section : List ℕ) (cs : List Class) (left : List Cut) → map (λ c. c.bytes) left ≡ lines section → cs ≡ section_classes section → 0 + length left ≡ length cs
+classes_left section cs left are all =
+    omega (arith, length-map left (λ (c : Cut). c.bytes), ap length are, ap length all, length-classes (lines section))
+
+-- and as many bytes as the section has
+pub bytes_left : (section : List ℕ) (n : ℕ) (left : List Cut) → concat (map (λ c. c.bytes) left) ≡ section → length section ≡ n → 0 + length (concat (map (λ (c : Cut). c.bytes) left)) ≡ n
+bytes_left section n left joined count = omega (arith, ap length joined, count)
+
+-- and all lines
+pub lines_left : (settings : FileSettings) (section : List ℕ) (cs : List Class) (left : List Cut) → map (λ c. c.bytes) left ≡ lines section →
+    with_lines settings nothing_said (placed 0 (map (λ c. c.bytes) left) cs) ≡ with_lines settings nothing_said (placed 0 (lines section) cs)
+lines_left settings section cs left are = ap (λ ls. with_lines settings nothing_said (placed 0 ls cs)) are
+
+-- where no line is left, what was said is the entry
+pub none_left : (settings : FileSettings) (so_far : EntrySoFar) (at : ℕ) (left : List Cut) (more : List Class) (all : List PlacedLine) → left ≡ [] → with_lines settings so_far (placed at (map (λ c. c.bytes) left) more) ≡ with_lines settings nothing_said all → ended so_far ≡ entry_of_lines settings all
+none_left settings so_far at left more all none known =
+    ap (λ x. ended (with_lines settings so_far (placed at (map (λ (c : Cut). c.bytes) x) more))) (sym none)
+    ∙ ap ended known
+    ∙ lines_end settings all

@@ -1,0 +1,5 @@
+pub mod ClassLemmas
+pub mod DraftLemmas
+pub mod HeadLemmas
+pub mod LineLemmas
+pub mod ReadLemmas

@@ -1,0 +1,3 @@
+pub mod Entry
+pub mod Draft
+pub mod Laws

@@ -1,0 +1,177 @@
+//! An entry while the lines of its section are read.
+ghost use Rattle.std.specs.Prelude.{◌≡◌, ◌+◌, ◌++◌, ◌<◌, ◌^◌, length, Some, IfOk, IfSome, OnOk, IsOkUnless};
+ghost use Rattle.std.specs.Option.{option_map, option_to_list};
+ghost use Rattle.org_base.specs.Codes.{memory_fault};
+ghost use Rattle.org_drawer.specs.Clock.{clock_of};
+ghost use Rattle.org_drawer.specs.Planning.{planning_of};
+ghost use Rattle.org_entry.specs.Draft.{nothing_said, with_line, ended};
+ghost use Rattle.org_entry.specs.Entry.{moved, moved_stamp, title_stamps};
+ghost use Rattle.org_head.specs.Head.{head_of};
+
+use crate::entry::Entry;
+use crate::lists::{Clocks, PlacedStamps};
+use org_base::{Bytes, Fault, Span, Texts};
+use org_class::{Class, Settings};
+use org_drawer::{Planning, read_clock, read_drawer, read_planning};
+use org_head::{Head, part, read_head};
+use org_stamp::Stamp;
+use std::alloc::Global;
+use std::marker::Model;
+
+/// What the lines of a section so far say.
+#[derive(Drop)]
+pub(crate) struct Draft {
+    alloc: Global,
+    text: Vec<u8>,
+    head: Option<Head>,
+    planning: Option<Planning>,
+    nodes: Texts,
+    stamps: PlacedStamps,
+    clocks: Clocks,
+}
+
+impl Model for Draft {
+    ghost use Rattle.org_entry.specs.Draft.{EntrySoFar};
+
+    ghost Value = { EntrySoFar };
+
+    ghost view = { λ d. record { text = d.text.items; head = d.head; planning = d.planning; nodes = d.nodes; stamps = d.stamps; clocks = d.clocks } };
+}
+
+impl Draft {
+    /// Nothing yet.
+    pub(crate) fn new(alloc: Global) -> Draft
+        ensures value { result ≡ nothing_said }
+    {
+        Draft {
+            alloc,
+            text: Vec::new(alloc),
+            head: None,
+            planning: None,
+            nodes: Texts::new(alloc),
+            stamps: PlacedStamps::new(alloc),
+            clocks: Clocks::new(alloc),
+        }
+    }
+
+    /// Adds what one more line says, which stands at a place of the section.
+    pub(crate) fn add(
+        &mut self,
+        settings: &Settings,
+        class: Class,
+        at: usize,
+        line: &[u8],
+    ) -> Result<(), Fault>
+        requires fits { at + length line.now < 2 ^ 32 }
+        ensures ok { OnOk result (self.new ≡ with_line settings.now self.old (record { at = at; class = class; bytes = line.now })) }
+        ensures memory { IsOkUnless result memory_fault }
+    {
+        match class {
+            Class::Heading => self.add_heading(settings, at, line),
+            Class::Planning => self.add_planning(at, line),
+            Class::Node => self.nodes.push(line),
+            Class::Clock => self.add_clock(line),
+            Class::Setting | Class::Plain => self.stamps.push_active(at, line),
+            _ => Ok(()),
+        }
+    }
+
+    // Adds a heading line.
+    fn add_heading(&mut self, settings: &Settings, at: usize, line: &[u8]) -> Result<(), Fault>
+        requires fits { at + length line.now < 2 ^ 32 }
+        ensures ok { OnOk result (self.new ≡ record self.old {
+          text = self.old.text ++ line.now;
+          head = Some (head_of settings.now line.now);
+          stamps = self.old.stamps ++ title_stamps settings.now at line.now;
+        }) }
+        ensures memory { IsOkUnless result memory_fault }
+    {
+        let head = read_head(self.alloc, line, settings)?;
+        let title = head.title;
+        self.text.extend_from_slice(line)?;
+        self.stamps
+            .push_active(at + title.at as usize, part(line, title))?;
+        self.head = Some(head);
+        Ok(())
+    }
+
+    // Adds a planning line.
+    fn add_planning(&mut self, at: usize, line: &[u8]) -> Result<(), Fault>
+        requires fits { at + length line.now < 2 ^ 32 }
+        ensures ok { OnOk result (self.new ≡ record self.old {
+          text = self.old.text ++ line.now;
+          planning = option_map (moved at) (planning_of line.now);
+        }) }
+        ensures memory { IsOkUnless result memory_fault }
+    {
+        self.text.extend_from_slice(line)?;
+        self.planning = planning_at(at, line);
+        Ok(())
+    }
+
+    // Adds a clock line.
+    fn add_clock(&mut self, line: &[u8]) -> Result<(), Fault>
+        ensures ok { OnOk result (self.new ≡ record self.old { clocks = self.old.clocks ++ option_to_list (clock_of line.now) }) }
+        ensures memory { IsOkUnless result memory_fault }
+    {
+        match read_clock(line) {
+            Some(clock) => self.clocks.push(clock),
+            None => Ok(()),
+        }
+    }
+
+    /// The entry where no line is left.
+    pub(crate) fn ended(self) -> Result<Entry, Fault>
+        ensures value { IfOk result (λ entry. entry ≡ ended self) }
+        ensures memory { IsOkUnless result memory_fault }
+    {
+        let Draft {
+            alloc,
+            text,
+            head,
+            planning,
+            nodes,
+            stamps,
+            clocks,
+        } = self;
+        let drawer = read_drawer(alloc, &nodes)?;
+        Ok(Entry {
+            text: Bytes::new(text),
+            head,
+            planning,
+            drawer,
+            stamps,
+            clocks,
+        })
+    }
+}
+
+// A stamp's part so much further.
+fn moved_stamp(at: usize, found: Option<(Stamp, Span)>) -> Option<(Stamp, Span)>
+    requires fits { IfSome found (λ s. at + s.1.at < 2 ^ 32) }
+    ensures value { result ≡ option_map (moved_stamp at) found }
+{
+    match found {
+        Some((stamp, span)) => Some((
+            stamp,
+            Span {
+                at: at as u32 + span.at,
+                len: span.len,
+            },
+        )),
+        None => None,
+    }
+}
+
+// What a planning line says that stands at a place.
+fn planning_at(at: usize, line: &[u8]) -> Option<Planning>
+    requires fits { at + length line.now < 2 ^ 32 }
+    ensures value { result ≡ option_map (moved at) (planning_of line.now) }
+{
+    let planning = read_planning(line)?;
+    Some(Planning {
+        scheduled: moved_stamp(at, planning.scheduled),
+        deadline: moved_stamp(at, planning.deadline),
+        closed: moved_stamp(at, planning.closed),
+    })
+}

@@ -1,0 +1,59 @@
+//! What a section says.
+ghost use Rattle.std.specs.Prelude.{◌≡◌, ◌==◌};
+ghost use Rattle.std.specs.List.{position};
+ghost use Rattle.org_entry.specs.Entry.{heading_line};
+ghost use Rattle.org_head.specs.Spans.{part_of};
+
+use crate::lists::{Clocks, PlacedStamps};
+use org_base::{Bytes, Span};
+use org_drawer::{Drawer, Planning};
+use org_head::Head;
+
+/// What a section says (Org Syntax, "Sections"). All places count from the section's start, so that they stay true where
+/// the section moves.
+#[derive(Drop)]
+pub struct Entry {
+    /// The heading line and the planning line, line feeds included. A section's heading and planning lines are its first
+    /// two lines, so places in them are places in this text too.
+    pub text: Bytes,
+    /// The parts of the heading line; None where the section has no heading.
+    pub head: Option<Head>,
+    /// What the planning line says.
+    pub planning: Option<Planning>,
+    /// The heading's own properties.
+    pub drawer: Drawer,
+    /// The active stamps of the title and of setting lines and plain lines.
+    pub stamps: PlacedStamps,
+    /// The clocks of clock lines.
+    pub clocks: Clocks,
+}
+
+impl Entry {
+    /// The heading line, with its line feed if it has one; empty where the section has no heading.
+    pub fn line(&self) -> &[u8]
+        ensures value { result.now ≡ heading_line self.now }
+    {
+        let text = self.text.as_slice();
+        match line_feed(text) {
+            Some(place) => &text[..place + 1],
+            None => text,
+        }
+    }
+
+    /// The bytes of a part of the entry's text. What reaches beyond the text isn't there.
+    pub fn part(&self, span: Span) -> &[u8]
+        ensures value { result.now ≡ part_of self.now.text span }
+    {
+        let text = self.text.as_slice();
+        let start = text.len().min(span.at as usize);
+        let rest = &text[start..];
+        &rest[..rest.len().min(span.len as usize)]
+    }
+}
+
+// Where the first line feed stands.
+fn line_feed(text: &[u8]) -> Option<usize>
+    ensures value { result ≡ position (λ b. b == 10) text.now }
+{
+    text.iter().position(|byte| *byte == b'\n')
+}

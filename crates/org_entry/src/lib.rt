@@ -1,0 +1,15 @@
+//! What one section says, read once and kept as one value.
+//!
+//! The entry that is read is the one that the definition gives of the section's bytes and the file's settings; its places
+//! count from the section's start. Each law about it is a function in `laws`.
+#![tactic(auto)]
+
+mod draft;
+mod entry;
+pub mod laws;
+mod lists;
+mod read;
+
+pub use entry::Entry;
+pub use lists::{Clocks, PlacedStamps};
+pub use read::read_entry;

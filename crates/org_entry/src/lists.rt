@@ -1,0 +1,142 @@
+//! Stamps and clocks of a section, in order.
+ghost use Rattle.std.specs.Prelude.{◌≡◌, ◌+◌, ◌<◌, ◌^◌, ◌++◌, ◌∷◌, [], length, slice_get, OnOk, IsOkUnless};
+ghost use Rattle.org_base.specs.Codes.{memory_fault};
+ghost use Rattle.org_entry.specs.Entry.{if_active, active_at};
+
+use org_base::Fault;
+use org_drawer::ClockLine;
+use org_stamp::{Found, stamps_in};
+use std::alloc::Global;
+use std::marker::Model;
+
+/// Stamps with their places, in order.
+#[derive(Drop)]
+pub struct PlacedStamps {
+    stamps: Vec<Found>,
+}
+
+impl Model for PlacedStamps {
+    ghost use Rattle.std.specs.Prelude.{List};
+    ghost use Rattle.org_stamp.specs.declared.stamp.Found.{Found as AnyFound};
+
+    ghost Value = { List AnyFound };
+
+    ghost view = { λ s. s.stamps.items };
+}
+
+impl PlacedStamps {
+    // No stamps.
+    pub(crate) fn new(alloc: Global) -> PlacedStamps
+        ensures value { result ≡ [] }
+    {
+        PlacedStamps {
+            stamps: Vec::new(alloc),
+        }
+    }
+
+    // Puts the active stamps of bytes that stand at a place of the section at the end.
+    pub(crate) fn push_active(&mut self, at: usize, bytes: &[u8]) -> Result<(), Fault>
+        requires fits { at + length bytes.now < 2 ^ 32 }
+        ensures ok { OnOk result (self.new ≡ self.old ++ active_at at bytes.now) }
+        ensures memory { IsOkUnless result memory_fault }
+    {
+        for found in stamps_in(bytes) {
+            self.push_if_active(at, found)?;
+        }
+        Ok(())
+    }
+
+    // Puts a stamp at the end, so much further, if it is active.
+    fn push_if_active(&mut self, at: usize, found: Found) -> Result<(), Fault>
+        requires fits { at + found.at < 2 ^ 32 }
+        ensures ok { OnOk result (self.new ≡ self.old ++ if_active at found) }
+        ensures memory { IsOkUnless result memory_fault }
+    {
+        if found.stamp.active {
+            self.stamps.push(Found {
+                at: at + found.at,
+                len: found.len,
+                stamp: found.stamp,
+            })?;
+        }
+        Ok(())
+    }
+
+    /// How many stamps there are.
+    pub fn count(&self) -> usize
+        ensures value { result ≡ length self.now }
+    {
+        self.stamps.len()
+    }
+
+    /// The stamp at a place, from 0.
+    pub fn get(&self, place: usize) -> Option<Found>
+        ensures value { result ≡ slice_get self.now place }
+    {
+        self.as_slice().get(place).copied()
+    }
+
+    /// The stamps, to go over.
+    pub fn as_slice(&self) -> &[Found]
+        ensures value { result.now ≡ self.now }
+    {
+        self.stamps.as_slice()
+    }
+}
+
+/// The clocks of a section, in order.
+#[derive(Drop)]
+pub struct Clocks {
+    clocks: Vec<ClockLine>,
+}
+
+impl Model for Clocks {
+    ghost use Rattle.std.specs.Prelude.{List};
+    ghost use Rattle.org_drawer.specs.declared.clock.ClockLine.{ClockLine};
+
+    ghost Value = { List ClockLine };
+
+    ghost view = { λ c. c.clocks.items };
+}
+
+impl Clocks {
+    // No clocks.
+    pub(crate) fn new(alloc: Global) -> Clocks
+        ensures value { result ≡ [] }
+    {
+        Clocks {
+            clocks: Vec::new(alloc),
+        }
+    }
+
+    // Puts a clock at the end.
+    pub(crate) fn push(&mut self, clock: ClockLine) -> Result<(), Fault>
+        ensures ok { OnOk result (self.new ≡ self.old ++ clock ∷ []) }
+        ensures memory { IsOkUnless result memory_fault }
+    {
+        let ClockLine { from, to } = clock;
+        self.clocks.push(ClockLine { from, to })?;
+        Ok(())
+    }
+
+    /// How many clocks there are.
+    pub fn count(&self) -> usize
+        ensures value { result ≡ length self.now }
+    {
+        self.clocks.len()
+    }
+
+    /// The clock at a place, from 0.
+    pub fn get(&self, place: usize) -> Option<ClockLine>
+        ensures value { result ≡ slice_get self.now place }
+    {
+        self.as_slice().get(place).copied()
+    }
+
+    /// The clocks, to go over.
+    pub fn as_slice(&self) -> &[ClockLine]
+        ensures value { result.now ≡ self.now }
+    {
+        self.clocks.as_slice()
+    }
+}

@@ -1,0 +1,5 @@
+pub mod CategoryLemmas
+pub mod LawLemmas
+pub mod LineageLemmas
+pub mod ListLemmas
+pub mod TagLemmas

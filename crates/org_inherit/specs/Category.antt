@@ -1,0 +1,26 @@
+-- Categories (Org manual 9.6, Categories; which part of a file's name, and the order in a file: profile).
+use Rattle.std.specs.Prelude.{ℕ, ◌==◌, if◌then◌else◌, List, length, codes}
+use Rattle.std.specs.List.{after_last, before_last}
+use Rattle.std.specs.Option.{option_or, unwrap_or}
+use Rattle.org_inherit.specs.Scope.{Scope}
+use Rattle.org_inherit.specs.Values.{nearest_value, file_value}
+
+-- what stands behind the last slash
+abbrev pub base_name : List ℕ → List ℕ
+base_name name = after_last (λ b. b == 47) name
+
+-- the name without its last extension; a dot in first place begins none
+abbrev pub stem : List ℕ → List ℕ
+stem base = let front = before_last (λ b. b == 46) base in if length front == 0 then base else front
+
+-- the category of the headings of a file that says nothing of it
+abbrev pub category_of : List ℕ → List ℕ
+category_of name = stem (base_name name)
+
+-- what a file says of the category of its headings: its value of CATEGORY, else its category, else its name
+abbrev pub file_category : Scope → List ℕ
+file_category scope = unwrap_or (option_or (file_value scope (codes "CATEGORY")) scope.settings.category) (category_of scope.file)
+
+-- the own CATEGORY, else that of the nearest ancestor that has one, else the file's category
+abbrev pub category : Scope → ℕ → List ℕ
+category scope i = unwrap_or (nearest_value scope.entries (codes "CATEGORY") i) (file_category scope)

@@ -1,0 +1,35 @@
+-- Which entries are hidden (Org manual 9.6, Comment Lines and Internal Archiving; that below a hidden one all are, and
+-- that a file's tags hide nothing: profile).
+use Rattle.std.specs.Prelude.{ℕ, Bool, false, ◌||◌, Option, None, Some, List, ◌∷◌, map, get_or, bytes_eq, codes}
+use Rattle.std.specs.List.{list_any}
+use Rattle.org_entry.specs.declared.entry.Entry.{Entry}
+use Rattle.org_head.specs.Spans.{part_of}
+use Rattle.org_head.specs.declared.head.Head.{Head}
+use Rattle.org_outline.specs.Levels.{levels}
+use Rattle.org_outline.specs.Tree.{ancestors}
+
+-- the tag that hides
+abbrev pub is_archive : List ℕ → Bool
+is_archive tag = bytes_eq tag (codes "ARCHIVE")
+
+-- a heading line has the word COMMENT or names the tag ARCHIVE
+abbrev pub hides_by : List ℕ → Option Head → Bool
+hides_by text None = false
+hides_by text (Some head) = head.comment || list_any is_archive (map (part_of text) head.tags)
+
+-- an entry hides itself and what is below it
+abbrev pub hides : Entry → Bool
+hides e = hides_by e.text e.head
+
+-- the same of the entry at a place
+abbrev pub hides_at : List Entry → ℕ → Bool
+hides_at es j = get_or (map hides es) j false
+
+-- an entry is hidden if it or an ancestor hides
+abbrev pub is_hidden : List Entry → ℕ → Bool
+is_hidden es i = list_any (hides_at es) (i ∷ ancestors (levels es) i)
+
+-- what a table says of a parent, if there is one
+abbrev pub of_parent : List Bool → Option ℕ → Bool
+of_parent table None = false
+of_parent table (Some p) = get_or table p false

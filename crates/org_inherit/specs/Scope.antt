@@ -1,0 +1,11 @@
+-- What inheritance looks at in one file (Org manual 9.6, Tag Inheritance and Property Inheritance).
+use Rattle.std.specs.Prelude.{ℕ, List}
+use Rattle.org_class.specs.Settings.{FileSettings}
+use Rattle.org_entry.specs.declared.entry.Entry.{Entry}
+
+-- the entries of a file, its settings, its name, and the names whose values are inherited
+pub record Scope : Type 0 where
+  pub entries : List Entry
+  pub settings : FileSettings
+  pub file : List ℕ
+  pub inherited : List (List ℕ)

@@ -1,0 +1,55 @@
+-- Tags of headings (Org manual 9.6, Tag Inheritance; that of equal ones the first stays: profile).
+use Rattle.std.specs.Prelude.{ℕ, ◌==◌, if◌then◌else◌, List, [], ◌∷◌, ◌++◌, Option, None, Some, map, length, get_or, fold, reverse, bytes_eq}
+use Rattle.std.specs.List.{list_any, flat_map}
+use Rattle.org_entry.specs.declared.entry.Entry.{Entry}
+use Rattle.org_head.specs.Spans.{part_of}
+use Rattle.org_head.specs.declared.head.Head.{Head}
+use Rattle.org_inherit.specs.Scope.{Scope}
+use Rattle.org_outline.specs.Levels.{levels}
+use Rattle.org_outline.specs.Tree.{ancestors}
+
+-- the tags that a heading line itself names, in order and each as often as it is named
+abbrev pub tags_of_head : List ℕ → Option Head → List (List ℕ)
+tags_of_head text None = []
+tags_of_head text (Some head) = map (part_of text) head.tags
+
+-- an entry's own tags
+abbrev pub own_tags : Entry → List (List ℕ)
+own_tags e = tags_of_head e.text e.head
+
+-- the own tags of the entry at a place
+abbrev pub own_tags_at : List Entry → ℕ → List (List ℕ)
+own_tags_at es j = get_or (map own_tags es) j []
+
+-- the ancestors from the outermost, then the entry
+abbrev pub lineage : List Entry → ℕ → List ℕ
+lineage es i = reverse (ancestors (levels es) i) ++ i ∷ []
+
+-- a tag at the end, if it isn't there
+abbrev pub with_tag : List (List ℕ) → List ℕ → List (List ℕ)
+with_tag tags tag = if list_any (bytes_eq tag) tags then tags else tags ++ tag ∷ []
+
+-- of equal tags the first
+abbrev pub firsts : List (List ℕ) → List (List ℕ)
+firsts tags = fold with_tag [] tags
+
+-- the file's tags, the ancestors' own tags from the outermost, and the own tags; of equal ones the first stays
+abbrev pub all_tags : Scope → ℕ → List (List ℕ)
+all_tags scope i = firsts (scope.settings.file_tags ++ flat_map (own_tags_at scope.entries) (lineage scope.entries i))
+
+-- each tag with a colon behind it
+abbrev pub closed_tags : List (List ℕ) → List ℕ
+closed_tags [] = []
+closed_tags (tag ∷ tags) = tag ++ (58 ∷ []) ++ closed_tags tags
+
+-- `:a:b:`, or nothing for no tags
+abbrev pub tags_text : List (List ℕ) → List ℕ
+tags_text tags = if length tags == 0 then [] else 58 ∷ closed_tags tags
+
+-- the text of tags with one more
+abbrev pub with_shown : List ℕ → List ℕ → List ℕ
+with_shown text tag = (if length text == 0 then 58 ∷ [] else text) ++ tag ++ (58 ∷ [])
+
+-- tags as `:a:b:`, if there are any
+abbrev pub tags_value : List (List ℕ) → Option (List ℕ)
+tags_value tags = if length tags == 0 then None else Some (tags_text tags)

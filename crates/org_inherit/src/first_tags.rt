@@ -1,0 +1,85 @@
+//! Tags, of equal ones the first.
+ghost use Rattle.std.specs.Prelude.{◌≡◌, ◌||◌, ℕ, List, [], not, fold, map, IfOk, OnOk, IsOkUnless};
+ghost use Rattle.std.specs.Str.{bytes_eq};
+ghost use Rattle.org_base.specs.Codes.{memory_fault};
+ghost use Rattle.org_head.specs.Spans.{part_of};
+ghost use Rattle.org_inherit.specs.Seen.{is_seen, AreSeen};
+ghost use Rattle.org_inherit.specs.Tags.{with_tag};
+
+use org_base::{Fault, Span, Texts};
+use org_entry::Entry;
+use std::alloc::Global;
+use std::collections::BTreeSet;
+
+/// Tags, of equal ones the first. The set holds the same tags; it is ordered, since what tags hash to is the writer's to
+/// choose.
+#[derive(Drop)]
+pub(crate) struct FirstTags {
+    alloc: Global,
+    seen: BTreeSet<Vec<u8>>,
+    pub tags: Texts,
+}
+
+impl FirstTags {
+    /// No tags.
+    pub(crate) fn new(alloc: Global) -> FirstTags
+        ensures tags { result.tags ≡ [] }
+        ensures seen { AreSeen result.seen.keys result.tags }
+    {
+        FirstTags {
+            alloc,
+            seen: BTreeSet::new(alloc),
+            tags: Texts::new(alloc),
+        }
+    }
+
+    // Adds a tag, if it isn't there.
+    fn add(&mut self, tag: &[u8]) -> Result<(), Fault>
+        requires { AreSeen self.old.seen.keys self.old.tags }
+        ensures tags { OnOk result (self.new.tags ≡ with_tag self.old.tags tag.now) }
+        ensures seen { OnOk result (AreSeen self.new.seen.keys self.new.tags) }
+        ensures memory { IsOkUnless result memory_fault }
+    {
+        if is_new(self.alloc, &mut self.seen, tag)? {
+            self.tags.push(tag)?;
+        }
+        Ok(())
+    }
+
+    /// Adds those tags that aren't there.
+    pub(crate) fn add_all(&mut self, tags: &Texts) -> Result<(), Fault>
+        requires { AreSeen self.old.seen.keys self.old.tags }
+        ensures tags { OnOk result (self.new.tags ≡ fold with_tag self.old.tags tags.now) }
+        ensures seen { OnOk result (AreSeen self.new.seen.keys self.new.tags) }
+        ensures memory { IsOkUnless result memory_fault }
+    {
+        for place in 0..tags.count() {
+            self.add(tags.get(place))?;
+        }
+        Ok(())
+    }
+
+    /// Adds those tags that aren't there, each a part of an entry's text.
+    pub(crate) fn add_parts(&mut self, entry: &Entry, parts: &[Span]) -> Result<(), Fault>
+        requires { AreSeen self.old.seen.keys self.old.tags }
+        ensures tags { OnOk result (self.new.tags ≡ fold with_tag self.old.tags (map (part_of entry.now.text) parts.now)) }
+        ensures seen { OnOk result (AreSeen self.new.seen.keys self.new.tags) }
+        ensures memory { IsOkUnless result memory_fault }
+    {
+        for span in parts {
+            self.add(entry.part(*span))?;
+        }
+        Ok(())
+    }
+}
+
+// Whether the tag comes for the first time. From then on it was seen.
+fn is_new(alloc: Global, seen: &mut BTreeSet<Vec<u8>>, tag: &[u8]) -> Result<bool, Fault>
+    ensures value { IfOk result (λ yes. yes ≡ not (is_seen seen.old.keys tag.now)) }
+    ensures seen { OnOk result ((other : List ℕ) → is_seen seen.new.keys other ≡ (bytes_eq other tag.now || is_seen seen.old.keys other)) }
+    ensures memory { IsOkUnless result memory_fault }
+{
+    let tag = Vec::from_slice(alloc, tag)?;
+    let is_new = seen.insert(tag)?;
+    Ok(is_new)
+}

@@ -1,0 +1,117 @@
+//! What a heading's own lines say, as values.
+ghost use Rattle.std.specs.Prelude.{◌≡◌, decimal, IfOk, IsOkUnless};
+ghost use Rattle.std.specs.Option.{option_map};
+ghost use Rattle.org_base.specs.Codes.{memory_fault};
+ghost use Rattle.org_head.specs.Cookie.{cookie_value};
+ghost use Rattle.org_head.specs.Spans.{part_of};
+ghost use Rattle.org_inherit.specs.Special.{priority_text, priority_value, stamp_span, heading_value};
+
+use crate::special::HeadingValue;
+use crate::tags::{parts, tags_value};
+use org_base::{Bytes, Fault, Span};
+use org_class::Settings;
+use org_entry::Entry;
+use org_head::Head;
+use org_stamp::PlanningWord;
+use std::alloc::Global;
+
+/// A copy of bytes.
+pub(crate) fn copied(alloc: Global, bytes: &[u8]) -> Result<Bytes, Fault>
+    ensures value { IfOk result (λ copy. copy ≡ bytes.now) }
+    ensures memory { IsOkUnless result memory_fault }
+{
+    let bytes = Vec::from_slice(alloc, bytes)?;
+    Ok(Bytes::new(bytes))
+}
+
+fn decimal(alloc: Global, number: u32) -> Result<Bytes, Fault>
+    ensures value { IfOk result (λ text. text ≡ decimal number) }
+    ensures memory { IsOkUnless result memory_fault }
+{
+    let text = format!(in alloc; "{number}")?;
+    Ok(Bytes::new(text.into_bytes()))
+}
+
+// X of the cookie `[#X]`.
+fn cookie_value(cookie: &[u8]) -> &[u8]
+    ensures value { result.now ≡ cookie_value cookie.now }
+{
+    let behind = &cookie[cookie.len().min(2)..];
+    &behind[..cookie.len().saturating_sub(3)]
+}
+
+// A letter by its ASCII code, a number in decimal.
+fn priority_text(alloc: Global, number: u8) -> Result<Bytes, Fault>
+    ensures value { IfOk result (λ text. text ≡ priority_text number) }
+    ensures memory { IsOkUnless result memory_fault }
+{
+    if number > 64 {
+        copied(alloc, &[number])
+    } else {
+        decimal(alloc, u32::from(number))
+    }
+}
+
+fn priority_value(
+    alloc: Global,
+    settings: &Settings,
+    entry: &Entry,
+    cookie: Option<Span>,
+) -> Result<Bytes, Fault>
+    ensures value { IfOk result (λ text. text ≡ priority_value settings.now entry.now.text cookie) }
+    ensures memory { IsOkUnless result memory_fault }
+{
+    match cookie {
+        Some(cookie) => copied(alloc, cookie_value(entry.part(cookie))),
+        None => priority_text(alloc, settings.default_priority()),
+    }
+}
+
+// A part of an entry's text, if it is there.
+fn part_value(alloc: Global, entry: &Entry, part: Option<Span>) -> Result<Option<Bytes>, Fault>
+    ensures value { IfOk result (λ value. value ≡ option_map (part_of entry.now.text) part) }
+    ensures memory { IsOkUnless result memory_fault }
+{
+    match part {
+        Some(span) => Ok(Some(copied(alloc, entry.part(span))?)),
+        None => Ok(None),
+    }
+}
+
+// Where the stamp of a planning keyword stands in the entry's text.
+fn stamp_span(entry: &Entry, word: PlanningWord) -> Option<Span>
+    ensures value { result ≡ stamp_span word entry.now.planning }
+{
+    let planning = entry.planning.as_ref()?;
+    let stamp = match word {
+        PlanningWord::Scheduled => &planning.scheduled,
+        PlanningWord::Deadline => &planning.deadline,
+        PlanningWord::Closed => &planning.closed,
+    };
+    let (_, span) = stamp.as_ref()?;
+    Some(*span)
+}
+
+/// What a heading's own lines say, of its entry and its head.
+pub(crate) fn heading_value(
+    alloc: Global,
+    settings: &Settings,
+    entry: &Entry,
+    head: &Head,
+    value: HeadingValue,
+) -> Result<Option<Bytes>, Fault>
+    ensures value { IfOk result (λ found. found ≡ heading_value settings.now entry.now head.now value) }
+    ensures memory { IsOkUnless result memory_fault }
+{
+    match value {
+        HeadingValue::Keyword => part_value(alloc, entry, head.keyword),
+        HeadingValue::Priority => {
+            let text = priority_value(alloc, settings, entry, head.priority)?;
+            Ok(Some(text))
+        }
+        HeadingValue::Level => Ok(Some(decimal(alloc, head.level)?)),
+        HeadingValue::Title => part_value(alloc, entry, Some(head.title)),
+        HeadingValue::Tags => tags_value(alloc, &parts(alloc, entry, head.tags.as_slice())?),
+        HeadingValue::Stamp(word) => part_value(alloc, entry, stamp_span(entry, word)),
+    }
+}

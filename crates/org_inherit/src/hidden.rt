@@ -1,0 +1,64 @@
+//! Hidden headings.
+ghost use Rattle.std.specs.Prelude.{◌≡◌, ◌≤◌, length, map, IfOk, IsOkUnless};
+ghost use Rattle.std.specs.List.{list_any, range_with_len};
+ghost use Rattle.org_base.specs.Codes.{memory_fault};
+ghost use Rattle.org_head.specs.Spans.{part_of};
+ghost use Rattle.org_inherit.specs.Hidden.{is_archive, hides, is_hidden, of_parent};
+ghost use Rattle.org_outline.specs.Places.{behind};
+
+use org_base::{Fault, Span};
+use org_entry::Entry;
+use org_outline::Outline;
+use std::alloc::Global;
+
+fn is_archive(tag: &[u8]) -> bool
+    ensures value { result ≡ is_archive tag.now }
+{
+    tag == b"ARCHIVE".as_slice()
+}
+
+fn has_archive_tag(entry: &Entry, tags: &[Span]) -> bool
+    ensures value { result ≡ list_any is_archive (map (part_of entry.now.text) tags.now) }
+{
+    for tag in tags {
+        if is_archive(entry.part(*tag)) {
+            return true;
+        }
+    }
+    false
+}
+
+// Whether an entry hides itself and what is below it.
+fn hides(entry: &Entry) -> bool
+    ensures value { result ≡ hides entry.now }
+{
+    match &entry.head {
+        Some(head) => head.comment || has_archive_tag(entry, head.tags.as_slice()),
+        None => false,
+    }
+}
+
+// What a table of the entries before says of a parent, if there is one.
+fn of_parent(table: &[bool], parent: Option<usize>) -> bool
+    requires earlier { behind parent ≤ length table.now }
+    ensures value { result ≡ of_parent table.now parent }
+{
+    match parent {
+        Some(place) => table[place],
+        None => false,
+    }
+}
+
+/// Whether each entry of the outline is hidden, in one pass over it. Want of memory is its only refusal.
+pub(crate) fn hidden_table(alloc: Global, outline: &Outline) -> Result<Vec<bool>, Fault>
+    ensures value { IfOk result (λ table. table.items ≡ map (is_hidden outline.now) (range_with_len 0 (length outline.now))) }
+    ensures memory { IsOkUnless result memory_fault }
+{
+    let mut table = Vec::new(alloc);
+    for place in 0..outline.count() {
+        let own = hides(outline.entry(place));
+        let inherited = of_parent(&table, outline.parent(place));
+        table.push(own || inherited)?;
+    }
+    Ok(table)
+}

@@ -1,0 +1,221 @@
+//! What the outline of a file says of a heading.
+ghost use Rattle.std.specs.Prelude.{◌≡◌, ◌<◌, length, IfOk, IsOkUnless};
+ghost use Rattle.std.specs.Option.{option_map};
+ghost use Rattle.org_base.specs.Codes.{memory_fault};
+ghost use Rattle.org_inherit.specs.Category.{category, file_category};
+ghost use Rattle.org_inherit.specs.Hidden.{is_hidden};
+ghost use Rattle.org_inherit.specs.Special.{special_value, value_of};
+ghost use Rattle.org_inherit.specs.declared.special.Special.TheVariants.{AllTags, Own};
+ghost use Rattle.org_inherit.specs.Tags.{all_tags};
+ghost use Rattle.org_inherit.specs.Values.{file_value, plain_value};
+
+use crate::category::category_of;
+use crate::heading::{copied, heading_value};
+use crate::hidden::hidden_table;
+use crate::special::{HeadingValue, Special};
+use crate::tags::{all_tags, tags_value};
+use crate::values::{front_value, is_inherited, nearest_value};
+use org_base::{Bytes, Fault, Texts};
+use org_class::Settings;
+use org_outline::Outline;
+use std::alloc::Global;
+use std::marker::Model;
+
+/// What the outline of one file says of its entries, seen as the entries, the file's settings and name, and the names
+/// whose values are inherited (Org manual 9.6, "Tag Inheritance", "Property Inheritance"). Places are those of the
+/// outline, from 0.
+#[derive(Drop)]
+pub struct Inherit<'a> {
+    alloc: Global,
+    outline: &'a Outline,
+    settings: &'a Settings,
+    file: &'a str,
+    inherited: &'a Texts,
+    // For each entry whether it is hidden.
+    hidden: Vec<bool>,
+}
+
+impl<'a> Model for Inherit<'a> {
+    ghost use Rattle.std.specs.Prelude.{◌≡◌, length, map};
+    ghost use Rattle.std.specs.List.{range_with_len};
+    ghost use Rattle.org_inherit.specs.Hidden.{is_hidden};
+    ghost use Rattle.org_inherit.specs.Scope.{Scope};
+
+    ghost Value = { Scope };
+
+    ghost view = { λ i. record { entries = i.outline.now; settings = i.settings.now; file = i.file.now; inherited = i.inherited.now } };
+
+    ghost invariant = { λ i. i.hidden.items ≡ map (is_hidden i.outline.now) (range_with_len 0 (length i.outline.now)) };
+}
+
+impl<'a> Inherit<'a> {
+    /// What an outline says, in a file of this name with these settings, where the values of these names are inherited.
+    /// It passes over the outline once. Want of memory is its only refusal.
+    pub fn new(
+        alloc: Global,
+        outline: &'a Outline,
+        settings: &'a Settings,
+        file: &'a str,
+        inherited: &'a Texts,
+    ) -> Result<Inherit<'a>, Fault>
+        ensures value { IfOk result (λ inherit. inherit ≡ record { entries = outline.now; settings = settings.now; file = file.now; inherited = inherited.now }) }
+        ensures memory { IsOkUnless result memory_fault }
+    {
+        let hidden = hidden_table(alloc, outline)?;
+        Ok(Inherit {
+            alloc,
+            outline,
+            settings,
+            file,
+            inherited,
+            hidden,
+        })
+    }
+
+    /// The outline.
+    pub fn outline(&self) -> &Outline
+        ensures value { result.now ≡ self.now.entries }
+    {
+        self.outline
+    }
+
+    /// The file's settings.
+    pub fn settings(&self) -> &Settings
+        ensures value { result.now ≡ self.now.settings }
+    {
+        self.settings
+    }
+
+    /// Whether the entry or an ancestor of it has the word `COMMENT` or the own tag `ARCHIVE` (Org manual 9.6, "Comment
+    /// Lines", "Internal Archiving"). The file's tags hide nothing.
+    pub fn hidden(&self, place: usize) -> bool
+        requires { place < length self.now.entries }
+        ensures value { result ≡ is_hidden self.now.entries place }
+    {
+        self.hidden[place]
+    }
+
+    /// The file's tags, the tags of the ancestors from the outermost, and the own tags; of equal ones the first (Org
+    /// manual 9.6, "Tag Inheritance"). Want of memory is its only refusal.
+    pub fn all_tags(&self, place: usize) -> Result<Texts, Fault>
+        requires { place < length self.now.entries }
+        ensures value { IfOk result (λ tags. tags ≡ all_tags self.now place) }
+        ensures memory { IsOkUnless result memory_fault }
+    {
+        all_tags(self.alloc, self.settings.file_tags(), self.outline, place)
+    }
+
+    /// The category, lent (Org manual 9.6, "Categories"): the own property `CATEGORY`, else the nearest ancestor's, else
+    /// what the file gives to the name in the drawer before its first heading or by `#+PROPERTY`, else `#+CATEGORY`, else
+    /// the file's name behind its last slash and without its last extension.
+    pub fn category(&self, place: usize) -> &[u8]
+        requires { place < length self.now.entries }
+        ensures value { result.now ≡ category self.now place }
+    {
+        match nearest_value(self.outline, place, b"CATEGORY") {
+            Some(category) => category,
+            None => self.file_category(),
+        }
+    }
+
+    // What the file says of the category of its headings.
+    fn file_category(&self) -> &[u8]
+        ensures value { result.now ≡ file_category self.now }
+    {
+        if let Some(category) = self.file_value(b"CATEGORY") {
+            return category;
+        }
+        match self.settings.category() {
+            Some(category) => category,
+            None => category_of(self.file).as_bytes(),
+        }
+    }
+
+    // What the file gives to a name.
+    fn file_value(&self, name: &[u8]) -> Option<&[u8]>
+        ensures value { option_map (λ value. value.now) result ≡ file_value self.now name.now }
+    {
+        match front_value(self.outline, name) {
+            Some(value) => Some(value),
+            None => self.settings.property(name),
+        }
+    }
+
+    /// The value of a name, whose letter case doesn't count; None where it is missing. It may be empty.
+    ///
+    /// A special name (Org manual 9.6, "Special Properties") has its own value whatever drawers give it: `TODO` the
+    /// keyword, `PRIORITY` X of the cookie `[#X]` or else the file's default, `LEVEL` the number of stars, `ITEM` the
+    /// title, `CATEGORY` the category, `FILE` the file's name, `TAGS` the own tags and `ALLTAGS` all tags as `:a:b:`,
+    /// and `SCHEDULED`, `DEADLINE` and `CLOSED` the stamp as it is written, of a range the first one. An entry without
+    /// head has of these the category and the file's name alone.
+    ///
+    /// Any other name has the own value; else, if it is inherited, that of the nearest ancestor that has one, else the
+    /// file's: what the drawer before the first heading gives, or `#+PROPERTY` (Org manual 9.6, "Property Inheritance").
+    /// Want of memory is its only refusal.
+    pub fn value(&self, place: usize, name: &[u8]) -> Result<Option<Bytes>, Fault>
+        requires { place < length self.now.entries }
+        ensures value { IfOk result (λ value. value ≡ value_of self.now place name.now) }
+        ensures memory { IsOkUnless result memory_fault }
+    {
+        if let Some(special) = Special::named(name) {
+            return self.special_value(place, special);
+        }
+        match self.plain_value(place, name) {
+            Some(value) => Ok(Some(copied(self.alloc, value)?)),
+            None => Ok(None),
+        }
+    }
+
+    // The value of a name that isn't special.
+    fn plain_value(&self, place: usize, name: &[u8]) -> Option<&[u8]>
+        requires { place < length self.now.entries }
+        ensures value { option_map (λ value. value.now) result ≡ plain_value self.now place name.now }
+    {
+        if !is_inherited(self.inherited, name) {
+            return self.outline.entry(place).drawer.get(name);
+        }
+        match nearest_value(self.outline, place, name) {
+            Some(value) => Some(value),
+            None => self.file_value(name),
+        }
+    }
+
+    // The value of a special name.
+    fn special_value(&self, place: usize, special: Special) -> Result<Option<Bytes>, Fault>
+        requires { place < length self.now.entries }
+        ensures value { IfOk result (λ value. value ≡ special_value self.now place special) }
+        ensures memory { IsOkUnless result memory_fault }
+    {
+        match special {
+            Special::Category => Ok(Some(copied(self.alloc, self.category(place))?)),
+            Special::File => Ok(Some(copied(self.alloc, self.file.as_bytes())?)),
+            Special::AllTags => self.all_tags_value(place),
+            Special::Own(value) => self.own_value(place, value),
+        }
+    }
+
+    // All tags of a heading as they are written.
+    fn all_tags_value(&self, place: usize) -> Result<Option<Bytes>, Fault>
+        requires { place < length self.now.entries }
+        ensures value { IfOk result (λ value. value ≡ special_value self.now place AllTags) }
+        ensures memory { IsOkUnless result memory_fault }
+    {
+        if self.outline.entry(place).head.is_none() {
+            return Ok(None);
+        }
+        tags_value(self.alloc, &self.all_tags(place)?)
+    }
+
+    // What a heading's own lines say.
+    fn own_value(&self, place: usize, value: HeadingValue) -> Result<Option<Bytes>, Fault>
+        requires { place < length self.now.entries }
+        ensures value { IfOk result (λ found. found ≡ special_value self.now place (Own value)) }
+        ensures memory { IsOkUnless result memory_fault }
+    {
+        let entry = self.outline.entry(place);
+        match &entry.head {
+            Some(head) => heading_value(self.alloc, self.settings, entry, head, value),
+            None => Ok(None),
+        }
+    }
+}

@@ -1,0 +1,12 @@
+//! Laws of inheritance. Each is a function without parameters whose contract is the law.
+ghost use Rattle.org_inherit.specs.Laws.{HiddenIsInherited, TagsAreOnce};
+
+/// What has a hidden ancestor is hidden.
+pub fn hidden_is_inherited()
+    ensures { HiddenIsInherited }
+{}
+
+/// No tag stands twice among all tags of an entry.
+pub fn tags_are_once()
+    ensures { TagsAreOnce }
+{}

@@ -1,0 +1,21 @@
+//! What the outline of a file says of a heading beyond its own lines: tags, values, category, and whether it is hidden.
+//!
+//! Each call on an `Inherit` answers what its definition gives of the entries of one file, the file's settings and name,
+//! and the names whose values are inherited. Nothing is changed by any call.
+#![tactic(auto)]
+
+mod category;
+mod first_tags;
+mod heading;
+mod hidden;
+mod inherit;
+mod inherits;
+pub mod laws;
+mod special;
+mod tags;
+mod values;
+
+pub use category::category_of;
+pub use inherit::Inherit;
+pub use inherits::Inherits;
+pub use tags::tags_text;

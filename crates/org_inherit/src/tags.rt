@@ -1,0 +1,106 @@
+//! Tags of a heading.
+ghost use Rattle.std.specs.Prelude.{◌≡◌, ◌<◌, ◌++◌, length, fold, map, IfOk, OnOk, IsOkUnless};
+ghost use Rattle.std.specs.List.{flat_map};
+ghost use Rattle.org_base.specs.Codes.{memory_fault};
+ghost use Rattle.org_head.specs.Spans.{part_of};
+ghost use Rattle.org_inherit.specs.Seen.{AreSeen};
+ghost use Rattle.org_inherit.specs.Tags.{own_tags, own_tags_at, lineage, with_tag, firsts, tags_text, tags_value, with_shown};
+
+use crate::first_tags::FirstTags;
+use org_base::{Bytes, Fault, Span, Texts};
+use org_entry::Entry;
+use org_outline::Outline;
+use std::alloc::Global;
+
+// Adds those of an entry's own tags that aren't there.
+fn add_own(tags: &mut FirstTags, entry: &Entry) -> Result<(), Fault>
+    requires { AreSeen tags.old.seen.keys tags.old.tags }
+    ensures tags { OnOk result (tags.new.tags ≡ fold with_tag tags.old.tags (own_tags entry.now)) }
+    ensures seen { OnOk result (AreSeen tags.new.seen.keys tags.new.tags) }
+    ensures memory { IsOkUnless result memory_fault }
+{
+    match &entry.head {
+        Some(head) => tags.add_parts(entry, head.tags.as_slice()),
+        None => Ok(()),
+    }
+}
+
+// The ancestors from the outermost, then the entry itself.
+fn lineage(alloc: Global, outline: &Outline, place: usize) -> Result<Vec<usize>, Fault>
+    requires { place < length outline.now }
+    ensures value { IfOk result (λ line. line.items ≡ lineage outline.now place) }
+    ensures memory { IsOkUnless result memory_fault }
+{
+    let mut line: Vec<usize> = outline.ancestors(place).collect(alloc)?;
+    line.reverse();
+    line.push(place)?;
+    Ok(line)
+}
+
+/// A file's tags, the tags of the entry's ancestors from the outermost and its own; of equal ones the first.
+pub(crate) fn all_tags(
+    alloc: Global,
+    file_tags: &Texts,
+    outline: &Outline,
+    place: usize,
+) -> Result<Texts, Fault>
+    requires { place < length outline.now }
+    ensures value { IfOk result (λ tags. tags ≡ firsts (file_tags.now ++ flat_map (own_tags_at outline.now) (lineage outline.now place))) }
+    ensures memory { IsOkUnless result memory_fault }
+{
+    let mut tags = FirstTags::new(alloc);
+    tags.add_all(file_tags)?;
+    for ancestor in &lineage(alloc, outline, place)? {
+        add_own(&mut tags, outline.entry(*ancestor))?;
+    }
+    Ok(tags.tags)
+}
+
+/// Parts of an entry's text, copied.
+pub(crate) fn parts(alloc: Global, entry: &Entry, spans: &[Span]) -> Result<Texts, Fault>
+    ensures value { IfOk result (λ parts. parts ≡ map (part_of entry.now.text) spans.now) }
+    ensures memory { IsOkUnless result memory_fault }
+{
+    let mut parts = Texts::new(alloc);
+    for span in spans {
+        parts.push(entry.part(*span))?;
+    }
+    Ok(parts)
+}
+
+/// Tags as they are written, `:a:b:`; no tags have no text. Want of memory is its only refusal.
+pub fn tags_text(alloc: Global, tags: &Texts) -> Result<Bytes, Fault>
+    ensures value { IfOk result (λ text. text ≡ tags_text tags.now) }
+    ensures memory { IsOkUnless result memory_fault }
+{
+    let mut text = Vec::new(alloc);
+    for place in 0..tags.count() {
+        push_tag(&mut text, tags.get(place))?;
+    }
+    Ok(Bytes::new(text))
+}
+
+// Appends a tag and a colon behind it, and before the first tag one more.
+fn push_tag(text: &mut Vec<u8>, tag: &[u8]) -> Result<(), Fault>
+    ensures ok { OnOk result (text.new.items ≡ with_shown text.old.items tag.now) }
+    ensures memory { IsOkUnless result memory_fault }
+{
+    if text.is_empty() {
+        text.push(b':')?;
+    }
+    text.extend_from_slice(tag)?;
+    text.push(b':')?;
+    Ok(())
+}
+
+/// The text of tags; None where there are none.
+pub(crate) fn tags_value(alloc: Global, tags: &Texts) -> Result<Option<Bytes>, Fault>
+    ensures value { IfOk result (λ value. value ≡ tags_value tags.now) }
+    ensures memory { IsOkUnless result memory_fault }
+{
+    if tags.count() == 0 {
+        return Ok(None);
+    }
+    let text = tags_text(alloc, tags)?;
+    Ok(Some(text))
+}

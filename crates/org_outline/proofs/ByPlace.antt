@@ -1,0 +1,51 @@
+-- Tables by an entry's place.
+use Rattle.std.proofs.Common.{◌≡◌, ℕ, ◌+◌, ◌<◌, ◌≤◌, List, [], ◌∷◌, ◌++◌, Option, map, length, get_or, take, drop, refl, sym, ap, ◌∙◌, arith}
+use Rattle.std.specs.List.{range_with_len, splice}
+use Rattle.std.proofs.lemmas.List.{length-map, take-map, drop-map, append_assoc}
+use Rattle.std.proofs.lemmas.List.FromFn.{length-map-range_with_len, get_or-map-range_with_len}
+use Rattle.org_entry.specs.declared.entry.Entry.{Entry}
+use Rattle.org_outline.specs.Tree.{parent, end_of}
+use Rattle.org_outline.specs.Levels.{level_of, levels}
+use Rattle.org_outline.specs.Shared.{HasTables}
+use Rattle.org_outline.proofs.Ends.{end_is}
+
+pub table_length : {X : Type 0} (f : ℕ → X) (xs : List X) (n : ℕ) → xs ≡ map f (range_with_len 0 n) → length xs ≡ n
+table_length f xs n e = ap length e ∙ length-map-range_with_len f 0 n
+
+pub table_at : {X : Type 0} (f : ℕ → X) (xs : List X) (n i : ℕ) (d : X) → xs ≡ map f (range_with_len 0 n) → i < n → get_or xs i d ≡ f i
+table_at f xs n i d e h = ap (λ v. get_or v i d) e ∙ get_or-map-range_with_len f 0 n i i d h (omega arith)
+
+pub map_twice : {X Y Z : Type 0} (f : X → Y) (g : Y → Z) (xs : List X) → map g (map f xs) ≡ map (λ x. g (f x)) xs
+map_twice f g [] = refl
+map_twice f g (x ∷ xs) = ap (λ v. g (f x) ∷ v) (map_twice f g xs)
+
+pub tables_are : {R : Type 0} (v : R → Entry) (rs : List R) (ls ps : List (Option ℕ)) (es : List ℕ) →
+    ls ≡ map (λ r. level_of (v r)) rs →
+    ps ≡ map (parent ls) (range_with_len 0 (length ls)) →
+    es ≡ map (end_of ls) (range_with_len 0 (length ls)) →
+    HasTables (map v rs) ps es
+tables_are v rs ls ps es a b d =
+    let e : levels (map v rs) ≡ ls = map_twice v level_of rs ∙ sym a in
+    let n : length (map v rs) ≡ length ls = sym (length-map (map v rs) level_of) ∙ ap length e in
+    record { parents_are = rw (e, n) b; ends_are = rw (e, n) d }
+
+-- a list made in three steps
+pub three_steps : {R X : Type 0} (v : R → X) (rs : List R) (first end : ℕ) (a b c new : List R) (old fresh : List X) →
+    map v rs ≡ old →
+    a ≡ [] →
+    map v b ≡ map v a ++ map v (take first rs) →
+    map v c ≡ map v b ++ fresh →
+    map v new ≡ map v c ++ map v (drop end rs) →
+    map v new ≡ splice old first end fresh
+three_steps v rs first end a b c new old fresh o e f g h =
+    let p : map v (take first rs) ≡ take first old = sym (take-map v first rs) ∙ ap (take first) o in
+    let q : map v (drop end rs) ≡ drop end old = sym (drop-map v end rs) ∙ ap (drop end) o in
+    let x : map v a ≡ [] = ap (map v) e in
+    h ∙ (rw (g, f, x, p, q) (append_assoc (take first old) fresh (drop end old)))
+
+-- the end of an entry is behind it and at most the number of entries
+pub end_after : (es : List Entry) (i : ℕ) → i < length es → i < end_of (levels es) i
+end_after es i h = omega (arith, (end_is (levels es) i (omega (arith, h, length-map es level_of))).from)
+
+pub end_inside : (es : List Entry) (i : ℕ) → i < length es → end_of (levels es) i ≤ length es
+end_inside es i h = omega (arith, (end_is (levels es) i (omega (arith, h, length-map es level_of))).within, length-map es level_of)

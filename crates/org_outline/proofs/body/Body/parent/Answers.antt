@@ -1,0 +1,23 @@
+use Rattle.std.proofs.Common.{length, ap, ◌∙◌, arith}
+use Rattle.org_outline.specs.Tree.{parent}
+use Rattle.org_outline.specs.Levels.{levels}
+use Rattle.org_outline.proofs.ByPlace.{table_length, table_at}
+use Rattle.org_outline.proofs.body.Body.parent.Goals as goal
+
+pub index-requires : goal.index-requires
+index-requires c =
+    let n = ap length c.self.view_is in
+    let t = c.self.invariant.parents_are in
+    let l = table_length _ _ _ t in
+    omega (arith, n, l, c.requires)
+
+pub returns : goal.returns
+returns c =
+    let n = ap length c.self.view_is in
+    let h = c.requires in
+    record {
+      value =
+          c.index.ensures
+          ∙ table_at _ _ _ c.args.place c.index.result.now c.self.invariant.parents_are (omega (arith, n, h))
+          ∙ ap (λ v. parent (levels v) c.args.place) c.self.view_is;
+    }

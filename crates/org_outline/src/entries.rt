@@ -1,0 +1,64 @@
+//! Entries that are to be put into an outline.
+ghost use Rattle.std.specs.Prelude.{◌≡◌, [], ◌++◌, ◌∷◌, length, map, IfErr, OnOk, OnErr};
+
+use org_entry::Entry;
+use std::alloc::{AllocFailed, Global};
+use std::marker::Model;
+use std::rc::Rc;
+
+/// Entries that are to be put into an outline, in order.
+#[derive(Drop)]
+pub struct Entries {
+    alloc: Global,
+    list: Vec<Rc<Entry>>,
+}
+
+impl Model for Entries {
+    ghost use Rattle.std.specs.Prelude.{List, map};
+    ghost use Rattle.org_entry.specs.declared.entry.Entry.{Entry};
+
+    ghost Value = { List Entry };
+
+    ghost view = { λ s. map (λ e. e.value) s.list.items };
+}
+
+impl Entries {
+    /// No entries.
+    pub fn new(alloc: Global) -> Entries
+        ensures value { result ≡ [] }
+    {
+        Entries {
+            alloc,
+            list: Vec::new(alloc),
+        }
+    }
+
+    /// Puts an entry at the end. Want of memory is the only refusal: it hands the entry back, and the entries are as
+    /// before.
+    pub fn push(&mut self, entry: Entry) -> Result<(), AllocFailed<Entry>>
+        ensures ok { OnOk result (self.new ≡ self.old ++ entry ∷ []) }
+        ensures err { OnErr result (self.new ≡ self.old) }
+        ensures back { IfErr result (λ refused. refused.value ≡ entry) }
+    {
+        if self.list.reserve(1).is_err() {
+            return Err(AllocFailed { value: entry });
+        }
+        let shared = Rc::new(self.alloc, entry)?;
+        let _ = self.list.push(shared);
+        Ok(())
+    }
+
+    /// How many entries there are.
+    pub fn count(&self) -> usize
+        ensures value { result ≡ length self.now }
+    {
+        self.list.len()
+    }
+
+    // The entries, to be shared.
+    pub(crate) fn as_slice(&self) -> &[Rc<Entry>]
+        ensures value { map (λ e. e.value) result.now ≡ self.now }
+    {
+        self.list.as_slice()
+    }
+}

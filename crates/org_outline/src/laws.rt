@@ -1,0 +1,45 @@
+//! Laws of the tree. Each is a function without parameters whose contract is the law.
+ghost use Rattle.org_outline.specs.Laws.{AncestorsAreParentsUp, AncestorsFall, AncestorsOfAncestors, EndIsNotBelow, OthersStandAlone, ParentIsNearest, SubtreeIsWhatIsBelow, SubtreesNest};
+
+/// The parent is the nearest earlier heading of a smaller level, and missing exactly where there is no such heading.
+pub fn parent_is_nearest()
+    ensures { ParentIsNearest }
+{}
+
+/// The ancestors are the parent, if there is one, and its ancestors.
+#[tactic(auto, using(crate::proofs::Chain::ancestors_step))]
+pub fn ancestors_are_parents_up()
+    ensures { AncestorsAreParentsUp }
+{}
+
+/// Ancestors stand earlier and have smaller levels.
+pub fn ancestors_fall()
+    ensures { AncestorsFall }
+{}
+
+/// An ancestor of an ancestor is an ancestor.
+#[tactic(auto, using(crate::proofs::Below::ancestors_of_ancestors))]
+pub fn ancestors_of_ancestors()
+    ensures { AncestorsOfAncestors }
+{}
+
+/// The entries below a heading are the headings behind it up to its subtree's end.
+pub fn subtree_is_what_is_below()
+    ensures { SubtreeIsWhatIsBelow }
+{}
+
+/// A subtree ends at a heading that isn't below its heading.
+pub fn end_is_not_below()
+    ensures { EndIsNotBelow }
+{}
+
+/// Two subtrees nest or are apart.
+#[tactic(auto, using(crate::proofs::Below::subtrees_nest))]
+pub fn subtrees_nest()
+    ensures { SubtreesNest }
+{}
+
+/// An entry that is no heading has no parent, and its end is right behind it.
+pub fn others_stand_alone()
+    ensures { OthersStandAlone }
+{}

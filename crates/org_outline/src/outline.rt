@@ -1,0 +1,163 @@
+//! Entries of one text with the tree of their headings.
+ghost use Rattle.std.specs.Prelude.{◌≡◌, ◌<◌, ◌≤◌, [], length, slice_index_or, IfOk, IfErr, OnOk, OnErr, IsOkUnless};
+ghost use Rattle.std.specs.List.{splice};
+ghost use Rattle.org_base.specs.Codes.{memory_fault};
+ghost use Rattle.org_base.specs.declared.code.Code.TheVariants.{Memory};
+ghost use Rattle.org_outline.specs.Levels.{levels};
+ghost use Rattle.org_outline.specs.Tree.{parent, end_of, ancestors};
+
+use crate::ancestors::Ancestors;
+use crate::body::Body;
+use crate::entries::Entries;
+use org_base::{Code, Fault};
+use org_entry::Entry;
+use std::alloc::{AllocError, Global};
+use std::marker::Model;
+use std::ops::Range;
+use std::rc::Rc;
+
+/// The entries of one text in order, with the tree that the levels of their heads give (Org Syntax, "Headings and
+/// Sections"). Places count from 0. An entry without head is no heading: it has no parent and nothing below it.
+#[derive(Drop)]
+pub struct Outline {
+    alloc: Global,
+    // None has no entries, so an empty outline takes no memory.
+    body: Option<Rc<Body>>,
+}
+
+impl Model for Outline {
+    ghost use Rattle.std.specs.Prelude.{List};
+    ghost use Rattle.org_entry.specs.declared.entry.Entry.{Entry};
+
+    ghost Value = { List Entry };
+
+    ghost use Rattle.org_outline.specs.Bodies.{held};
+
+    ghost view = { λ s. held s.body };
+}
+
+/// Want of memory, with the entries that weren't put in.
+#[derive(Drop)]
+pub struct Refused {
+    pub entries: Entries,
+}
+
+impl Refused {
+    /// The refusal that a reply shows.
+    pub fn fault(&self) -> Fault
+        ensures value { result ≡ memory_fault }
+    {
+        Fault::Plain(Code::Memory)
+    }
+}
+
+impl Outline {
+    /// An outline without entries.
+    pub fn new(alloc: Global) -> Outline
+        ensures value { result ≡ [] }
+    {
+        Outline { alloc, body: None }
+    }
+
+    /// How many entries there are.
+    pub fn count(&self) -> usize
+        ensures value { result ≡ length self.now }
+    {
+        match &self.body {
+            None => 0,
+            Some(body) => body.count(),
+        }
+    }
+
+    /// The entry at a place.
+    pub fn entry(&self, place: usize) -> &Entry
+        requires { place < length self.now }
+        ensures value { result.now ≡ slice_index_or self.now place result.now }
+    {
+        match &self.body {
+            None => unreachable!(),
+            Some(body) => body.entry(place),
+        }
+    }
+
+    /// The place of the parent: the nearest earlier heading of a smaller level, if there is one.
+    pub fn parent(&self, place: usize) -> Option<usize>
+        requires { place < length self.now }
+        ensures value { result ≡ parent (levels self.now) place }
+    {
+        match &self.body {
+            None => None,
+            Some(body) => body.parent(place),
+        }
+    }
+
+    /// The places of the ancestors, the nearest first: the parent, its parent and so on.
+    pub fn ancestors(&self, place: usize) -> Ancestors<'_>
+        requires { place < length self.now }
+        ensures value { result ≡ ancestors (levels self.now) place }
+    {
+        Ancestors::of(self, place)
+    }
+
+    /// Where the subtree ends: the place of the first later heading that isn't below the entry, else the number of
+    /// entries. That of an entry without head ends right behind it.
+    pub fn end_of(&self, place: usize) -> usize
+        requires { place < length self.now }
+        ensures value { result ≡ end_of (levels self.now) place }
+        ensures behind { place < result }
+        ensures within { result ≤ length self.now }
+    {
+        match &self.body {
+            None => 0,
+            Some(body) => body.end_of(place),
+        }
+    }
+
+    /// An equal outline, which later changes of this one don't reach, as changes of it don't reach this one. It takes
+    /// the same time whatever the number of entries. Want of memory is its only refusal.
+    pub fn share(&self) -> Result<Outline, Fault>
+        ensures value { IfOk result (λ outline. outline ≡ self.now) }
+        ensures memory { IsOkUnless result memory_fault }
+    {
+        let body = match &self.body {
+            None => None,
+            Some(body) => Some(body.clone()?),
+        };
+        Ok(Outline {
+            alloc: self.alloc,
+            body,
+        })
+    }
+
+    /// Puts entries in the place of those in the range. Want of memory is the only refusal: it hands the entries back,
+    /// and the outline is as before. It takes a pass over all entries.
+    pub fn replace(&mut self, range: Range<usize>, entries: Entries) -> Result<(), Refused>
+        requires order { range.start ≤ range.end }
+        requires within { range.end ≤ length self.old }
+        ensures ok { OnOk result (self.new ≡ splice self.old range.start range.end entries) }
+        ensures err { OnErr result (self.new ≡ self.old) }
+        ensures back { IfErr result (λ refused. refused.entries ≡ entries) }
+    {
+        match self.replaced(range, &entries) {
+            Ok(body) => {
+                self.body = Some(body);
+                Ok(())
+            }
+            Err(_) => Err(Refused { entries }),
+        }
+    }
+
+    // The outline's entries with others in the place of those in the range.
+    fn replaced(&self, range: Range<usize>, entries: &Entries) -> Result<Rc<Body>, AllocError>
+        requires order { range.start ≤ range.end }
+        requires within { range.end ≤ length self.now }
+        ensures value { IfOk result (λ b. b.value ≡ splice self.now range.start range.end entries.now) }
+    {
+        let alloc = self.alloc;
+        let body = match &self.body {
+            None => Body::of_entries(alloc, entries.as_slice())?,
+            Some(body) => body.replaced(alloc, range, entries.as_slice())?,
+        };
+        Ok(Rc::new(alloc, body)?)
+    }
+}

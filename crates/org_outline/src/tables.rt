@@ -1,0 +1,100 @@
+//! The parents and the subtree ends of all entries, from their levels. Each table is made in one pass that jumps along
+//! what it holds already, so that it takes time linear in the entries.
+ghost use Rattle.std.specs.Prelude.{◌≡◌, ℕ, ◌<◌, ◌^◌, length, map, slice_index, slice_index_or, IfOk, None};
+ghost use Rattle.std.specs.List.{range_with_len};
+ghost use Rattle.org_outline.specs.Places.{behind};
+ghost use Rattle.org_outline.specs.Tree.{parent, end_of, ends};
+
+use std::alloc::{AllocError, Global};
+
+// How many entries there are up to a place, with it; 0 where there is no place.
+fn behind(place: Option<usize>) -> usize
+    requires { behind place < 2 ^ 64 }
+    ensures value { result ≡ behind place }
+{
+    match place {
+        None => 0,
+        Some(place) => place + 1,
+    }
+}
+
+// The parent of an entry, from the parents of those before it. An earlier heading whose level isn't smaller has nothing
+// between its parent and itself that has a smaller level, so the search goes on at its parent.
+fn parent_from(levels: &[Option<u32>], parents: &[Option<usize>], place: usize) -> Option<usize>
+    requires within { place < length levels.now }
+    requires count { length parents.now ≡ place }
+    requires before { (k : ℕ) → k < place → slice_index_or parents.now k None ≡ parent levels.now k }
+    ensures value { result ≡ parent levels.now place }
+{
+    let level = levels[place]?;
+    let mut rest = place;
+    while rest > 0 {
+        let candidate = rest - 1;
+        match levels[candidate] {
+            None => rest = candidate,
+            Some(other) => {
+                if other < level {
+                    return Some(candidate);
+                }
+                rest = behind(parents[candidate]);
+            }
+        }
+    }
+    None
+}
+
+// The parents of all entries.
+pub(crate) fn parent_table(
+    alloc: Global,
+    levels: &[Option<u32>],
+) -> Result<Vec<Option<usize>>, AllocError>
+    ensures value { IfOk result (λ v. v.items ≡ map (parent levels.now) (range_with_len 0 (length levels.now))) }
+{
+    let mut parents = Vec::new(alloc);
+    for place in 0..levels.len() {
+        parents.push(parent_from(levels, &parents, place))?;
+    }
+    Ok(parents)
+}
+
+// Whether what stands later ends the subtree of an entry, by their levels.
+fn ends_subtree(level: Option<u32>, later: Option<u32>) -> bool
+    ensures value { result ≡ ends level later }
+{
+    match (level, later) {
+        (None, _) => true,
+        (Some(_), None) => false,
+        (Some(own), Some(other)) => other <= own,
+    }
+}
+
+// Where the subtree of an entry ends, from the subtree ends of those behind it. With an entry its whole subtree is below,
+// so the search goes on at its end.
+fn end_from(levels: &[Option<u32>], all_ends: &[usize], place: usize) -> usize
+    requires within { place < length levels.now }
+    requires count { length all_ends.now ≡ length levels.now }
+    requires later { (k : ℕ) → place < k → k < length levels.now → slice_index all_ends.now k ≡ end_of levels.now k }
+    ensures value { result ≡ end_of levels.now place }
+{
+    let mut end = place + 1;
+    while end < levels.len() {
+        if ends_subtree(levels[place], levels[end]) {
+            return end;
+        }
+        end = all_ends[end];
+    }
+    end
+}
+
+// The subtree ends of all entries.
+pub(crate) fn end_table(alloc: Global, levels: &[Option<u32>]) -> Result<Vec<usize>, AllocError>
+    ensures value { IfOk result (λ v. v.items ≡ map (end_of levels.now) (range_with_len 0 (length levels.now))) }
+{
+    let mut all_ends = vec![in alloc; 0; levels.len()]?;
+    let mut place = levels.len();
+    while place > 0 {
+        place -= 1;
+        all_ends[place] = end_from(levels, &all_ends, place);
+    }
+    Ok(all_ends)
+}
