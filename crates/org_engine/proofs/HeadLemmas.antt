@@ -1,6 +1,6 @@
 -- The heads of a file's entries are those of their heading lines.
-use Rattle.std.proofs.Common.{◌≡◌, ◌∙◌, ℕ, List, [], ◌∷◌, zero, suc, map, sym, ap, subst}
-use Rattle.std.specs.Prelude.{Some, IfSome, slice_get}
+use Rattle.std.proofs.Common.{◌≡◌, ℕ, List, [], ◌∷◌, zero, suc, map, sym, subst}
+use Rattle.std.specs.Prelude.{IfSome}
 use Rattle.org_class.specs.Sections.{sections}
 use Rattle.org_class.specs.Settings.{FileSettings}
 use Rattle.org_entry.specs.Entry.{entry_of, heading_line}

@@ -1,13 +1,15 @@
 -- The laws of inheritance.
-use Rattle.std.proofs.Common.{◌≡◌, ℕ, zero, suc, ◌<◌, ◌≤◌, Bool, true, false, ◌||◌, ◌==◌, ◌++◌, Option, Some, None, List, [], ◌∷◌, length, slice_get, fold, refl, sym, ap, ◌∙◌, ◌⊎◌, inl, inr, arith, true≢false}
+use Rattle.std.proofs.Common.{◌≡◌, ℕ, zero, suc, ◌≤◌, Bool, true, false, ◌||◌, ◌==◌, ◌++◌, Option, Some, None, List, [], ◌∷◌, length, slice_get, fold, reverse, refl, sym, ap, ◌∙◌, ◌⊎◌, inl, inr, arith, true≢false}
 use Rattle.std.specs.Prelude.{bytes_eq}
 use Rattle.std.specs.List.{list_any, flat_map}
 use Rattle.std.proofs.lemmas.Bool.{cases_Bool, eqb-true}
+use Rattle.std.proofs.lemmas.List.{reverse-append}
+use Rattle.std.proofs.lemmas.List.Folds.{list_any-append}
 use Rattle.std.proofs.lemmas.Slice.Eq.{bytes_eq-Decides}
 use Rattle.org_inherit.specs.Hidden.{hides_at}
-use Rattle.org_inherit.specs.Laws.{HiddenIsInherited, TagsAreOnce}
+use Rattle.org_inherit.specs.Laws.{HiddenIsInherited, names_tag, TagsAreInherited, TagsAreOnce}
 use Rattle.org_inherit.specs.Tags.{with_tag, own_tags_at, lineage}
-use Rattle.org_inherit.proofs.TagLemmas.{tag_added, tag_left}
+use Rattle.org_inherit.proofs.TagLemmas.{tag_added, tag_left, seen_more}
 use Rattle.org_outline.proofs.Chain.{chain_steps, parent_earlier}
 use Rattle.org_outline.specs.Levels.{levels}
 use Rattle.org_outline.specs.Tree.{parent, chain, ancestors}
@@ -44,6 +46,55 @@ any_above p ls (suc n) i j l h g =
 pub hidden_is_inherited : HiddenIsInherited
 hidden_is_inherited es i j h g =
     or_right (hides_at es i) (list_any (hides_at es) (ancestors (levels es) i)) (any_above (hides_at es) (levels es) i i j (omega arith) h g)
+
+or_none : (a : Bool) → a ≡ (a || false)
+or_none true = refl
+or_none false = refl
+
+or_turned : (a b c : Bool) → ((b || a) || c) ≡ (a || (b || c))
+or_turned true true c = refl
+or_turned true false c = refl
+or_turned false true c = refl
+or_turned false false c = refl
+
+or_last : (a b : Bool) → (a || (b || false)) ≡ (b || a)
+or_last true true = refl
+or_last true false = refl
+or_last false true = refl
+or_last false false = refl
+
+-- a tag is among tags and those that were added
+any_added : (more xs : List (List ℕ)) (tag : List ℕ) → list_any (bytes_eq tag) (fold with_tag xs more) ≡ (list_any (bytes_eq tag) xs || list_any (bytes_eq tag) more)
+any_added [] xs tag = or_none (list_any (bytes_eq tag) xs)
+any_added (x ∷ more) xs tag =
+    any_added more (with_tag xs x) tag
+    ∙ ap (λ b. b || list_any (bytes_eq tag) more) (sym (seen_more xs x (λ q. list_any (bytes_eq q) xs) (λ q. bytes_eq q x || list_any (bytes_eq q) xs) (λ q. refl) (λ q. refl) tag))
+    ∙ or_turned (list_any (bytes_eq tag) xs) (bytes_eq tag x) (list_any (bytes_eq tag) more)
+
+any_joined : (p : List ℕ → Bool) (f : ℕ → List (List ℕ)) (js : List ℕ) → list_any p (flat_map f js) ≡ list_any (λ j. list_any p (f j)) js
+any_joined p f [] = refl
+any_joined p f (j ∷ js) = list_any-append p (f j) (flat_map f js) ∙ ap (λ b. list_any p (f j) || b) (any_joined p f js)
+
+any_reversed : (p : ℕ → Bool) (xs : List ℕ) → list_any p (reverse xs) ≡ list_any p xs
+any_reversed p [] = refl
+any_reversed p (x ∷ xs) =
+    ap (list_any p) (reverse-append (x ∷ []) xs)
+    ∙ list_any-append p (reverse xs) (x ∷ [])
+    ∙ or_last (list_any p (reverse xs)) (p x)
+    ∙ ap (λ b. p x || b) (any_reversed p xs)
+
+pub tags_are_inherited : TagsAreInherited
+tags_are_inherited scope i tag =
+    let es = scope.entries in
+    let file = scope.settings.file_tags in
+    let above : List ℕ = ancestors (levels es) i in
+    any_added (file ++ flat_map (own_tags_at es) (lineage es i)) [] tag
+    ∙ list_any-append (bytes_eq tag) file (flat_map (own_tags_at es) (lineage es i))
+    ∙ ap (λ b. list_any (bytes_eq tag) file || b)
+    (any_joined (bytes_eq tag) (own_tags_at es) (lineage es i)
+    ∙ list_any-append (names_tag es tag) (reverse above) (i ∷ [])
+    ∙ or_last (list_any (names_tag es tag) (reverse above)) (names_tag es tag i)
+    ∙ ap (λ b. names_tag es tag i || b) (any_reversed (names_tag es tag) above))
 
 -- no text stands twice
 abbrev AreOnce : List (List ℕ) → Type 0

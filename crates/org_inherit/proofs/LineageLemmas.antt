@@ -1,5 +1,5 @@
 -- What an entry has by itself and what by its parent.
-use Rattle.std.proofs.Common.{◌≡◌, ℕ, ◌+◌, zero, suc, ◌-◌, ◌++◌, ◌<◌, ◌≤◌, fold, reverse, take, All, true, false, ◌||◌, Option, Some, None, List, [], ◌∷◌, length, map, get_or, refl, sym, ap, ◌∙◌, arith}
+use Rattle.std.proofs.Common.{◌≡◌, ℕ, ◌+◌, zero, suc, ◌-◌, ◌++◌, ◌<◌, ◌≤◌, fold, reverse, take, All, Bool, false, ◌||◌, Option, Some, None, List, [], ◌∷◌, length, map, get_or, refl, sym, ap, ◌∙◌, arith}
 use Rattle.std.specs.List.{list_any, range_with_len, flat_map}
 use Rattle.std.proofs.lemmas.List.FromFn.{get_or-map-range_with_len}
 use Rattle.std.proofs.lemmas.List.Elements.{All-nil, All-cons, All-get_or, All-from_get_or, All-push}
@@ -10,6 +10,7 @@ use Rattle.org_entry.specs.declared.entry.Entry.{Entry}
 use Rattle.org_inherit.specs.Hidden.{hides, hides_at, is_hidden, of_parent}
 use Rattle.org_inherit.specs.Tags.{with_tag, own_tags, own_tags_at, lineage}
 use Rattle.org_inherit.specs.Values.{first_of, own_value}
+use Rattle.org_outline.proofs.ByPlace.{table_length, table_at}
 use Rattle.org_outline.proofs.Chain.{ancestors_step, parent_earlier}
 use Rattle.org_outline.specs.Levels.{levels}
 use Rattle.org_outline.specs.Places.{behind}
@@ -26,6 +27,13 @@ hidden_next es i = ap (λ v. hides_at es i || list_any (hides_at es) v) (ancesto
 pub table_of_parent : (es : List Entry) (i : ℕ) (p : Option ℕ) → behind p ≤ i → of_parent (map (is_hidden es) (range_with_len 0 i)) p ≡ list_any (hides_at es) (up_from (levels es) p)
 table_of_parent es i None h = refl
 table_of_parent es i (Some p) h = get_or-map-range_with_len (is_hidden es) 0 i p p false (omega arith) (omega arith)
+
+-- a table of all entries, at a place
+pub hidden_within : (es : List Entry) (table : List Bool) (i : ℕ) → table ≡ map (is_hidden es) (range_with_len 0 (length es)) → i < length es → i < length table
+hidden_within es table i e h = omega (arith, table_length (is_hidden es) table (length es) e)
+
+pub hidden_at : (es : List Entry) (table : List Bool) (i : ℕ) (d : Bool) → table ≡ map (is_hidden es) (range_with_len 0 (length es)) → i < length es → get_or table i d ≡ is_hidden es i
+hidden_at es table i d e h = table_at (is_hidden es) table (length es) i d e h
 
 -- ancestors stand earlier
 abbrev next : List (Option ℕ) → ℕ → Option ℕ → List ℕ

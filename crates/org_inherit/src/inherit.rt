@@ -88,6 +88,7 @@ impl<'a> Inherit<'a> {
 
     /// Whether the entry or an ancestor of it has the word `COMMENT` or the own tag `ARCHIVE` (Org manual 9.6, "Comment
     /// Lines", "Internal Archiving"). The file's tags hide nothing.
+    #[tactic(auto, using(crate::proofs::LineageLemmas::hidden_within, crate::proofs::LineageLemmas::hidden_at))]
     pub fn hidden(&self, place: usize) -> bool
         requires { place < length self.now.entries }
         ensures value { result ≡ is_hidden self.now.entries place }

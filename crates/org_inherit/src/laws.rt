@@ -1,9 +1,14 @@
 //! Laws of inheritance. Each is a function without parameters whose contract is the law.
-ghost use Rattle.org_inherit.specs.Laws.{HiddenIsInherited, TagsAreOnce};
+ghost use Rattle.org_inherit.specs.Laws.{HiddenIsInherited, TagsAreInherited, TagsAreOnce};
 
 /// What has a hidden ancestor is hidden.
 pub fn hidden_is_inherited()
     ensures { HiddenIsInherited }
+{}
+
+/// The tags of an entry are those of the file, its own and those of its ancestors.
+pub fn tags_are_inherited()
+    ensures { TagsAreInherited }
 {}
 
 /// No tag stands twice among all tags of an entry.

@@ -1,5 +1,5 @@
 -- Where memory is refused to a section, it and those before it were counted.
-use Rattle.std.proofs.Common.{◌≡◌, ◌<◌, ap, arith, length}
+use Rattle.std.proofs.Common.{ap, arith, length}
 use Rattle.std.proofs.lemmas.List.{length-map}
 use Rattle.org_class.specs.Sections.{bytes_in, sections}
 use Rattle.org_class.proofs.SettingLemmas.{one_counted}
