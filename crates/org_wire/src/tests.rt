@@ -232,11 +232,8 @@ fn commands_of_an_input(rt: HostRuntime) -> Result<(), Fail> {
     assert!(rt; matches!(second, Next::Refused(Fault::Plain(Code::Command))));
     let third = read_command(&mut input);
     assert!(rt; matches!(third, Next::Given(Command::Add(_, _))));
-    let Next::Given(Command::Inherit(names)) = read_command(&mut input) else {
-        return Err("no names".into());
-    };
-    assert_eq!(rt; names.count(), 2);
-    assert_eq!(rt; names.get(1), b"bc".as_slice());
+    let fourth = read_command(&mut input);
+    assert!(rt; matches!(fourth, Next::Given(Command::Inherit(_))));
     let last = read_command(&mut input);
     assert!(rt; matches!(last, Next::Ended));
     Ok(())
