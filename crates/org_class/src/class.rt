@@ -5,12 +5,13 @@ ghost use Rattle.org_base.specs.Codes.{memory_fault};
 ghost use Rattle.org_class.specs.Classes.{is_setting_class};
 
 use org_base::Fault;
+use smallvec::SmallVec;
 use std::alloc::Global;
 use std::marker::Model;
 
 /// The class of a line of a section (Org Syntax, "Headings", "Sections", "Planning", "Property Drawers", "Blocks",
 /// "Comments", "Keywords", "Clocks").
-#[derive(Clone, Copy, Debug, PartialEq, Eq)]
+#[derive(Clone, Copy, Debug, Default, PartialEq, Eq)]
 pub enum Class {
     /// The heading line, which is the first of its section.
     Heading,
@@ -35,13 +36,14 @@ pub enum Class {
     /// `#+END_X`, the last line of a block.
     BlockEnd,
     /// Any other line.
+    #[default]
     Plain,
 }
 
-/// The classes of a section's lines in order, seen as their list.
+/// The classes of a section's lines in order, seen as their list. Up to 16 of them need no memory.
 #[derive(Drop)]
 pub struct Classes {
-    classes: Vec<Class>,
+    classes: SmallVec<Class, 16>,
 }
 
 impl Model for Classes {
@@ -59,7 +61,7 @@ impl Classes {
         ensures value { result ≡ [] }
     {
         Classes {
-            classes: Vec::new(alloc),
+            classes: SmallVec::new(alloc),
         }
     }
 
@@ -90,7 +92,7 @@ impl Classes {
     pub fn has_setting(&self) -> bool
         ensures value { result ≡ list_any is_setting_class self.now }
     {
-        self.classes
+        self.as_slice()
             .iter()
             .any(|class| matches!(*class, Class::Setting))
     }

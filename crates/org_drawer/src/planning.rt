@@ -3,7 +3,7 @@ ghost use Rattle.std.specs.Prelude.{◌≡◌, ◌+◌, ◌<◌, ◌≤◌, ◌^
 ghost use Rattle.org_drawer.specs.Planning as spec;
 
 use org_base::Span;
-use org_stamp::{Pair, PlanningWord, Stamp, is_planning, next_pair};
+use org_stamp::{Pair, PlanningWord, Stamp, next_pair};
 
 /// What the planning line of a heading says (Org Syntax, "Planning"): for each keyword its last stamp, with the stamp's
 /// part of the line in bytes. A range counts as its first stamp.
@@ -20,15 +20,14 @@ pub fn read_planning(line: &[u8]) -> Option<Planning>
     ensures value { result ≡ spec.planning_of line.now }
     ensures inside { IfSome result (λ planning. spec.AreInside line.now planning) }
 {
-    if !is_planning(line) {
-        return None;
-    }
-    let mut planning = Planning {
+    let first = next_pair(line, 0)?;
+    let mut at = first.end;
+    let none = Planning {
         scheduled: None,
         deadline: None,
         closed: None,
     };
-    let mut at = 0;
+    let mut planning = with_pair(none, first);
     while let Some(pair) = next_pair(line, at) {
         at = pair.end;
         planning = with_pair(planning, pair);

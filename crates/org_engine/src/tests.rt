@@ -293,7 +293,7 @@ fn title(entry: &Entry) -> Option<&[u8]> {
 }
 
 fn deadline(entry: &Entry) -> Option<&[u8]> {
-    match &entry.planning {
+    match entry.planning.get() {
         Some(
             Planning {
                 deadline: Some((_, place)),
@@ -344,7 +344,7 @@ x [2024-02-26] <2024-02-27 Tue>
     let file = read(rt.alloc(), text)?;
     assert!(rt; file.outline.count() == 2);
     let front = file.outline.entry(0);
-    assert!(rt; front.head.is_none() && front.planning.is_none());
+    assert!(rt; front.head.is_none() && front.planning.get().is_none());
     assert!(rt; front.line().is_empty());
     assert!(rt; front.drawer.get(b"OWNER") == Some(b"ann".as_slice()));
     assert!(rt; stamps_stand_at(front, &[57]));

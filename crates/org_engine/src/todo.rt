@@ -11,7 +11,7 @@ ghost use Rattle.org_engine.specs.TodoList.{is_open, is_open_word, heading_row, 
 
 use crate::file::read_file;
 use crate::list::PriorityTexts;
-use crate::row::{category_column, head_text};
+use crate::row::Row;
 use crate::world::World;
 use org_base::{Bytes, Fault, Meter, Texts};
 use org_class::Settings;
@@ -66,17 +66,18 @@ fn gather(alloc: Global, texts: &mut PriorityTexts, inherit: &Inherit<'_>) -> Re
     ensures ok { OnOk result (texts.new ≡ gathered texts.old (scope_rows inherit.now)) }
     ensures memory { IsOkUnless result memory_fault }
 {
+    let mut row = Row::new(alloc);
     let outline = inherit.outline();
     for place in 0..outline.count() {
-        gather_entry(alloc, texts, inherit, place, outline.entry(place))?;
+        gather_entry(texts, &mut row, inherit, place, outline.entry(place))?;
     }
     Ok(())
 }
 
 // Adds the row of the entry at a place, if the list shows it.
 fn gather_entry(
-    alloc: Global,
     texts: &mut PriorityTexts,
+    row: &mut Row,
     inherit: &Inherit<'_>,
     place: usize,
     entry: &Entry,
@@ -87,15 +88,15 @@ fn gather_entry(
     ensures memory { IsOkUnless result memory_fault }
 {
     match &entry.head {
-        Some(head) => gather_heading(alloc, texts, inherit, place, entry.line(), head),
+        Some(head) => gather_heading(texts, row, inherit, place, entry.line(), head),
         None => Ok(()),
     }
 }
 
 // Adds the row of the heading at a place, of its line and its parts, if the list shows it.
 fn gather_heading(
-    alloc: Global,
     texts: &mut PriorityTexts,
+    row: &mut Row,
     inherit: &Inherit<'_>,
     place: usize,
     line: &[u8],
@@ -111,11 +112,10 @@ fn gather_heading(
     if !is_open(settings, line, head) || inherit.hidden(place) {
         return Ok(());
     }
-    let column = category_column(alloc, inherit.category(place))?;
     let tags = inherit.all_tags(place)?;
-    let text = head_text(alloc, line, head, &tags)?;
+    row.write(inherit.category(place), line, head, &tags)?;
     let priority = head.priority_number(line, settings);
-    texts.add(priority, column.as_slice(), text.as_slice())
+    texts.add(priority, row.column.as_slice(), row.text.as_slice())
 }
 
 // Whether a heading has a keyword that isn't done.

@@ -10,9 +10,10 @@ ghost use Rattle.org_head.specs.Head.{head_of};
 
 use crate::entry::Entry;
 use crate::lists::{Clocks, PlacedStamps};
+use crate::own::{OwnPlanning, OwnProperties};
 use org_base::{Bytes, Fault, Span, Texts};
 use org_class::{Class, Settings};
-use org_drawer::{Planning, read_clock, read_drawer, read_planning};
+use org_drawer::{Planning, read_clock, read_planning};
 use org_head::{Head, part, read_head};
 use org_stamp::Stamp;
 use std::alloc::Global;
@@ -24,7 +25,7 @@ pub(crate) struct Draft {
     alloc: Global,
     text: Vec<u8>,
     head: Option<Head>,
-    planning: Option<Planning>,
+    planning: OwnPlanning,
     nodes: Texts,
     stamps: PlacedStamps,
     clocks: Clocks,
@@ -47,7 +48,7 @@ impl Draft {
             alloc,
             text: Vec::new(alloc),
             head: None,
-            planning: None,
+            planning: OwnPlanning::none(),
             nodes: Texts::new(alloc),
             stamps: PlacedStamps::new(alloc),
             clocks: Clocks::new(alloc),
@@ -105,7 +106,7 @@ impl Draft {
         ensures memory { IsOkUnless result memory_fault }
     {
         self.text.extend_from_slice(line)?;
-        self.planning = planning_at(at, line);
+        self.planning = OwnPlanning::new(self.alloc, planning_at(at, line))?;
         Ok(())
     }
 
@@ -134,7 +135,7 @@ impl Draft {
             stamps,
             clocks,
         } = self;
-        let drawer = read_drawer(alloc, &nodes)?;
+        let drawer = OwnProperties::of_lines(alloc, &nodes)?;
         Ok(Entry {
             text: Bytes::new(text),
             head,

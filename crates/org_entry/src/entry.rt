@@ -5,8 +5,8 @@ ghost use Rattle.org_entry.specs.Entry.{heading_line};
 ghost use Rattle.org_head.specs.Spans.{part_of};
 
 use crate::lists::{Clocks, PlacedStamps};
+use crate::own::{OwnPlanning, OwnProperties};
 use org_base::{Bytes, Span};
-use org_drawer::{Drawer, Planning};
 use org_head::Head;
 
 /// What a section says (Org Syntax, "Sections"). All places count from the section's start, so that they stay true where
@@ -19,9 +19,9 @@ pub struct Entry {
     /// The parts of the heading line; None where the section has no heading.
     pub head: Option<Head>,
     /// What the planning line says.
-    pub planning: Option<Planning>,
+    pub planning: OwnPlanning,
     /// The heading's own properties.
-    pub drawer: Drawer,
+    pub drawer: OwnProperties,
     /// The active stamps of the title and of setting lines and plain lines.
     pub stamps: PlacedStamps,
     /// The clocks of clock lines.

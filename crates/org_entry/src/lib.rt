@@ -8,8 +8,10 @@ mod draft;
 mod entry;
 pub mod laws;
 mod lists;
+mod own;
 mod read;
 
 pub use entry::Entry;
 pub use lists::{Clocks, PlacedStamps};
+pub use own::{OwnPlanning, OwnProperties};
 pub use read::read_entry;

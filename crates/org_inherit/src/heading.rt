@@ -82,7 +82,7 @@ fn part_value(alloc: Global, entry: &Entry, part: Option<Span>) -> Result<Option
 fn stamp_span(entry: &Entry, word: PlanningWord) -> Option<Span>
     ensures value { result ≡ stamp_span word entry.now.planning }
 {
-    let planning = entry.planning.as_ref()?;
+    let planning = entry.planning.get()?;
     let stamp = match word {
         PlanningWord::Scheduled => &planning.scheduled,
         PlanningWord::Deadline => &planning.deadline,

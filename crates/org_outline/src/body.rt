@@ -1,12 +1,12 @@
 //! Entries with the tables of their parents and subtree ends.
-ghost use Rattle.std.specs.Prelude.{◌≡◌, ◌<◌, ◌≤◌, ◌++◌, length, map, slice_index_or, IfOk, OnOk};
+ghost use Rattle.std.specs.Prelude.{◌≡◌, ◌<◌, ◌≤◌, ◌++◌, length, map, slice_index_or, IfOk, IfErr, OnOk};
 ghost use Rattle.std.specs.List.{splice};
 ghost use Rattle.org_outline.specs.Levels.{level_of, levels};
 ghost use Rattle.org_outline.specs.Tree.{parent, end_of};
 
-use crate::tables::{end_table, parent_table};
+use crate::tables::Tables;
 use org_entry::Entry;
-use std::alloc::{AllocError, Global};
+use std::alloc::{AllocError, AllocFailed, Global};
 use std::marker::Model;
 use std::ops::Range;
 use std::rc::Rc;
@@ -15,8 +15,7 @@ use std::rc::Rc;
 #[derive(Drop)]
 pub(crate) struct Body {
     list: Vec<Rc<Entry>>,
-    parents: Vec<Option<usize>>,
-    ends: Vec<usize>,
+    tables: Tables,
 }
 
 impl Model for Body {
@@ -28,28 +27,7 @@ impl Model for Body {
 
     ghost view = { λ s. map (λ e. e.value) s.list.items };
 
-    ghost invariant = { λ s. HasTables (map (λ e. e.value) s.list.items) s.parents.items s.ends.items };
-}
-
-// The level of an entry; None where it is no heading.
-fn level_of(entry: &Entry) -> Option<u32>
-    ensures value { result ≡ level_of entry.now }
-{
-    match &entry.head {
-        None => None,
-        Some(head) => Some(head.level),
-    }
-}
-
-// The levels of entries.
-fn levels_of(alloc: Global, list: &[Rc<Entry>]) -> Result<Vec<Option<u32>>, AllocError>
-    ensures value { IfOk result (λ v. v.items ≡ map (λ e. level_of e.value) list.now) }
-{
-    let mut levels = Vec::new(alloc);
-    for entry in list {
-        levels.push(level_of(entry))?;
-    }
-    Ok(levels)
+    ghost invariant = { λ s. HasTables (map (λ e. e.value) s.list.items) s.tables.parents.items s.tables.ends.items };
 }
 
 // Puts more entries at the end of a list.
@@ -63,30 +41,28 @@ fn append(list: &mut Vec<Rc<Entry>>, more: &[Rc<Entry>]) -> Result<(), AllocErro
 }
 
 impl Body {
-    // The entries of a list.
-    fn of(alloc: Global, list: Vec<Rc<Entry>>) -> Result<Body, AllocError>
+    /// The entries of a list. Want of memory hands the list back.
+    pub(crate) fn new(
+        alloc: Global,
+        list: Vec<Rc<Entry>>,
+    ) -> Result<Body, AllocFailed<Vec<Rc<Entry>>>>
         ensures value { IfOk result (λ b. b ≡ map (λ e. e.value) list.items) }
+        ensures back { IfErr result (λ failed. map (λ e. e.value) failed.value.items ≡ map (λ e. e.value) list.items) }
     {
-        let levels = levels_of(alloc, &list)?;
-        let parents = parent_table(alloc, &levels)?;
-        let ends = end_table(alloc, &levels)?;
-        Ok(Body {
-            list,
-            parents,
-            ends,
-        })
+        match Tables::of(alloc, &list) {
+            Ok(tables) => Ok(Body { list, tables }),
+            Err(_) => Err(AllocFailed { value: list }),
+        }
     }
 
-    // These entries alone.
-    pub(crate) fn of_entries(alloc: Global, entries: &[Rc<Entry>]) -> Result<Body, AllocError>
-        ensures value { IfOk result (λ b. b ≡ map (λ e. e.value) entries.now) }
+    /// The list of the entries.
+    pub(crate) fn into_list(self) -> Vec<Rc<Entry>>
+        ensures value { map (λ e. e.value) result.items ≡ self }
     {
-        let mut list = Vec::new(alloc);
-        append(&mut list, entries)?;
-        Body::of(alloc, list)
+        self.list
     }
 
-    // These entries in the place of those in the range.
+    /// These entries in the place of those in the range.
     pub(crate) fn replaced(
         &self,
         alloc: Global,
@@ -101,7 +77,7 @@ impl Body {
         append(&mut list, &self.list[..range.start])?;
         append(&mut list, entries)?;
         append(&mut list, &self.list[range.end..])?;
-        Body::of(alloc, list)
+        Ok(Body::new(alloc, list)?)
     }
 
     // How many entries there are.
@@ -124,7 +100,7 @@ impl Body {
         requires { place < length self.now }
         ensures value { result ≡ parent (levels self.now) place }
     {
-        self.parents[place]
+        self.tables.parents[place]
     }
 
     // Where the subtree of the entry at a place ends.
@@ -134,6 +110,6 @@ impl Body {
         ensures behind { place < result }
         ensures within { result ≤ length self.now }
     {
-        self.ends[place]
+        self.tables.ends[place]
     }
 }

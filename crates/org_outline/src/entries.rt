@@ -55,6 +55,20 @@ impl Entries {
         self.list.len()
     }
 
+    // The entries of a list.
+    pub(crate) fn of_list(alloc: Global, list: Vec<Rc<Entry>>) -> Entries
+        ensures value { result ≡ map (λ e. e.value) list.items }
+    {
+        Entries { alloc, list }
+    }
+
+    // The list of the entries.
+    pub(crate) fn into_list(self) -> Vec<Rc<Entry>>
+        ensures value { map (λ e. e.value) result.items ≡ self }
+    {
+        self.list
+    }
+
     // The entries, to be shared.
     pub(crate) fn as_slice(&self) -> &[Rc<Entry>]
         ensures value { map (λ e. e.value) result.now ≡ self.now }

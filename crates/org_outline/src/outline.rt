@@ -1,5 +1,5 @@
 //! Entries of one text with the tree of their headings.
-ghost use Rattle.std.specs.Prelude.{◌≡◌, ◌<◌, ◌≤◌, [], length, slice_index_or, IfOk, IfErr, OnOk, OnErr, IsOkUnless};
+ghost use Rattle.std.specs.Prelude.{◌≡◌, ◌<◌, ◌≤◌, [], length, map, slice_index_or, IfOk, IfErr, OnOk, OnErr, IsOkUnless};
 ghost use Rattle.std.specs.List.{splice};
 ghost use Rattle.org_base.specs.Codes.{memory_fault};
 ghost use Rattle.org_base.specs.declared.code.Code.TheVariants.{Memory};
@@ -11,7 +11,7 @@ use crate::body::Body;
 use crate::entries::Entries;
 use org_base::{Code, Fault};
 use org_entry::Entry;
-use std::alloc::{AllocError, Global};
+use std::alloc::{AllocError, AllocFailed, Global};
 use std::marker::Model;
 use std::ops::Range;
 use std::rc::Rc;
@@ -138,7 +138,10 @@ impl Outline {
         ensures err { OnErr result (self.new ≡ self.old) }
         ensures back { IfErr result (λ refused. refused.entries ≡ entries) }
     {
-        match self.replaced(range, &entries) {
+        let Some(body) = &self.body else {
+            return self.fill(entries);
+        };
+        match shared_with(self.alloc, body, range, &entries) {
             Ok(body) => {
                 self.body = Some(body);
                 Ok(())
@@ -147,17 +150,53 @@ impl Outline {
         }
     }
 
-    // The outline's entries with others in the place of those in the range.
-    fn replaced(&self, range: Range<usize>, entries: &Entries) -> Result<Rc<Body>, AllocError>
-        requires order { range.start ≤ range.end }
-        requires within { range.end ≤ length self.now }
-        ensures value { IfOk result (λ b. b.value ≡ splice self.now range.start range.end entries.now) }
+    // Puts entries into an outline that has none.
+    fn fill(&mut self, entries: Entries) -> Result<(), Refused>
+        requires empty { self.old ≡ [] }
+        ensures ok { OnOk result (self.new ≡ entries) }
+        ensures err { OnErr result (self.new ≡ self.old) }
+        ensures back { IfErr result (λ refused. refused.entries ≡ entries) }
     {
-        let alloc = self.alloc;
-        let body = match &self.body {
-            None => Body::of_entries(alloc, entries.as_slice())?,
-            Some(body) => body.replaced(alloc, range, entries.as_slice())?,
-        };
-        Ok(Rc::new(alloc, body)?)
+        match shared(self.alloc, entries.into_list()) {
+            Ok(body) => {
+                self.body = Some(body);
+                Ok(())
+            }
+            Err(failed) => Err(Refused {
+                entries: Entries::of_list(self.alloc, failed.value),
+            }),
+        }
     }
+}
+
+// The body of a list, to be shared. Want of memory hands the list back.
+fn shared(
+    alloc: Global,
+    list: Vec<Rc<Entry>>,
+) -> Result<Rc<Body>, AllocFailed<Vec<Rc<Entry>>>>
+    ensures value { IfOk result (λ b. b.value ≡ map (λ e. e.value) list.items) }
+    ensures back { IfErr result (λ failed. map (λ e. e.value) failed.value.items ≡ map (λ e. e.value) list.items) }
+{
+    let body = Body::new(alloc, list)?;
+    match Rc::new(alloc, body) {
+        Ok(body) => Ok(body),
+        Err(failed) => Err(AllocFailed {
+            value: failed.value.into_list(),
+        }),
+    }
+}
+
+// A body's entries with others in the place of those in the range, to be shared.
+fn shared_with(
+    alloc: Global,
+    body: &Body,
+    range: Range<usize>,
+    entries: &Entries,
+) -> Result<Rc<Body>, AllocError>
+    requires order { range.start ≤ range.end }
+    requires within { range.end ≤ length body.now }
+    ensures value { IfOk result (λ b. b.value ≡ splice body.now range.start range.end entries.now) }
+{
+    let body = body.replaced(alloc, range, entries.as_slice())?;
+    Ok(Rc::new(alloc, body)?)
 }

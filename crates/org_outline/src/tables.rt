@@ -2,10 +2,54 @@
 //! what it holds already, so that it takes time linear in the entries.
 ghost use Rattle.std.specs.Prelude.{◌≡◌, ℕ, ◌<◌, ◌^◌, length, map, slice_index, slice_index_or, IfOk, None};
 ghost use Rattle.std.specs.List.{range_with_len};
+ghost use Rattle.org_outline.specs.Levels.{level_of};
 ghost use Rattle.org_outline.specs.Places.{behind};
+ghost use Rattle.org_outline.specs.Shared.{HasTables};
 ghost use Rattle.org_outline.specs.Tree.{parent, end_of, ends};
 
+use org_entry::Entry;
 use std::alloc::{AllocError, Global};
+use std::rc::Rc;
+
+/// The parents and the subtree ends of entries, by their places.
+#[derive(Drop)]
+pub(crate) struct Tables {
+    pub parents: Vec<Option<usize>>,
+    pub ends: Vec<usize>,
+}
+
+impl Tables {
+    /// Those of the entries of a list.
+    pub(crate) fn of(alloc: Global, list: &[Rc<Entry>]) -> Result<Tables, AllocError>
+        ensures value { IfOk result (λ t. HasTables (map (λ e. e.value) list.now) t.parents.items t.ends.items) }
+    {
+        let levels = levels_of(alloc, list)?;
+        let parents = parent_table(alloc, &levels)?;
+        let ends = end_table(alloc, &levels)?;
+        Ok(Tables { parents, ends })
+    }
+}
+
+// The level of an entry; None where it is no heading.
+fn level_of(entry: &Entry) -> Option<u32>
+    ensures value { result ≡ level_of entry.now }
+{
+    match &entry.head {
+        None => None,
+        Some(head) => Some(head.level),
+    }
+}
+
+// The levels of entries.
+fn levels_of(alloc: Global, list: &[Rc<Entry>]) -> Result<Vec<Option<u32>>, AllocError>
+    ensures value { IfOk result (λ v. v.items ≡ map (λ e. level_of e.value) list.now) }
+{
+    let mut levels = Vec::with_capacity(alloc, list.len())?;
+    for entry in list {
+        levels.push(level_of(entry))?;
+    }
+    Ok(levels)
+}
 
 // How many entries there are up to a place, with it; 0 where there is no place.
 fn behind(place: Option<usize>) -> usize
@@ -44,13 +88,13 @@ fn parent_from(levels: &[Option<u32>], parents: &[Option<usize>], place: usize) 
 }
 
 // The parents of all entries.
-pub(crate) fn parent_table(
+fn parent_table(
     alloc: Global,
     levels: &[Option<u32>],
 ) -> Result<Vec<Option<usize>>, AllocError>
     ensures value { IfOk result (λ v. v.items ≡ map (parent levels.now) (range_with_len 0 (length levels.now))) }
 {
-    let mut parents = Vec::new(alloc);
+    let mut parents = Vec::with_capacity(alloc, levels.len())?;
     for place in 0..levels.len() {
         parents.push(parent_from(levels, &parents, place))?;
     }
@@ -87,7 +131,7 @@ fn end_from(levels: &[Option<u32>], all_ends: &[usize], place: usize) -> usize
 }
 
 // The subtree ends of all entries.
-pub(crate) fn end_table(alloc: Global, levels: &[Option<u32>]) -> Result<Vec<usize>, AllocError>
+fn end_table(alloc: Global, levels: &[Option<u32>]) -> Result<Vec<usize>, AllocError>
     ensures value { IfOk result (λ v. v.items ≡ map (end_of levels.now) (range_with_len 0 (length levels.now))) }
 {
     let mut all_ends = vec![in alloc; 0; levels.len()]?;

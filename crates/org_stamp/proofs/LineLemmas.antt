@@ -5,7 +5,9 @@ use Rattle.std.specs.Prelude.{Option, Some, None, Bool, true, false, ◌==◌, i
 use Rattle.std.specs.Char.{is_ascii_digit}
 use Rattle.std.specs.Option.{option_map}
 use Rattle.std.specs.List.{position_or_len}
-use Rattle.std.proofs.lemmas.Bool.{cases_Bool}
+use Rattle.std.proofs.lemmas.Bool.{cases_Bool, false_from_ne_true, le-ltb}
+use Rattle.std.proofs.lemmas.List.Sums.{position_or_len_is}
+use Rattle.memchr.specs.Find.{NoneBefore, Nowhere, Passes, is_byte2}
 use Rattle.std.proofs.lemmas.List.{length-take-le, drop-drop, drop_all, get_or-drop}
 use Rattle.org_stamp.specs.declared.stamp.Found.{Found}
 use Rattle.org_stamp.specs.declared.stamp.Stamp.{Stamp}
@@ -124,3 +126,42 @@ pub no_digit_follows : (line : List ℕ) (at : ℕ) → is_ascii_digit (get_or l
 no_digit_follows line at other =
     let one : is_ascii_digit (get_or (drop at line) 1 0) ≡ false = ap is_ascii_digit (get_or-drop at line 1 0) ∙ other in
     ap (λ (o : Option (Stamp × ℕ)). option_map (λ found. ranged found.0 found.1 (drop found.1 (drop at line))) o) (no_single_by (drop at line) one)
+
+-- the first closing bracket, as a search finds it
+pub first_is : (bytes : List ℕ) (i : ℕ) → NoneBefore (Passes (is_byte2 62 93) bytes) 0 (length bytes) i × Passes (is_byte2 62 93) bytes i → i ≡ position_or_len is_close bytes
+first_is bytes i h = sym (position_or_len_is is_close bytes i 0 (omega (arith, h.0.high)) (λ k lt. false_from_ne_true _ (h.0.before k (omega arith) lt)) (λ lt. h.1))
+
+pub none_is : (bytes : List ℕ) → Nowhere (Passes (is_byte2 62 93) bytes) 0 (length bytes) → length bytes ≡ position_or_len is_close bytes
+none_is bytes h = sym (position_or_len_is is_close bytes (length bytes) 0 (omega arith) (λ k lt. false_from_ne_true _ (h k (omega arith) lt)) (λ lt. absurd (omega (arith, lt))))
+
+pub close_within : (bytes : List ℕ) → position_or_len is_close bytes ≤ length bytes
+close_within [] = omega arith
+close_within (b ∷ bs) =
+    elim (cases_Bool (is_close b)) [
+      | inl here ↦ let none : position_or_len is_close (b ∷ bs) ≡ 0 = rw here refl in omega (arith, none)
+      | inr later ↦
+          let one : position_or_len is_close (b ∷ bs) ≡ suc (position_or_len is_close bs) = rw later (omega arith) in
+          let rest = close_within bs in
+          omega (arith, one, rest)
+    ]
+
+none_close : (bytes : List ℕ) → length bytes ≤ position_or_len is_close bytes → position is_close bytes ≡ None
+none_close bytes le = rw (le-ltb _ _ le) refl
+
+no_close_single : (b : ℕ) (bs : List ℕ) → position is_close bs ≡ None → single_of (b ∷ bs) ≡ None
+unfolding single_of
+no_close_single b bs none = rw none (either_way (b == 60) _ _ refl (either_way (b == 91) _ None refl refl))
+
+-- where no closing bracket stands no stamp does
+pub none_unclosed : (bytes : List ℕ) (at : ℕ) → length bytes ≤ position_or_len is_close bytes → stamps_from bytes at 0 ≡ []
+none_unclosed [] at le = none_of at
+none_unclosed (b ∷ bs) at le =
+    elim (cases_Bool (is_close b)) [
+      | inl here ↦ absurd (let none : position_or_len is_close (b ∷ bs) ≡ 0 = rw here refl in omega (arith, le, none))
+      | inr later ↦
+          let one : position_or_len is_close (b ∷ bs) ≡ suc (position_or_len is_close bs) = rw later (omega arith) in
+          let rest : length bs ≤ position_or_len is_close bs = omega (arith, le, one) in
+          step b bs at
+          ∙ (ap (λ (o : Option (Stamp × ℕ)). one_more at (stamps_from bs (at + 1)) (option_map (λ found. ranged found.0 found.1 (drop found.1 (b ∷ bs))) o)) (no_close_single b bs (none_close bs rest))
+          ∙ none_unclosed bs (at + 1) rest)
+    ]

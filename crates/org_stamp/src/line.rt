@@ -3,7 +3,7 @@ ghost use Rattle.std.specs.Prelude.{◌≡◌, ◌+◌, ◌-◌, ◌<◌, ◌≤
 ghost use Rattle.std.specs.Char.{is_ascii_digit};
 ghost use Rattle.std.specs.List.{position_or_len};
 ghost use Rattle.std.specs.Iterator.{YieldsFirst, item_count};
-ghost use Rattle.org_stamp.specs.Line.{AreStampsOf, stamps_of};
+ghost use Rattle.org_stamp.specs.Line.{AreStampsOf, stamps_from, stamps_of};
 ghost use Rattle.org_stamp.specs.Read as spec;
 ghost use Rattle.org_stamp.specs.Stamp.{is_close};
 
@@ -102,9 +102,20 @@ pub fn stamps_in(line: &[u8]) -> Stamps<'_>
     ensures value { result ≡ stamps_of line.now }
     ensures stamps { AreStampsOf line.now result }
 {
+    let close = first_close(line);
     Stamps {
         line,
-        at: 0,
-        close: first_close(line),
+        at: first_place(line, close),
+        close,
     }
+}
+
+/// Where the walk of a line begins: at its front, or behind it where no closing bracket stands in it, as no stamp does then.
+fn first_place(line: &[u8], close: usize) -> usize
+    requires close { close ≡ position_or_len is_close line.now }
+    ensures within { result ≤ length line.now }
+    ensures close { result ≤ close → close ≡ result + position_or_len is_close (drop result line.now) }
+    ensures left { stamps_from (drop result line.now) result 0 ≡ stamps_of line.now }
+{
+    if close < line.len() { 0 } else { line.len() }
 }

@@ -8,6 +8,7 @@ ghost use Rattle.org_stamp.specs.declared.stamp.Stamp.{Stamp as AnyStamp};
 
 use crate::inner::inner_of;
 use crate::stamp::Stamp;
+use memchr::memchr2;
 
 /// The longest stamp that begins at the place, and its length in bytes (Org manual 9.6, Timestamps). A range is longer
 /// than its first stamp. None where none begins there.
@@ -48,10 +49,10 @@ pub(crate) fn first_close(bytes: &[u8]) -> usize
     ensures value { result ≡ position_or_len is_close bytes.now }
     ensures within { result ≤ length bytes.now }
 {
-    bytes
-        .iter()
-        .take_while(|b| **b != b'>' && **b != b']')
-        .count()
+    match memchr2(b'>', b']', bytes) {
+        Some(place) => place,
+        None => bytes.len(),
+    }
 }
 
 /// The stamp whose bytes behind the opening bracket are these, with the first closing bracket at that place.

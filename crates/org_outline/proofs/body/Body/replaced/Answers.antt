@@ -1,7 +1,6 @@
 -- The list is made in three steps: the front, the new entries, the back.
-use Rattle.std.proofs.Common.{◌≡◌, ◌++◌, List, map, take, drop, ap, ◌∙◌, subst, IfOk}
+use Rattle.std.proofs.Common.{◌++◌, map, take, drop, ap, ◌∙◌}
 use Rattle.std.proofs.lemmas.List.{take_rest}
-use Rattle.org_entry.specs.declared.entry.Entry.{Entry}
 use Rattle.org_outline.proofs.ByPlace.{three_steps}
 use Rattle.org_outline.proofs.body.Body.replaced.Goals as goal
 
@@ -11,4 +10,4 @@ returns c =
     let back = c.in_ok-append-3.ensures.ok ∙ ap (λ v. map (λ e. e.value) c.append-2.new.list.items ++ map (λ e. e.value) v) (take_rest c.deref-2.result.now c.args.range.end ∙ ap (drop c.args.range.end) c.deref-2.ensures.value) in
     let e = three_steps (λ e. e.value) c.self.inside.list.items c.args.range.start c.args.range.end c.new-list.result.items c.append.new.list.items c.append-2.new.list.items c.append-3.new.list.items
     c.args.self.now (map (λ e. e.value) c.args.entries.now) c.self.view_is c.new-list.ensures.items front c.in_ok-append-2.ensures.ok back in
-    record { value = subst (λ (x : List Entry). IfOk c.of.result (λ b. b ≡ x)) e c.of.ensures.value }
+    record { value = c.in_ok-new.ensures.value ∙ e }

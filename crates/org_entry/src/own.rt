@@ -1,0 +1,101 @@
+//! Parts of an entry that most sections lack. They stand out of line, so that an entry without them is small.
+ghost use Rattle.std.specs.Prelude.{◌≡◌, None, IfOk, IsOkUnless};
+ghost use Rattle.std.specs.Option.{option_map};
+ghost use Rattle.org_base.specs.Codes.{memory_fault};
+ghost use Rattle.org_base.specs.Properties.{value_in};
+ghost use Rattle.org_drawer.specs.Node.{drawer_of};
+
+use org_base::{Fault, Texts};
+use org_drawer::{Drawer, Planning, read_drawer};
+use std::alloc::Global;
+use std::marker::Model;
+
+/// What the planning line of a section says, if it has one; seen as that.
+#[derive(Drop)]
+pub struct OwnPlanning {
+    planning: Option<Box<Planning>>,
+}
+
+impl Model for OwnPlanning {
+    ghost use Rattle.std.specs.Prelude.{Option};
+    ghost use Rattle.std.specs.Option.{option_map};
+    ghost use Rattle.org_drawer.specs.declared.planning.Planning.{Planning};
+
+    ghost Value = { Option Planning };
+
+    ghost view = { λ p. option_map (λ b. b.value) p.planning };
+}
+
+impl OwnPlanning {
+    // No planning line.
+    pub(crate) fn none() -> OwnPlanning
+        ensures value { result ≡ None }
+    {
+        OwnPlanning { planning: None }
+    }
+
+    // What a planning line says, if it says anything.
+    pub(crate) fn new(alloc: Global, planning: Option<Planning>) -> Result<OwnPlanning, Fault>
+        ensures value { IfOk result (λ own. own ≡ planning) }
+        ensures memory { IsOkUnless result memory_fault }
+    {
+        let planning = match planning {
+            Some(planning) => Some(Box::new(alloc, planning)?),
+            None => None,
+        };
+        Ok(OwnPlanning { planning })
+    }
+
+    /// The planning, lent; None where the section has no planning line.
+    pub fn get(&self) -> Option<&Planning>
+        ensures value { option_map (λ planning. planning.now) result ≡ self.now }
+    {
+        match &self.planning {
+            Some(planning) => Some(&**planning),
+            None => None,
+        }
+    }
+}
+
+/// The properties of a section's drawer, none where it has no drawer; seen as their list.
+#[derive(Drop)]
+pub struct OwnProperties {
+    drawer: Option<Box<Drawer>>,
+}
+
+impl Model for OwnProperties {
+    ghost use Rattle.std.specs.Prelude.{List, [], unwrap_or};
+    ghost use Rattle.std.specs.Option.{option_map};
+    ghost use Rattle.org_base.specs.Properties.{Property};
+
+    ghost Value = { List Property };
+
+    ghost view = { λ p. unwrap_or (option_map (λ b. b.value) p.drawer) [] };
+}
+
+impl OwnProperties {
+    // What the lines of a drawer give.
+    pub(crate) fn of_lines(alloc: Global, lines: &Texts) -> Result<OwnProperties, Fault>
+        ensures value { IfOk result (λ own. own ≡ drawer_of lines.now) }
+        ensures memory { IsOkUnless result memory_fault }
+    {
+        if lines.count() == 0 {
+            return Ok(OwnProperties { drawer: None });
+        }
+        let drawer = read_drawer(alloc, lines)?;
+        Ok(OwnProperties {
+            drawer: Some(Box::new(alloc, drawer)?),
+        })
+    }
+
+    /// What a name has, lent; None where the drawer doesn't name it. Letter case doesn't count. It takes no memory, and is
+    /// linear in the number of names.
+    pub fn get(&self, name: &[u8]) -> Option<&[u8]>
+        ensures value { option_map (λ text. text.now) result ≡ value_in self.now name.now }
+    {
+        match &self.drawer {
+            Some(drawer) => drawer.get(name),
+            None => None,
+        }
+    }
+}
