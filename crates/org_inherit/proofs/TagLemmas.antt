@@ -64,7 +64,8 @@ tags_text-more (t ∷ tags) tag =
     ∙ sym (ap (λ x. (x ++ tag) ++ (58 ∷ [])) (some_is_not_none 58 (closed_tags (t ∷ tags)) (58 ∷ []) (58 ∷ closed_tags (t ∷ tags))))
     ∙ sym (ap (λ x. with_shown x tag) before)
 
-list_any-more : (p : List ℕ → Bool) (tags : List (List ℕ)) (tag : List ℕ) → list_any p (tags ++ tag ∷ []) ≡ (p tag || list_any p tags)
+-- a test of tags with one more
+pub list_any-more : (p : List ℕ → Bool) (tags : List (List ℕ)) (tag : List ℕ) → list_any p (tags ++ tag ∷ []) ≡ (p tag || list_any p tags)
 list_any-more p [] tag = refl
 list_any-more p (t ∷ tags) tag = ap (λ b. p t || b) (list_any-more p tags tag) ∙ or-commutes (p t) (p tag) (list_any p tags)
 

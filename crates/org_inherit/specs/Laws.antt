@@ -1,13 +1,15 @@
 -- Laws of inheritance.
-use Rattle.std.specs.Prelude.{◌≡◌, ◌||◌, ℕ, Bool, true, List, ◌∷◌, Some, slice_get, bytes_eq}
+use Rattle.std.specs.Prelude.{◌≡◌, ◌||◌, ℕ, Bool, true, List, ◌∷◌, Some, filter, slice_get, bytes_eq}
 use Rattle.std.specs.List.{list_any}
 use Rattle.org_entry.specs.declared.entry.Entry.{Entry}
 use Rattle.org_inherit.specs.Hidden.{is_hidden}
 use Rattle.org_inherit.specs.Scope.{Scope}
+use Rattle.org_inherit.specs.Sources.{is_source_at, nearest_source}
 use Rattle.org_inherit.specs.Tags.{own_tags_at, all_tags}
+use Rattle.org_inherit.specs.declared.sources.Source.{Source}
 use Rattle.org_outline.specs.Laws.{is_above}
 use Rattle.org_outline.specs.Levels.{levels}
-use Rattle.org_outline.specs.Tree.{ancestors}
+use Rattle.org_outline.specs.Tree.{ancestors, up_from}
 
 -- what has a hidden ancestor is hidden
 abbrev pub HiddenIsInherited : Type 0
@@ -26,3 +28,9 @@ TagsAreInherited = (scope : Scope) (i : ℕ) (tag : List ℕ) → list_any (byte
 abbrev pub TagsAreOnce : Type 0
 TagsAreOnce = (scope : Scope) (i j k : ℕ) (tag : List ℕ) →
     slice_get (all_tags scope i) j ≡ Some tag → slice_get (all_tags scope i) k ≡ Some tag → j ≡ k
+
+-- the sources among an entry and its ancestors are those among its nearest source and that one's ancestors; without a
+-- nearest source there are none
+abbrev pub SourcesAreUpFromTheNearest : Type 0
+SourcesAreUpFromTheNearest = (s : Source) (es : List Entry) (i : ℕ) →
+    filter (is_source_at s es) (i ∷ ancestors (levels es) i) ≡ filter (is_source_at s es) (up_from (levels es) (nearest_source s es i))

@@ -1,6 +1,9 @@
 pub mod Scope
 pub mod Tags
 pub mod Seen
+pub mod Places
+pub mod Sources
+pub mod Tables
 pub mod Hidden
 pub mod Values
 pub mod Category

@@ -12,9 +12,11 @@ ghost use Rattle.org_inherit.specs.Values.{file_value, plain_value};
 use crate::category::category_of;
 use crate::heading::{copied, heading_value};
 use crate::hidden::hidden_table;
+use crate::places::Places;
+use crate::sources::{Source, nearest_sources};
 use crate::special::{HeadingValue, Special};
 use crate::tags::{all_tags, tags_value};
-use crate::values::{front_value, is_inherited, nearest_value};
+use crate::values::{front_value, is_inherited, nearest_category, nearest_value};
 use org_base::{Bytes, Fault, Texts};
 use org_class::Settings;
 use org_outline::Outline;
@@ -33,24 +35,26 @@ pub struct Inherit<'a> {
     inherited: &'a Texts,
     // For each entry whether it is hidden.
     hidden: Vec<bool>,
+    // For each entry the nearest one with own tags, itself or an ancestor.
+    tagged: Places,
+    // For each entry the nearest one with an own value of `CATEGORY`, itself or an ancestor.
+    categorized: Places,
 }
 
 impl<'a> Model for Inherit<'a> {
-    ghost use Rattle.std.specs.Prelude.{◌≡◌, length, map};
-    ghost use Rattle.std.specs.List.{range_with_len};
-    ghost use Rattle.org_inherit.specs.Hidden.{is_hidden};
     ghost use Rattle.org_inherit.specs.Scope.{Scope};
+    ghost use Rattle.org_inherit.specs.Tables.{HasTables};
 
     ghost Value = { Scope };
 
     ghost view = { λ i. record { entries = i.outline.now; settings = i.settings.now; file = i.file.now; inherited = i.inherited.now } };
 
-    ghost invariant = { λ i. i.hidden.items ≡ map (is_hidden i.outline.now) (range_with_len 0 (length i.outline.now)) };
+    ghost invariant = { λ i. HasTables i.outline.now i.hidden.items i.tagged i.categorized };
 }
 
 impl<'a> Inherit<'a> {
     /// What an outline says, in a file of this name with these settings, where the values of these names are inherited.
-    /// It passes over the outline once. Want of memory is its only refusal.
+    /// It passes over the outline once for each of its three tables. Want of memory is its only refusal.
     pub fn new(
         alloc: Global,
         outline: &'a Outline,
@@ -62,6 +66,8 @@ impl<'a> Inherit<'a> {
         ensures memory { IsOkUnless result memory_fault }
     {
         let hidden = hidden_table(alloc, outline)?;
+        let tagged = nearest_sources(alloc, Source::Tags, outline)?;
+        let categorized = nearest_sources(alloc, Source::Category, outline)?;
         Ok(Inherit {
             alloc,
             outline,
@@ -69,6 +75,8 @@ impl<'a> Inherit<'a> {
             file,
             inherited,
             hidden,
+            tagged,
+            categorized,
         })
     }
 
@@ -103,7 +111,8 @@ impl<'a> Inherit<'a> {
         ensures value { IfOk result (λ tags. tags ≡ all_tags self.now place) }
         ensures memory { IsOkUnless result memory_fault }
     {
-        all_tags(self.alloc, self.settings.file_tags(), self.outline, place)
+        let file_tags = self.settings.file_tags();
+        all_tags(self.alloc, file_tags, self.outline, &self.tagged, place)
     }
 
     /// The category, lent (Org manual 9.6, "Categories"): the own property `CATEGORY`, else the nearest ancestor's, else
@@ -113,7 +122,7 @@ impl<'a> Inherit<'a> {
         requires { place < length self.now.entries }
         ensures value { result.now ≡ category self.now place }
     {
-        match nearest_value(self.outline, place, b"CATEGORY") {
+        match nearest_category(self.outline, &self.categorized, place) {
             Some(category) => category,
             None => self.file_category(),
         }

@@ -11,6 +11,8 @@ mod hidden;
 mod inherit;
 mod inherits;
 pub mod laws;
+mod places;
+mod sources;
 mod special;
 mod tags;
 mod values;

@@ -1,22 +1,27 @@
 //! Tags of a heading.
-ghost use Rattle.std.specs.Prelude.{◌≡◌, ◌<◌, ◌++◌, length, fold, map, IfOk, OnOk, IsOkUnless};
+ghost use Rattle.std.specs.Prelude.{◌≡◌, ◌<◌, ◌++◌, length, fold, map, filter, IfOk, OnOk, IsOkUnless};
 ghost use Rattle.std.specs.List.{flat_map};
+ghost use Rattle.std.specs.Option.{option_map};
 ghost use Rattle.org_base.specs.Codes.{memory_fault};
 ghost use Rattle.org_head.specs.Spans.{part_of};
 ghost use Rattle.org_inherit.specs.Seen.{AreSeen};
+ghost use Rattle.org_inherit.specs.Sources.{is_source_at, nearest_sources};
+ghost use Rattle.org_inherit.specs.declared.sources.Source.TheVariants.{Tags};
 ghost use Rattle.org_inherit.specs.Tags.{own_tags, own_tags_at, lineage, with_tag, firsts, tags_text, tags_value, with_shown};
 
 use crate::first_tags::FirstTags;
+use crate::places::Places;
 use org_base::{Bytes, Fault, Span, Texts};
 use org_entry::Entry;
 use org_outline::Outline;
+use smallvec::SmallVec;
 use std::alloc::Global;
 
 // Adds those of an entry's own tags that aren't there.
 fn add_own(tags: &mut FirstTags, entry: &Entry) -> Result<(), Fault>
-    requires { AreSeen tags.old.seen.keys tags.old.tags }
+    requires { AreSeen (option_map (λ set. set.keys) tags.old.seen) tags.old.tags }
     ensures tags { OnOk result (tags.new.tags ≡ fold with_tag tags.old.tags (own_tags entry.now)) }
-    ensures seen { OnOk result (AreSeen tags.new.seen.keys tags.new.tags) }
+    ensures seen { OnOk result (AreSeen (option_map (λ set. set.keys) tags.new.seen) tags.new.tags) }
     ensures memory { IsOkUnless result memory_fault }
 {
     match &entry.head {
@@ -25,33 +30,47 @@ fn add_own(tags: &mut FirstTags, entry: &Entry) -> Result<(), Fault>
     }
 }
 
-// The ancestors from the outermost, then the entry itself.
-fn lineage(alloc: Global, outline: &Outline, place: usize) -> Result<Vec<usize>, Fault>
-    requires { place < length outline.now }
-    ensures value { IfOk result (λ line. line.items ≡ lineage outline.now place) }
+// The places of the entry and its ancestors that have own tags, from the outermost.
+fn tagged_line(
+    alloc: Global,
+    outline: &Outline,
+    tagged: &Places,
+    place: usize,
+) -> Result<SmallVec<usize, 8>, Fault>
+    requires within { place < length outline.now }
+    requires tagged { tagged.now ≡ nearest_sources Tags outline.now }
+    ensures value { IfOk result (λ line. line.items ≡ filter (is_source_at Tags outline.now) (lineage outline.now place)) }
     ensures memory { IsOkUnless result memory_fault }
 {
-    let mut line: Vec<usize> = outline.ancestors(place).collect(alloc)?;
+    let mut line = SmallVec::new(alloc);
+    let mut next = tagged.get(place);
+    while let Some(source) = next {
+        line.push(source)?;
+        next = tagged.at(outline.parent(source));
+    }
     line.reverse();
-    line.push(place)?;
     Ok(line)
 }
 
-/// A file's tags, the tags of the entry's ancestors from the outermost and its own; of equal ones the first.
+/// A file's tags, the tags of the entry's ancestors from the outermost and its own; of equal ones the first. The table has
+/// the nearest entries with own tags, so that no other entry is looked at.
 pub(crate) fn all_tags(
     alloc: Global,
     file_tags: &Texts,
     outline: &Outline,
+    tagged: &Places,
     place: usize,
 ) -> Result<Texts, Fault>
-    requires { place < length outline.now }
+    requires within { place < length outline.now }
+    requires tagged { tagged.now ≡ nearest_sources Tags outline.now }
     ensures value { IfOk result (λ tags. tags ≡ firsts (file_tags.now ++ flat_map (own_tags_at outline.now) (lineage outline.now place))) }
     ensures memory { IsOkUnless result memory_fault }
 {
     let mut tags = FirstTags::new(alloc);
     tags.add_all(file_tags)?;
-    for ancestor in &lineage(alloc, outline, place)? {
-        add_own(&mut tags, outline.entry(*ancestor))?;
+    let line = tagged_line(alloc, outline, tagged, place)?;
+    for source in line.as_slice() {
+        add_own(&mut tags, outline.entry(*source))?;
     }
     Ok(tags.tags)
 }
