@@ -2,5 +2,5 @@ pub mod CategoryLemmas
 pub mod LawLemmas
 pub mod LineageLemmas
 pub mod ListLemmas
-pub mod SourceLemmas
+pub mod TaggedLemmas
 pub mod TagLemmas

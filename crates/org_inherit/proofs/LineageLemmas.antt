@@ -1,12 +1,16 @@
 -- What an entry has by itself and what by its parent.
 use Rattle.std.proofs.Common.{◌≡◌, ℕ, ◌+◌, zero, suc, ◌-◌, ◌++◌, ◌<◌, ◌≤◌, fold, reverse, take, All, Bool, false, ◌||◌, Option, Some, None, List, [], ◌∷◌, length, map, get_or, refl, sym, ap, ◌∙◌, arith}
+use Rattle.std.specs.Prelude.{codes, slice_get}
+use Rattle.std.proofs.lemmas.Option.{slice_get-get_or}
 use Rattle.std.specs.List.{list_any, range_with_len, flat_map}
+use Rattle.std.specs.Option.{unwrap_or}
 use Rattle.std.proofs.lemmas.List.FromFn.{get_or-map-range_with_len}
 use Rattle.std.proofs.lemmas.List.Elements.{All-nil, All-cons, All-get_or, All-from_get_or, All-push}
 use Rattle.std.proofs.lemmas.List.Sums.{fold-append}
 use Rattle.std.proofs.lemmas.List.{get_or-map, get_or-reverse, length-reverse, flat_map_more, take_more}
 use Rattle.org_base.specs.Properties.{value_in}
 use Rattle.org_entry.specs.declared.entry.Entry.{Entry}
+use Rattle.org_inherit.specs.Category.{category_under}
 use Rattle.org_inherit.specs.Hidden.{hides, hides_at, is_hidden, of_parent}
 use Rattle.org_inherit.specs.Tags.{with_tag, own_tags, own_tags_at, lineage}
 use Rattle.org_inherit.specs.Values.{first_of, own_value}
@@ -72,6 +76,18 @@ tags_step file f line k ts more new h e g n =
 
 pub value_here : (es : List Entry) (name : List ℕ) (i : ℕ) (d : Entry) → i < length es → own_value es name i ≡ value_in (get_or es i d).drawer name
 value_here es name i d h = get_or-map (λ e. value_in e.drawer name) es i d None h
+
+-- an entry without an own category has its parent's, and the file's where it has no parent
+pub category_above : (es : List Entry) (file : List ℕ) (i : ℕ) → own_value es (codes "CATEGORY") i ≡ None → category_under es file i ≡ unwrap_or (first_of (own_value es (codes "CATEGORY")) (up_from (levels es) (parent (levels es) i))) file
+category_above es file i h = rw h (ap (λ v. unwrap_or (first_of (own_value es (codes "CATEGORY")) v) file) (ancestors_step (levels es) i))
+
+-- a table of categories, at a place
+pub category_in : (es : List Entry) (file : List ℕ) (table : List (List ℕ)) (n i : ℕ) (found : List ℕ) → table ≡ map (category_under es file) (range_with_len 0 n) → i < n → slice_get table i ≡ Some found → found ≡ category_under es file i
+category_in es file table n i found e h there =
+    let l = table_length (category_under es file) table n e in
+    let same : Some (get_or table i []) ≡ Some found = sym (slice_get-get_or table i [] (omega arith)) ∙ there in
+    let is : found ≡ get_or table i [] = cc in
+    is ∙ table_at (category_under es file) table n i [] e h
 
 -- an entry without a value has that of its parent
 pub value_above : (es : List Entry) (name : List ℕ) (p : ℕ) → own_value es name p ≡ None → first_of (own_value es name) (up_from (levels es) (Some p)) ≡ first_of (own_value es name) (up_from (levels es) (parent (levels es) p))

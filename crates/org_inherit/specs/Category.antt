@@ -2,6 +2,7 @@
 use Rattle.std.specs.Prelude.{ℕ, ◌==◌, if◌then◌else◌, List, length, codes}
 use Rattle.std.specs.List.{after_last, before_last}
 use Rattle.std.specs.Option.{option_or, unwrap_or}
+use Rattle.org_entry.specs.declared.entry.Entry.{Entry}
 use Rattle.org_inherit.specs.Scope.{Scope}
 use Rattle.org_inherit.specs.Values.{nearest_value, file_value}
 
@@ -21,6 +22,10 @@ category_of name = stem (base_name name)
 abbrev pub file_category : Scope → List ℕ
 file_category scope = unwrap_or (option_or (file_value scope (codes "CATEGORY")) scope.settings.category) (category_of scope.file)
 
--- the own CATEGORY, else that of the nearest ancestor that has one, else the file's category
+-- the own CATEGORY, else that of the nearest ancestor that has one, else the file's category, which is given
+abbrev pub category_under : List Entry → List ℕ → ℕ → List ℕ
+category_under es file i = unwrap_or (nearest_value es (codes "CATEGORY") i) file
+
+-- the category of the entry at a place
 abbrev pub category : Scope → ℕ → List ℕ
-category scope i = unwrap_or (nearest_value scope.entries (codes "CATEGORY") i) (file_category scope)
+category scope i = category_under scope.entries (file_category scope) i

@@ -4,9 +4,8 @@ use Rattle.std.specs.List.{list_any}
 use Rattle.org_entry.specs.declared.entry.Entry.{Entry}
 use Rattle.org_inherit.specs.Hidden.{is_hidden}
 use Rattle.org_inherit.specs.Scope.{Scope}
-use Rattle.org_inherit.specs.Sources.{is_source_at, nearest_source}
+use Rattle.org_inherit.specs.Tagged.{is_tagged_at, nearest_tagged}
 use Rattle.org_inherit.specs.Tags.{own_tags_at, all_tags}
-use Rattle.org_inherit.specs.declared.sources.Source.{Source}
 use Rattle.org_outline.specs.Laws.{is_above}
 use Rattle.org_outline.specs.Levels.{levels}
 use Rattle.org_outline.specs.Tree.{ancestors, up_from}
@@ -29,8 +28,8 @@ abbrev pub TagsAreOnce : Type 0
 TagsAreOnce = (scope : Scope) (i j k : ℕ) (tag : List ℕ) →
     slice_get (all_tags scope i) j ≡ Some tag → slice_get (all_tags scope i) k ≡ Some tag → j ≡ k
 
--- the sources among an entry and its ancestors are those among its nearest source and that one's ancestors; without a
--- nearest source there are none
-abbrev pub SourcesAreUpFromTheNearest : Type 0
-SourcesAreUpFromTheNearest = (s : Source) (es : List Entry) (i : ℕ) →
-    filter (is_source_at s es) (i ∷ ancestors (levels es) i) ≡ filter (is_source_at s es) (up_from (levels es) (nearest_source s es i))
+-- of an entry and its ancestors those with own tags are the nearest such one and those above it; without a nearest one
+-- there are none
+abbrev pub TaggedAreUpFromTheNearest : Type 0
+TaggedAreUpFromTheNearest = (es : List Entry) (i : ℕ) →
+    filter (is_tagged_at es) (i ∷ ancestors (levels es) i) ≡ filter (is_tagged_at es) (up_from (levels es) (nearest_tagged es i))

@@ -2,7 +2,7 @@ pub mod Scope
 pub mod Tags
 pub mod Seen
 pub mod Places
-pub mod Sources
+pub mod Tagged
 pub mod Tables
 pub mod Hidden
 pub mod Values

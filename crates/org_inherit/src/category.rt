@@ -1,7 +1,11 @@
-//! The category that a file's name gives.
-ghost use Rattle.std.specs.Prelude.{◌≡◌, ◌≤◌, ◌==◌, not, length};
+//! The category of a file.
+ghost use Rattle.std.specs.Prelude.{◌≡◌, ◌≤◌, ◌==◌, [], not, length};
 ghost use Rattle.std.specs.List.{suffix_len};
-ghost use Rattle.org_inherit.specs.Category.{base_name, stem, category_of};
+ghost use Rattle.org_inherit.specs.Category.{base_name, stem, category_of, file_category};
+
+use crate::values::file_value;
+use org_class::Settings;
+use org_outline::Outline;
 
 /// The name behind its last slash and without its last extension; a dot in first place begins none.
 pub fn category_of(name: &str) -> &str
@@ -33,4 +37,21 @@ fn bytes_behind(bytes: &[u8], byte: u8) -> usize
     ensures value { result ≡ suffix_len (λ b. not (b == byte)) bytes.now }
 {
     bytes.iter().rev().take_while(|b| **b != byte).count()
+}
+
+/// What a file says of the category of its headings, lent.
+pub(crate) fn file_category<'a>(
+    outline: &'a Outline,
+    settings: &'a Settings,
+    file: &'a str,
+) -> &'a [u8]
+    ensures value { result.now ≡ file_category (record { entries = outline.now; settings = settings.now; file = file.now; inherited = [] }) }
+{
+    if let Some(category) = file_value(outline, settings, b"CATEGORY") {
+        return category;
+    }
+    match settings.category() {
+        Some(category) => category,
+        None => category_of(file).as_bytes(),
+    }
 }

@@ -54,7 +54,7 @@ pub(crate) fn hidden_table(alloc: Global, outline: &Outline) -> Result<Vec<bool>
     ensures value { IfOk result (λ table. table.items ≡ map (is_hidden outline.now) (range_with_len 0 (length outline.now))) }
     ensures memory { IsOkUnless result memory_fault }
 {
-    let mut table = Vec::new(alloc);
+    let mut table = Vec::with_capacity(alloc, outline.count())?;
     for place in 0..outline.count() {
         let own = hides(outline.entry(place));
         let inherited = of_parent(&table, outline.parent(place));

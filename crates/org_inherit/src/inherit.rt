@@ -2,21 +2,22 @@
 ghost use Rattle.std.specs.Prelude.{◌≡◌, ◌<◌, length, IfOk, IsOkUnless};
 ghost use Rattle.std.specs.Option.{option_map};
 ghost use Rattle.org_base.specs.Codes.{memory_fault};
-ghost use Rattle.org_inherit.specs.Category.{category, file_category};
+ghost use Rattle.org_inherit.specs.Category.{category};
 ghost use Rattle.org_inherit.specs.Hidden.{is_hidden};
 ghost use Rattle.org_inherit.specs.Special.{special_value, value_of};
 ghost use Rattle.org_inherit.specs.declared.special.Special.TheVariants.{AllTags, Own};
 ghost use Rattle.org_inherit.specs.Tags.{all_tags};
-ghost use Rattle.org_inherit.specs.Values.{file_value, plain_value};
+ghost use Rattle.org_inherit.specs.Values.{plain_value};
 
-use crate::category::category_of;
+use crate::categories::Categories;
+use crate::category::file_category;
 use crate::heading::{copied, heading_value};
 use crate::hidden::hidden_table;
 use crate::places::Places;
-use crate::sources::{Source, nearest_sources};
 use crate::special::{HeadingValue, Special};
+use crate::tagged::all_nearest_tagged;
 use crate::tags::{all_tags, tags_value};
-use crate::values::{front_value, is_inherited, nearest_category, nearest_value};
+use crate::values::{file_value, is_inherited, nearest_value};
 use org_base::{Bytes, Fault, Texts};
 use org_class::Settings;
 use org_outline::Outline;
@@ -37,8 +38,8 @@ pub struct Inherit<'a> {
     hidden: Vec<bool>,
     // For each entry the nearest one with own tags, itself or an ancestor.
     tagged: Places,
-    // For each entry the nearest one with an own value of `CATEGORY`, itself or an ancestor.
-    categorized: Places,
+    // The category of each entry.
+    categories: Categories<'a>,
 }
 
 impl<'a> Model for Inherit<'a> {
@@ -49,7 +50,7 @@ impl<'a> Model for Inherit<'a> {
 
     ghost view = { λ i. record { entries = i.outline.now; settings = i.settings.now; file = i.file.now; inherited = i.inherited.now } };
 
-    ghost invariant = { λ i. HasTables i.outline.now i.hidden.items i.tagged i.categorized };
+    ghost invariant = { λ i. HasTables (record { entries = i.outline.now; settings = i.settings.now; file = i.file.now; inherited = i.inherited.now }) i.hidden.items i.tagged i.categories };
 }
 
 impl<'a> Inherit<'a> {
@@ -66,8 +67,9 @@ impl<'a> Inherit<'a> {
         ensures memory { IsOkUnless result memory_fault }
     {
         let hidden = hidden_table(alloc, outline)?;
-        let tagged = nearest_sources(alloc, Source::Tags, outline)?;
-        let categorized = nearest_sources(alloc, Source::Category, outline)?;
+        let tagged = all_nearest_tagged(alloc, outline)?;
+        let file_category = file_category(outline, settings, file);
+        let categories = Categories::of(alloc, outline, file_category)?;
         Ok(Inherit {
             alloc,
             outline,
@@ -76,7 +78,7 @@ impl<'a> Inherit<'a> {
             inherited,
             hidden,
             tagged,
-            categorized,
+            categories,
         })
     }
 
@@ -122,33 +124,7 @@ impl<'a> Inherit<'a> {
         requires { place < length self.now.entries }
         ensures value { result.now ≡ category self.now place }
     {
-        match nearest_category(self.outline, &self.categorized, place) {
-            Some(category) => category,
-            None => self.file_category(),
-        }
-    }
-
-    // What the file says of the category of its headings.
-    fn file_category(&self) -> &[u8]
-        ensures value { result.now ≡ file_category self.now }
-    {
-        if let Some(category) = self.file_value(b"CATEGORY") {
-            return category;
-        }
-        match self.settings.category() {
-            Some(category) => category,
-            None => category_of(self.file).as_bytes(),
-        }
-    }
-
-    // What the file gives to a name.
-    fn file_value(&self, name: &[u8]) -> Option<&[u8]>
-        ensures value { option_map (λ value. value.now) result ≡ file_value self.now name.now }
-    {
-        match front_value(self.outline, name) {
-            Some(value) => Some(value),
-            None => self.settings.property(name),
-        }
+        self.categories.get(place)
     }
 
     /// The value of a name, whose letter case doesn't count; None where it is missing. It may be empty.
@@ -186,7 +162,7 @@ impl<'a> Inherit<'a> {
         }
         match nearest_value(self.outline, place, name) {
             Some(value) => Some(value),
-            None => self.file_value(name),
+            None => file_value(self.outline, self.settings, name),
         }
     }
 

@@ -1,5 +1,5 @@
 //! Laws of inheritance. Each is a function without parameters whose contract is the law.
-ghost use Rattle.org_inherit.specs.Laws.{HiddenIsInherited, SourcesAreUpFromTheNearest, TagsAreInherited, TagsAreOnce};
+ghost use Rattle.org_inherit.specs.Laws.{HiddenIsInherited, TaggedAreUpFromTheNearest, TagsAreInherited, TagsAreOnce};
 
 /// What has a hidden ancestor is hidden.
 pub fn hidden_is_inherited()
@@ -16,8 +16,7 @@ pub fn tags_are_once()
     ensures { TagsAreOnce }
 {}
 
-/// Of an entry and its ancestors those that have own tags are its nearest one that has, and those above that one; and so
-/// with own values of `CATEGORY`.
-pub fn sources_are_up_from_the_nearest()
-    ensures { SourcesAreUpFromTheNearest }
+/// Of an entry and its ancestors those that have own tags are the nearest one that has, and those above that one.
+pub fn tagged_are_up_from_the_nearest()
+    ensures { TaggedAreUpFromTheNearest }
 {}

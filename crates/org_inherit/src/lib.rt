@@ -4,6 +4,7 @@
 //! and the names whose values are inherited. Nothing is changed by any call.
 #![tactic(auto)]
 
+mod categories;
 mod category;
 mod first_tags;
 mod heading;
@@ -12,8 +13,8 @@ mod inherit;
 mod inherits;
 pub mod laws;
 mod places;
-mod sources;
 mod special;
+mod tagged;
 mod tags;
 mod values;
 

@@ -5,8 +5,7 @@ ghost use Rattle.std.specs.Option.{option_map};
 ghost use Rattle.org_base.specs.Codes.{memory_fault};
 ghost use Rattle.org_head.specs.Spans.{part_of};
 ghost use Rattle.org_inherit.specs.Seen.{AreSeen};
-ghost use Rattle.org_inherit.specs.Sources.{is_source_at, nearest_sources};
-ghost use Rattle.org_inherit.specs.declared.sources.Source.TheVariants.{Tags};
+ghost use Rattle.org_inherit.specs.Tagged.{all_nearest_tagged, is_tagged_at};
 ghost use Rattle.org_inherit.specs.Tags.{own_tags, own_tags_at, lineage, with_tag, firsts, tags_text, tags_value, with_shown};
 
 use crate::first_tags::FirstTags;
@@ -38,8 +37,8 @@ fn tagged_line(
     place: usize,
 ) -> Result<SmallVec<usize, 8>, Fault>
     requires within { place < length outline.now }
-    requires tagged { tagged.now ≡ nearest_sources Tags outline.now }
-    ensures value { IfOk result (λ line. line.items ≡ filter (is_source_at Tags outline.now) (lineage outline.now place)) }
+    requires tagged { tagged.now ≡ all_nearest_tagged outline.now }
+    ensures value { IfOk result (λ line. line.items ≡ filter (is_tagged_at outline.now) (lineage outline.now place)) }
     ensures memory { IsOkUnless result memory_fault }
 {
     let mut line = SmallVec::new(alloc);
@@ -62,7 +61,7 @@ pub(crate) fn all_tags(
     place: usize,
 ) -> Result<Texts, Fault>
     requires within { place < length outline.now }
-    requires tagged { tagged.now ≡ nearest_sources Tags outline.now }
+    requires tagged { tagged.now ≡ all_nearest_tagged outline.now }
     ensures value { IfOk result (λ tags. tags ≡ firsts (file_tags.now ++ flat_map (own_tags_at outline.now) (lineage outline.now place))) }
     ensures memory { IsOkUnless result memory_fault }
 {

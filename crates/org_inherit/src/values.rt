@@ -1,13 +1,12 @@
 //! Values of names in drawers.
-ghost use Rattle.std.specs.Prelude.{◌≡◌, ◌<◌, length, codes};
-ghost use Rattle.std.specs.Option.{option_map};
-ghost use Rattle.org_inherit.specs.Sources.{nearest_sources};
-ghost use Rattle.org_inherit.specs.declared.sources.Source.TheVariants.{Category};
+ghost use Rattle.std.specs.Prelude.{◌≡◌, ◌<◌, length};
+ghost use Rattle.std.specs.Option.{option_map, option_or};
+ghost use Rattle.org_base.specs.Properties.{value_in};
 ghost use Rattle.org_inherit.specs.Values.{nearest_value, front_value, is_inherited};
 
-use crate::places::Places;
 use org_base::Texts;
 use org_base::words::same_word;
+use org_class::Settings;
 use org_outline::Outline;
 
 /// The own value of a name, else that of the nearest ancestor that has one, lent.
@@ -25,23 +24,6 @@ pub(crate) fn nearest_value<'a>(outline: &'a Outline, place: usize, name: &[u8])
     None
 }
 
-/// The own value of `CATEGORY`, else that of the nearest ancestor that has one, lent. The table has the nearest entries
-/// with such a value, so that no other entry is looked at.
-pub(crate) fn nearest_category<'a>(
-    outline: &'a Outline,
-    categorized: &Places,
-    place: usize,
-) -> Option<&'a [u8]>
-    requires within { place < length outline.now }
-    requires categorized { categorized.now ≡ nearest_sources Category outline.now }
-    ensures value { option_map (λ value. value.now) result ≡ nearest_value outline.now (codes "CATEGORY") place }
-{
-    match categorized.get(place) {
-        Some(source) => outline.entry(source).drawer.get(b"CATEGORY"),
-        None => None,
-    }
-}
-
 /// What the drawer of the lines before the first heading gives, lent.
 pub(crate) fn front_value<'a>(outline: &'a Outline, name: &[u8]) -> Option<&'a [u8]>
     ensures value { option_map (λ value. value.now) result ≡ front_value outline.now name.now }
@@ -53,6 +35,20 @@ pub(crate) fn front_value<'a>(outline: &'a Outline, name: &[u8]) -> Option<&'a [
     match &first.head {
         Some(_) => None,
         None => first.drawer.get(name),
+    }
+}
+
+/// What the file gives to a name, lent.
+pub(crate) fn file_value<'a>(
+    outline: &'a Outline,
+    settings: &'a Settings,
+    name: &[u8],
+) -> Option<&'a [u8]>
+    ensures value { option_map (λ value. value.now) result ≡ option_or (front_value outline.now name.now) (value_in settings.now.properties name.now) }
+{
+    match front_value(outline, name) {
+        Some(value) => Some(value),
+        None => settings.property(name),
     }
 }
 

@@ -2,49 +2,48 @@ use Rattle.std.proofs.Common.{◌≡◌, ℕ, List, ◌++◌, ◌<◌, [], filte
 use Rattle.std.specs.List.{flat_map}
 use Rattle.std.proofs.lemmas.List.{take_all}
 use Rattle.std.proofs.lemmas.List.Elements.{All-get_or}
-use Rattle.org_inherit.specs.Sources.{is_source_at}
-use Rattle.org_inherit.specs.declared.sources.Source.TheVariants.{Tags}
+use Rattle.org_inherit.specs.Tagged.{is_tagged_at}
 use Rattle.org_inherit.specs.Tags.{own_tags, own_tags_at, lineage, with_tag}
 use Rattle.org_inherit.proofs.LineageLemmas.{tags_here, tags_step}
-use Rattle.org_inherit.proofs.SourceLemmas.{sources_within, tags_of_sources}
+use Rattle.org_inherit.proofs.TaggedLemmas.{all_tagged_within, tags_of_tagged}
 use Rattle.org_inherit.proofs.tags.all_tags.Goals as goal
 
 pub entry-requires : goal.entry-requires
 entry-requires c =
     let es = c.args.outline.now in
-    let sources : List ℕ = filter (is_source_at Tags es) (lineage es c.args.place) in
-    let l : c.as_slice-source-items.result.now ≡ sources = c.as_slice-source-items.ensures ∙ c.in_ok-line.ensures.value in
+    let tagged : List ℕ = filter (is_tagged_at es) (lineage es c.args.place) in
+    let l : c.as_slice-source-items.result.now ≡ tagged = c.as_slice-source-items.ensures ∙ c.in_ok-line.ensures.value in
     let k = c.loop-source.source-index in
     let n = ap length l in
     let e = ap (λ v. get_or v k 0) l in
-    let h = All-get_or (λ k. k < length es) sources k 0 (omega (arith, n)) (sources_within Tags es c.args.place c.requires.within) in
+    let h = All-get_or (λ k. k < length es) tagged k 0 (omega (arith, n)) (all_tagged_within es c.args.place c.requires.within) in
     omega (arith, e, h)
 
 pub loop-source-preserved : goal.loop-source-preserved
 loop-source-preserved c =
     let es = c.args.outline.now in
-    let sources : List ℕ = filter (is_source_at Tags es) (lineage es c.args.place) in
-    let l : c.as_slice-source-items.result.now ≡ sources = c.as_slice-source-items.ensures ∙ c.in_ok-line.ensures.value in
+    let tagged : List ℕ = filter (is_tagged_at es) (lineage es c.args.place) in
+    let l : c.as_slice-source-items.result.now ≡ tagged = c.as_slice-source-items.ensures ∙ c.in_ok-line.ensures.value in
     let k = c.loop-source.source-index in
     let n = ap length l in
     let e = ap (λ v. get_or v k 0) l in
-    let h = All-get_or (λ k. k < length es) sources k 0 (omega (arith, n)) (sources_within Tags es c.args.place c.requires.within) in
+    let h = All-get_or (λ k. k < length es) tagged k 0 (omega (arith, n)) (all_tagged_within es c.args.place c.requires.within) in
     let p : ℕ = get_or c.as_slice-source-items.result.now k 0 in
     let t = tags_here es p c.entry.result.now (omega (arith, e, h)) in
-    let m : own_tags c.entry.result.now ≡ own_tags_at es (get_or sources k 0) = ap own_tags c.entry.ensures.value ∙ sym t ∙ ap (own_tags_at es) e in
+    let m : own_tags c.entry.result.now ≡ own_tags_at es (get_or tagged k 0) = ap own_tags c.entry.ensures.value ∙ sym t ∙ ap (own_tags_at es) e in
     record {
-      tags = tags_step c.args.file_tags.now (own_tags_at es) sources k c.loop-source.tags.tags (own_tags c.entry.result.now) c.add_own.new.tags.tags (omega (arith, n)) c.loop-source.invariant.tags m c.in_ok-add_own.ensures.tags;
+      tags = tags_step c.args.file_tags.now (own_tags_at es) tagged k c.loop-source.tags.tags (own_tags c.entry.result.now) c.add_own.new.tags.tags (omega (arith, n)) c.loop-source.invariant.tags m c.in_ok-add_own.ensures.tags;
       seen = c.in_ok-add_own.ensures.seen;
     }
 
 pub returns-clause-value : goal.returns-clause-value
 returns-clause-value c =
     let es = c.args.outline.now in
-    let sources : List ℕ = filter (is_source_at Tags es) (lineage es c.args.place) in
+    let tagged : List ℕ = filter (is_tagged_at es) (lineage es c.args.place) in
     let file = c.args.file_tags.now in
     let k = c.loop-source.source-index in
-    let l : c.as_slice-source-items.result.now ≡ sources = c.as_slice-source-items.ensures ∙ c.in_ok-line.ensures.value in
+    let l : c.as_slice-source-items.result.now ≡ tagged = c.as_slice-source-items.ensures ∙ c.in_ok-line.ensures.value in
     let n = ap length l in
     c.loop-source.invariant.tags
-    ∙ ap (λ v. fold with_tag [] (file ++ flat_map (own_tags_at es) v)) (take_all k sources (omega (arith, n, c.loop-source-test.false)))
-    ∙ ap (λ v. fold with_tag [] (file ++ v)) (tags_of_sources es c.args.place)
+    ∙ ap (λ v. fold with_tag [] (file ++ flat_map (own_tags_at es) v)) (take_all k tagged (omega (arith, n, c.loop-source-test.false)))
+    ∙ ap (λ v. fold with_tag [] (file ++ v)) (tags_of_tagged es c.args.place)

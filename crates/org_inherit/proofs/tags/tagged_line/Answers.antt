@@ -1,9 +1,8 @@
 use Rattle.std.proofs.Common.{◌≡◌, ◌++◌, ◌∷◌, [], ◌+◌, ◌≤◌, Some, filter, reverse, length, ap, sym, append_assoc, append-nil, take, ◌∙◌, arith}
 use Rattle.std.proofs.lemmas.List.{take_all, drop_all}
 use Rattle.org_inherit.specs.Places.{at_place}
-use Rattle.org_inherit.specs.Sources.{is_source_at, nearest_source}
-use Rattle.org_inherit.specs.declared.sources.Source.TheVariants.{Tags}
-use Rattle.org_inherit.proofs.SourceLemmas.{source_from, source_at, source_above, source_above_within, source_within, first_passes, filter_up, filter_step, filter_lineage}
+use Rattle.org_inherit.specs.Tagged.{is_tagged_at, nearest_tagged}
+use Rattle.org_inherit.proofs.TaggedLemmas.{tagged_from, tagged_at, tagged_above, tagged_above_within, tagged_within, first_passes, filter_up, filter_step, filter_lineage}
 use Rattle.org_outline.specs.Levels.{levels}
 use Rattle.org_outline.specs.Places.{behind}
 use Rattle.org_outline.specs.Tree.{parent, up_from}
@@ -13,24 +12,24 @@ use Rattle.org_inherit.proofs.tags.tagged_line.Goals as goal
 
 pub get-next-requires : goal.get-next-requires
 get-next-requires c =
-    let n = table_length (nearest_source Tags c.args.outline.now) c.args.tagged.now (length c.args.outline.now) c.requires.tagged in
+    let n = table_length (nearest_tagged c.args.outline.now) c.args.tagged.now (length c.args.outline.now) c.requires.tagged in
     omega arith
 
 pub loop-next-init : goal.loop-next-init
 loop-next-init c =
     let es = c.args.outline.now in
     let i = c.args.place in
-    let first : c.get-next.result ≡ source_from Tags es (Some i) = c.get-next.ensures.value ∙ source_at Tags es c.args.tagged.now i c.requires.tagged c.requires.within in
-    let earlier = source_within Tags es (Some i) in
+    let first : c.get-next.result ≡ tagged_from es (Some i) = c.get-next.ensures.value ∙ tagged_at es c.args.tagged.now i c.requires.tagged c.requires.within in
+    let earlier = tagged_within es (Some i) in
     record {
       within = rw first (omega arith);
-      passes = λ j e. first_passes (is_source_at Tags es) (up_from (levels es) (Some i)) j (sym first ∙ e);
-      rest = rw (c.new-line.ensures.items, first) (sym (filter_up (is_source_at Tags es) (levels es) (Some i)));
+      passes = λ j e. first_passes (is_tagged_at es) (up_from (levels es) (Some i)) j (sym first ∙ e);
+      rest = rw (c.new-line.ensures.items, first) (sym (filter_up (is_tagged_at es) (levels es) (Some i)));
     }
 
 pub at-next-requires : goal.at-next-requires
 at-next-requires c =
-    let n = table_length (nearest_source Tags c.args.outline.now) c.args.tagged.now (length c.args.outline.now) c.requires.tagged in
+    let n = table_length (nearest_tagged c.args.outline.now) c.args.tagged.now (length c.args.outline.now) c.requires.tagged in
     let b : behind (Some c.in-Some.source) ≤ length c.args.outline.now = rw c.in-Some.is at c.loop-next.invariant.within in
     let p = behind_parent (levels c.args.outline.now) c.in-Some.source in
     rw c.parent.ensures.value (omega arith)
@@ -41,22 +40,22 @@ loop-next-smaller c =
     let j = c.in-Some.source in
     let b : behind c.loop-next.next ≡ j + 1 = ap behind c.in-Some.is in
     let within : behind (Some j) ≤ length es = rw c.in-Some.is at c.loop-next.invariant.within in
-    let n : c.at-next.result ≡ source_from Tags es (parent (levels es) j) =
-    c.at-next.ensures.value ∙ ap (at_place c.args.tagged.now) c.parent.ensures.value ∙ source_above Tags es c.args.tagged.now j c.requires.tagged (omega arith) in
+    let n : c.at-next.result ≡ tagged_from es (parent (levels es) j) =
+    c.at-next.ensures.value ∙ ap (at_place c.args.tagged.now) c.parent.ensures.value ∙ tagged_above es c.args.tagged.now j c.requires.tagged (omega arith) in
     let a = ap behind n in
-    let q = source_above_within Tags es j in
+    let q = tagged_above_within es j in
     omega arith
 
 pub loop-next-preserved : goal.loop-next-preserved
 loop-next-preserved c =
     let es = c.args.outline.now in
     let j = c.in-Some.source in
-    let test = is_source_at Tags es in
+    let test = is_tagged_at es in
     let within : behind (Some j) ≤ length es = rw c.in-Some.is at c.loop-next.invariant.within in
-    let n : c.at-next.result ≡ source_from Tags es (parent (levels es) j) =
-    c.at-next.ensures.value ∙ ap (at_place c.args.tagged.now) c.parent.ensures.value ∙ source_above Tags es c.args.tagged.now j c.requires.tagged (omega arith) in
+    let n : c.at-next.result ≡ tagged_from es (parent (levels es) j) =
+    c.at-next.ensures.value ∙ ap (at_place c.args.tagged.now) c.parent.ensures.value ∙ tagged_above es c.args.tagged.now j c.requires.tagged (omega arith) in
     let a = ap behind n in
-    let q = source_above_within Tags es j in
+    let q = tagged_above_within es j in
     record {
       within = omega arith;
       passes = λ k e. first_passes test (up_from (levels es) (parent (levels es) j)) k (sym n ∙ e);
@@ -71,7 +70,7 @@ loop-next-preserved c =
 pub returns-clause-value : goal.returns-clause-value
 returns-clause-value c =
     let es = c.args.outline.now in
-    let test = is_source_at Tags es in
+    let test = is_tagged_at es in
     let items = c.loop-next.line.items in
     let n = c.reverse.ensures.len in
     let m = ap length c.deref_mut.ensures.value in

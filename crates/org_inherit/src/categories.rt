@@ -1,0 +1,85 @@
+//! The categories of entries.
+ghost use Rattle.std.specs.Prelude.{◌≡◌, ◌<◌, [], ◌++◌, ◌∷◌, Some, length, map, slice_get, IfOk, OnOk, IsOkUnless};
+ghost use Rattle.std.specs.List.{range_with_len};
+ghost use Rattle.org_base.specs.Codes.{memory_fault};
+ghost use Rattle.org_inherit.specs.Category.{category_under};
+
+use org_base::Fault;
+use org_outline::Outline;
+use std::alloc::Global;
+use std::marker::Model;
+
+/// The categories of the first entries of an outline, lent; seen as their list.
+#[derive(Drop)]
+pub(crate) struct Categories<'a> {
+    list: Vec<&'a [u8]>,
+}
+
+impl<'a> Model for Categories<'a> {
+    ghost use Rattle.std.specs.Prelude.{ℕ, List, map};
+
+    ghost Value = { List (List ℕ) };
+
+    ghost view = { λ c. map (λ category. category.now) c.list.items };
+}
+
+impl<'a> Categories<'a> {
+    // No categories, with room for so many. Want of memory is its only refusal.
+    fn with_room(alloc: Global, count: usize) -> Result<Categories<'a>, Fault>
+        ensures value { IfOk result (λ categories. categories ≡ []) }
+        ensures memory { IsOkUnless result memory_fault }
+    {
+        let list = Vec::with_capacity(alloc, count)?;
+        Ok(Categories { list })
+    }
+
+    /// Those of all entries of an outline, in one pass over it: an entry's own value of `CATEGORY`, else its parent's
+    /// category, and the file's where it has no parent. Want of memory is its only refusal.
+    pub(crate) fn of(
+        alloc: Global,
+        outline: &'a Outline,
+        file_category: &'a [u8],
+    ) -> Result<Categories<'a>, Fault>
+        ensures value { IfOk result (λ table. table ≡ map (category_under outline.now file_category.now) (range_with_len 0 (length outline.now))) }
+        ensures memory { IsOkUnless result memory_fault }
+    {
+        let mut table = Categories::with_room(alloc, outline.count())?;
+        for place in 0..outline.count() {
+            let category = table.next(outline, file_category, place);
+            table.push(category)?;
+        }
+        Ok(table)
+    }
+
+    // The category of the entry that comes next.
+    fn next(&self, outline: &'a Outline, file_category: &'a [u8], place: usize) -> &'a [u8]
+        requires within { place < length outline.now }
+        requires before { self.now ≡ map (category_under outline.now file_category.now) (range_with_len 0 place) }
+        ensures value { result.now ≡ category_under outline.now file_category.now place }
+    {
+        if let Some(own) = outline.entry(place).drawer.get(b"CATEGORY") {
+            return own;
+        }
+        match outline.parent(place) {
+            Some(parent) => self.get(parent),
+            None => file_category,
+        }
+    }
+
+    // Puts one more at the end.
+    fn push(&mut self, category: &'a [u8]) -> Result<(), Fault>
+        ensures ok { OnOk result (self.new ≡ self.old ++ category.now ∷ []) }
+        ensures memory { IsOkUnless result memory_fault }
+    {
+        self.list.push(category)?;
+        Ok(())
+    }
+
+    /// The category of the entry at a place.
+    pub(crate) fn get(&self, place: usize) -> &'a [u8]
+        requires { place < length self.now }
+        ensures value { slice_get self.now place ≡ Some result.now }
+    {
+        self.list[place]
+    }
+}
