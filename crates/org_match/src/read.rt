@@ -1,18 +1,13 @@
 //! Reads an expression: the grammar first, then the patterns in it.
-ghost use Rattle.std.specs.Prelude.{◌≡◌, ◌<◌, ◌^◌, length, chars, IfErr, IfOk};
-ghost use Rattle.org_match.specs.Draft.{read_all};
-ghost use Rattle.org_match.specs.Grammar.{Reads};
+ghost use Rattle.std.specs.Prelude.{◌<◌, ◌^◌, length, chars, IfErr, IfOk};
+ghost use Rattle.org_expression.specs.Grammar.{Reads};
 ghost use Rattle.org_match.specs.Refusal.{IsRefusal};
 
 use crate::build::built;
 use crate::built::Match;
-use crate::draft::Draft;
-use crate::scan::measure;
-use crate::state::State;
-use crate::step::step;
-use crate::tree::Written;
 use org_base::Fault;
-use std::alloc::{AllocError, Global};
+use org_expression::Written;
+use std::alloc::Global;
 
 impl Match {
     /// Reads an expression (Org manual 9.6, Matching tags and properties). `MatchAt` exactly where the text is none, with
@@ -23,30 +18,9 @@ impl Match {
         ensures value { IfOk result (λ found. Reads (chars text.now) found) }
         ensures refused { IfErr result (IsRefusal (chars text.now)) }
     {
-        let extent = measure(text);
-        if !extent.is_whole {
-            return Err(Fault::MatchAt(extent.at as u32));
-        }
-        match parse(alloc, text)? {
-            Some(written) => built(alloc, &written),
-            // `measure` and `parse` agree, so this is never reached.
-            None => Err(Fault::MatchAt(extent.at as u32)),
+        match Written::read(alloc, text) {
+            Ok(written) => built(alloc, &written),
+            Err(fault) => Err(fault),
         }
     }
-}
-
-/// The expression that the text is, with its patterns as they are written.
-fn parse(alloc: Global, text: &str) -> Result<Option<Written>, AllocError>
-    ensures value { IfOk result (λ found. found ≡ read_all (chars text.now)) }
-{
-    let mut draft = Draft::new(alloc);
-    let mut state = State::Start;
-    for c in text.chars() {
-        draft.absorb(state, c)?;
-        match step(state, c) {
-            Some(next) => state = next,
-            None => return Ok(None),
-        }
-    }
-    draft.finish(state)
 }
