@@ -20,7 +20,7 @@ impl Words {
     ghost use Rattle.std.specs.Prelude.{◌≡◌, ◌++◌, ◌∷◌, [], OnOk, OnErr, IfOk, chars, encode_utf8_all, string_bytes};
 
     /// No characters.
-    pub fn new(alloc: Global) -> Words
+    pub(crate) fn new(alloc: Global) -> Words
         ensures value { result ≡ [] }
     {
         Words {
@@ -28,7 +28,7 @@ impl Words {
         }
     }
 
-    /// The text.
+    /// The characters, as a text.
     pub fn as_str(&self) -> &str
         ensures chars { chars result.now ≡ self.now }
         ensures bytes { result.now ≡ encode_utf8_all self.now }
@@ -37,7 +37,7 @@ impl Words {
     }
 
     /// Adds a character. An `Err` leaves the text as it was.
-    pub fn push(&mut self, c: char) -> Result<(), AllocError>
+    pub(crate) fn push(&mut self, c: char) -> Result<(), AllocError>
         ensures ok { OnOk result (self.new ≡ self.old ++ c ∷ []) }
         ensures err { OnErr result (self.new ≡ self.old) }
     {
@@ -46,7 +46,7 @@ impl Words {
     }
 
     /// Takes all characters out.
-    pub fn clear(&mut self)
+    pub(crate) fn clear(&mut self)
         ensures value { self.new ≡ [] }
     {
         self.text.clear();
