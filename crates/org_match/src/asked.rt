@@ -2,17 +2,18 @@
 ghost use Rattle.std.specs.Prelude.{◌≡◌, IfOk, IsOkUnless, bytes_eq};
 ghost use Rattle.std.specs.List.{list_any};
 ghost use Rattle.org_base.specs.Codes.{memory_fault};
+ghost use Rattle.org_match.specs.Built.{built_item_of};
 ghost use Rattle.org_match.specs.Holds as spec;
 ghost use Rattle.org_match.specs.Patterns.{found};
-ghost use Rattle.org_match.specs.Tree.{built_item_of, sign_of};
+ghost use Rattle.org_expression.specs.Tree.{sign_of};
 
 use crate::built::{BuiltItem, BuiltTerm};
 use crate::compare::compares;
 use crate::facts::Facts;
 use crate::pattern::Searcher;
-use crate::tree::{Link, Sign};
 use org_base::Fault;
 use org_cal::Moment;
+use org_expression::{Link, Sign};
 use std::alloc::Global;
 use std::marker::Model;
 
@@ -26,9 +27,9 @@ pub struct Asked<'a> {
 
 impl<'a> Model for Asked<'a> {
     ghost use Rattle.std.specs.Prelude.{◌≡◌};
-    ghost use Rattle.org_match.specs.Grammar.{Item};
+    ghost use Rattle.org_expression.specs.Grammar.{Item};
     ghost use Rattle.org_match.specs.Refusal.{item_pattern};
-    ghost use Rattle.org_match.specs.Tree.{built_item_of};
+    ghost use Rattle.org_match.specs.Built.{built_item_of};
 
     ghost Value = { Item };
 

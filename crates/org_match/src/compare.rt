@@ -1,15 +1,14 @@
 //! Comparisons of a property's text with a value.
 ghost use Rattle.std.specs.Prelude.{◌≡◌};
+ghost use Rattle.org_match.specs.Built.{built_value_of};
 ghost use Rattle.org_match.specs.Compare as spec;
 ghost use Rattle.org_match.specs.Refusal.{value_pattern};
-ghost use Rattle.org_match.specs.Tree.{built_value_of, op_of};
+ghost use Rattle.org_expression.specs.Tree.{op_of};
 
 use crate::built::BuiltValue;
-use crate::decimal::{number, number_at};
 use crate::pattern::Searcher;
-use crate::times::{front_minute, is_time, named_minute};
-use crate::tree::Op;
 use org_cal::Moment;
+use org_expression::{Op, front_minute, is_time, named_minute, number, number_at};
 use std::cmp::Ordering;
 
 /// Whether a text meets an operator and a value at a moment. The searcher is that of the value's pattern.

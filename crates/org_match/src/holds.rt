@@ -2,14 +2,14 @@
 ghost use Rattle.std.specs.Prelude.{◌≡◌, ◌&&◌, IfOk, IsOkUnless, map};
 ghost use Rattle.org_base.specs.Codes.{memory_fault};
 ghost use Rattle.org_match.specs.Holds as spec;
-ghost use Rattle.org_match.specs.Tree.{built_item_of, built_term_of};
+ghost use Rattle.org_match.specs.Built.{built_item_of, built_term_of};
 
 use crate::asked::{Asked, signed};
 use crate::built::{BuiltItem, BuiltTerm, Match};
 use crate::facts::Facts;
-use crate::tree::{Kind, Link};
 use org_base::Fault;
 use org_cal::Moment;
+use org_expression::{Kind, Link};
 use std::alloc::Global;
 use std::marker::Model;
 
@@ -22,7 +22,7 @@ pub struct Testing<'a> {
 
 impl<'a> Model for Testing<'a> {
     ghost use Rattle.std.specs.Prelude.{◌≡◌};
-    ghost use Rattle.org_match.specs.Grammar.{Expr};
+    ghost use Rattle.org_expression.specs.Grammar.{Expr};
     ghost use Rattle.org_match.specs.Holds.{tag_items};
 
     ghost Value = { Expr };

@@ -6,6 +6,9 @@
 //!                                           thousand days of the calendar in turn, or on the last thousand
 #![tactic(auto)]
 
+ghost use Rattle.std.specs.Prelude.{◌≡◌, length};
+ghost use Rattle.org_stamp.specs.Line.{stamps_of};
+
 use org_cal::Day;
 use org_repeat::occurs_on;
 use org_stamp::{Stamp, read_stamp, stamps_in};
@@ -46,7 +49,7 @@ fn main(rt: HostRuntime) -> ExitCode {
             if rt.reader().read_to_end(&mut text).is_err() {
                 return ExitCode::from(3);
             }
-            count_stamps(text.as_slice())
+            count_stamps(text.as_slice()) as u64
         }
         Part::Occurrences(unit, is_far) => count_occurrences(unit, is_far),
     };
@@ -65,12 +68,11 @@ fn asked(words: &[String]) -> Option<Part<'_>> {
     Some(Part::Occurrences(words[2].as_str(), words[3].as_str() == "far"))
 }
 
-fn count_stamps(text: &[u8]) -> u64 {
-    let mut count = 0u64;
-    for _found in stamps_in(text) {
-        count = count.saturating_add(1);
-    }
-    count
+// How many timestamps stand in the text, taken as one line.
+fn count_stamps(text: &[u8]) -> usize
+    ensures value { result ≡ length (stamps_of text.now) }
+{
+    stamps_in(text).count()
 }
 
 fn count_occurrences(unit: &str, is_far: bool) -> u64 {

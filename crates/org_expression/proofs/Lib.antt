@@ -1,0 +1,10 @@
+pub mod Accepts
+pub mod Chars
+pub mod Digits
+pub mod Drafting
+pub mod Drafts
+pub mod Fronts
+pub mod Live
+pub mod Marks
+pub mod Moved
+pub mod Run

@@ -1,0 +1,10 @@
+pub mod Automaton
+pub mod Decimal
+pub mod Draft
+pub mod Drafted
+pub mod Grammar
+pub mod Laws
+pub mod Names
+pub mod Refusal
+pub mod Times
+pub mod Tree

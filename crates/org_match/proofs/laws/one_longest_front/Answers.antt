@@ -1,5 +1,0 @@
-use Rattle.org_match.proofs.Fronts as fronts
-use Rattle.org_match.proofs.laws.one_longest_front.Goals as goal
-
-pub returns : goal.returns
-returns c = fronts.one_longest_front
