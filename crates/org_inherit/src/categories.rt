@@ -24,8 +24,8 @@ impl<'a> Model for Categories<'a> {
 }
 
 impl<'a> Categories<'a> {
-    // No categories, with room for so many. Want of memory is its only refusal.
-    fn with_room(alloc: Global, count: usize) -> Result<Categories<'a>, Fault>
+    /// No categories, with room for so many. Want of memory is its only refusal.
+    pub(crate) fn with_room(alloc: Global, count: usize) -> Result<Categories<'a>, Fault>
         ensures value { IfOk result (λ categories. categories ≡ []) }
         ensures memory { IsOkUnless result memory_fault }
     {
@@ -33,26 +33,14 @@ impl<'a> Categories<'a> {
         Ok(Categories { list })
     }
 
-    /// Those of all entries of an outline, in one pass over it: an entry's own value of `CATEGORY`, else its parent's
-    /// category, and the file's where it has no parent. Want of memory is its only refusal.
-    pub(crate) fn of(
-        alloc: Global,
+    /// The category of the entry that comes next: its own value of `CATEGORY`, else its parent's category, and the file's
+    /// where it has no parent.
+    pub(crate) fn next(
+        &self,
         outline: &'a Outline,
         file_category: &'a [u8],
-    ) -> Result<Categories<'a>, Fault>
-        ensures value { IfOk result (λ table. table ≡ map (category_under outline.now file_category.now) (range_with_len 0 (length outline.now))) }
-        ensures memory { IsOkUnless result memory_fault }
-    {
-        let mut table = Categories::with_room(alloc, outline.count())?;
-        for place in 0..outline.count() {
-            let category = table.next(outline, file_category, place);
-            table.push(category)?;
-        }
-        Ok(table)
-    }
-
-    // The category of the entry that comes next.
-    fn next(&self, outline: &'a Outline, file_category: &'a [u8], place: usize) -> &'a [u8]
+        place: usize,
+    ) -> &'a [u8]
         requires within { place < length outline.now }
         requires before { self.now ≡ map (category_under outline.now file_category.now) (range_with_len 0 place) }
         ensures value { result.now ≡ category_under outline.now file_category.now place }
@@ -66,8 +54,8 @@ impl<'a> Categories<'a> {
         }
     }
 
-    // Puts one more at the end.
-    fn push(&mut self, category: &'a [u8]) -> Result<(), Fault>
+    /// Puts one more at the end.
+    pub(crate) fn push(&mut self, category: &'a [u8]) -> Result<(), Fault>
         ensures ok { OnOk result (self.new ≡ self.old ++ category.now ∷ []) }
         ensures memory { IsOkUnless result memory_fault }
     {

@@ -1,15 +1,13 @@
 //! Hidden headings.
-ghost use Rattle.std.specs.Prelude.{◌≡◌, ◌≤◌, length, map, IfOk, IsOkUnless};
+ghost use Rattle.std.specs.Prelude.{◌≡◌, ◌<◌, ◌≤◌, length, map};
 ghost use Rattle.std.specs.List.{list_any, range_with_len};
-ghost use Rattle.org_base.specs.Codes.{memory_fault};
 ghost use Rattle.org_head.specs.Spans.{part_of};
 ghost use Rattle.org_inherit.specs.Hidden.{is_archive, hides, is_hidden, of_parent};
 ghost use Rattle.org_outline.specs.Places.{behind};
 
-use org_base::{Fault, Span};
+use org_base::Span;
 use org_entry::Entry;
 use org_outline::Outline;
-use std::alloc::Global;
 
 fn is_archive(tag: &[u8]) -> bool
     ensures value { result ≡ is_archive tag.now }
@@ -49,16 +47,11 @@ fn of_parent(table: &[bool], parent: Option<usize>) -> bool
     }
 }
 
-/// Whether each entry of the outline is hidden, in one pass over it. Want of memory is its only refusal.
-pub(crate) fn hidden_table(alloc: Global, outline: &Outline) -> Result<Vec<bool>, Fault>
-    ensures value { IfOk result (λ table. table.items ≡ map (is_hidden outline.now) (range_with_len 0 (length outline.now))) }
-    ensures memory { IsOkUnless result memory_fault }
+/// Whether an entry is hidden, from the same of the entries before it.
+pub(crate) fn is_hidden(outline: &Outline, before: &[bool], place: usize) -> bool
+    requires within { place < length outline.now }
+    requires before { before.now ≡ map (is_hidden outline.now) (range_with_len 0 place) }
+    ensures value { result ≡ is_hidden outline.now place }
 {
-    let mut table = Vec::with_capacity(alloc, outline.count())?;
-    for place in 0..outline.count() {
-        let own = hides(outline.entry(place));
-        let inherited = of_parent(&table, outline.parent(place));
-        table.push(own || inherited)?;
-    }
-    Ok(table)
+    hides(outline.entry(place)) || of_parent(before, outline.parent(place))
 }

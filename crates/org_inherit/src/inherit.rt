@@ -9,13 +9,10 @@ ghost use Rattle.org_inherit.specs.declared.special.Special.TheVariants.{AllTags
 ghost use Rattle.org_inherit.specs.Tags.{all_tags};
 ghost use Rattle.org_inherit.specs.Values.{plain_value};
 
-use crate::categories::Categories;
 use crate::category::file_category;
 use crate::heading::{copied, heading_value};
-use crate::hidden::hidden_table;
-use crate::places::Places;
 use crate::special::{HeadingValue, Special};
-use crate::tagged::all_nearest_tagged;
+use crate::tables::Tables;
 use crate::tags::{all_tags, tags_value};
 use crate::values::{file_value, is_inherited, nearest_value};
 use org_base::{Bytes, Fault, Texts};
@@ -34,12 +31,7 @@ pub struct Inherit<'a> {
     settings: &'a Settings,
     file: &'a str,
     inherited: &'a Texts,
-    // For each entry whether it is hidden.
-    hidden: Vec<bool>,
-    // For each entry the nearest one with own tags, itself or an ancestor.
-    tagged: Places,
-    // The category of each entry.
-    categories: Categories<'a>,
+    tables: Tables<'a>,
 }
 
 impl<'a> Model for Inherit<'a> {
@@ -50,12 +42,12 @@ impl<'a> Model for Inherit<'a> {
 
     ghost view = { λ i. record { entries = i.outline.now; settings = i.settings.now; file = i.file.now; inherited = i.inherited.now } };
 
-    ghost invariant = { λ i. HasTables (record { entries = i.outline.now; settings = i.settings.now; file = i.file.now; inherited = i.inherited.now }) i.hidden.items i.tagged i.categories };
+    ghost invariant = { λ i. HasTables (record { entries = i.outline.now; settings = i.settings.now; file = i.file.now; inherited = i.inherited.now }) i.tables.hidden.items i.tables.tagged i.tables.categories };
 }
 
 impl<'a> Inherit<'a> {
     /// What an outline says, in a file of this name with these settings, where the values of these names are inherited.
-    /// It passes over the outline once for each of its three tables. Want of memory is its only refusal.
+    /// It passes over the outline once. Want of memory is its only refusal.
     pub fn new(
         alloc: Global,
         outline: &'a Outline,
@@ -66,19 +58,15 @@ impl<'a> Inherit<'a> {
         ensures value { IfOk result (λ inherit. inherit ≡ record { entries = outline.now; settings = settings.now; file = file.now; inherited = inherited.now }) }
         ensures memory { IsOkUnless result memory_fault }
     {
-        let hidden = hidden_table(alloc, outline)?;
-        let tagged = all_nearest_tagged(alloc, outline)?;
         let file_category = file_category(outline, settings, file);
-        let categories = Categories::of(alloc, outline, file_category)?;
+        let tables = Tables::of(alloc, outline, file_category)?;
         Ok(Inherit {
             alloc,
             outline,
             settings,
             file,
             inherited,
-            hidden,
-            tagged,
-            categories,
+            tables,
         })
     }
 
@@ -103,7 +91,7 @@ impl<'a> Inherit<'a> {
         requires { place < length self.now.entries }
         ensures value { result ≡ is_hidden self.now.entries place }
     {
-        self.hidden[place]
+        self.tables.hidden[place]
     }
 
     /// The file's tags, the tags of the ancestors from the outermost, and the own tags; of equal ones the first (Org
@@ -114,7 +102,13 @@ impl<'a> Inherit<'a> {
         ensures memory { IsOkUnless result memory_fault }
     {
         let file_tags = self.settings.file_tags();
-        all_tags(self.alloc, file_tags, self.outline, &self.tagged, place)
+        all_tags(
+            self.alloc,
+            file_tags,
+            self.outline,
+            &self.tables.tagged,
+            place,
+        )
     }
 
     /// The category, lent (Org manual 9.6, "Categories"): the own property `CATEGORY`, else the nearest ancestor's, else
@@ -124,7 +118,7 @@ impl<'a> Inherit<'a> {
         requires { place < length self.now.entries }
         ensures value { result.now ≡ category self.now place }
     {
-        self.categories.get(place)
+        self.tables.categories.get(place)
     }
 
     /// The value of a name, whose letter case doesn't count; None where it is missing. It may be empty.

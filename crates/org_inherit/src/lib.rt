@@ -14,6 +14,7 @@ mod inherits;
 pub mod laws;
 mod places;
 mod special;
+mod tables;
 mod tagged;
 mod tags;
 mod values;

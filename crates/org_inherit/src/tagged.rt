@@ -1,14 +1,11 @@
 //! Which headings inherited tags come from.
-ghost use Rattle.std.specs.Prelude.{◌≡◌, ◌<◌, length, map, IfOk, IsOkUnless};
+ghost use Rattle.std.specs.Prelude.{◌≡◌, ◌<◌, length, map};
 ghost use Rattle.std.specs.List.{range_with_len};
-ghost use Rattle.org_base.specs.Codes.{memory_fault};
-ghost use Rattle.org_inherit.specs.Tagged.{is_tagged, nearest_tagged, all_nearest_tagged};
+ghost use Rattle.org_inherit.specs.Tagged.{is_tagged, nearest_tagged};
 
 use crate::places::Places;
-use org_base::Fault;
 use org_entry::Entry;
 use org_outline::Outline;
-use std::alloc::Global;
 
 // Whether an entry has own tags.
 fn is_tagged(entry: &Entry) -> bool
@@ -20,8 +17,8 @@ fn is_tagged(entry: &Entry) -> bool
     }
 }
 
-// The nearest entry with own tags, itself or an ancestor, from those of the entries before it.
-fn nearest_tagged(outline: &Outline, before: &Places, place: usize) -> Option<usize>
+/// The nearest entry with own tags, itself or an ancestor, from those of the entries before it.
+pub(crate) fn nearest_tagged(outline: &Outline, before: &Places, place: usize) -> Option<usize>
     requires within { place < length outline.now }
     requires before { before.now ≡ map (nearest_tagged outline.now) (range_with_len 0 place) }
     ensures value { result ≡ nearest_tagged outline.now place }
@@ -31,18 +28,4 @@ fn nearest_tagged(outline: &Outline, before: &Places, place: usize) -> Option<us
     } else {
         before.at(outline.parent(place))
     }
-}
-
-/// For each entry the nearest one with own tags, itself or an ancestor, in one pass over the outline. Want of memory is its
-/// only refusal.
-pub(crate) fn all_nearest_tagged(alloc: Global, outline: &Outline) -> Result<Places, Fault>
-    ensures value { IfOk result (λ table. table ≡ all_nearest_tagged outline.now) }
-    ensures memory { IsOkUnless result memory_fault }
-{
-    let mut table = Places::with_room(alloc, outline.count())?;
-    for place in 0..outline.count() {
-        let nearest = nearest_tagged(outline, &table, place);
-        table.push(nearest)?;
-    }
-    Ok(table)
 }
