@@ -57,7 +57,7 @@ fn classify_sections<T: Text>(
     ensures few { OnErr result ((n : ℕ) × (n ≤ length (sections (T.content text.now))) × (meter.new ≡ classified n meter.old)) }
     ensures memory { IsOkUnless result memory_fault }
 {
-    let mut classes = Vec::new(alloc);
+    let mut classes = Vec::with_capacity(alloc, spans.count())?;
     for span in spans.as_slice() {
         let own = classify(alloc, meter, text, *span)?;
         push_setting_lines(alloc, lines, text, *span, &own)?;
@@ -83,7 +83,7 @@ fn read_sections<T: Text>(
     ensures few { OnErr result ((n : ℕ) × (n ≤ length (sections (T.content text.now))) × (meter.new ≡ have_read n meter.old)) }
     ensures memory { IsOkUnless result memory_fault }
 {
-    let mut entries = Entries::new(alloc);
+    let mut entries = Entries::with_room(alloc, spans.count())?;
     for (place, span) in spans.as_slice().iter().enumerate() {
         let entry = read_entry(alloc, meter, text, *span, &classes[place], settings)?;
         keep(&mut entries, entry)?;

@@ -1,7 +1,9 @@
 -- The first line of a text.
-use Rattle.std.proofs.Common.{◌≡◌, ℕ, suc, ◌+◌, ◌==◌, nat_lt, Bool, true, false, cond, Some, None, List, [], ◌∷◌, ◌++◌, length, take, get_or, refl, sym, ap, ◌∙◌, inl, inr, arith}
-use Rattle.std.proofs.lemmas.Bool.{cases_Bool, ltb-false}
+use Rattle.std.proofs.Common.{◌≡◌, ℕ, suc, ◌+◌, ◌==◌, nat_lt, Bool, true, false, cond, Option, Some, None, List, [], ◌∷◌, ◌++◌, length, take, get_or, refl, sym, ap, ◌∙◌, inl, inr, arith}
+use Rattle.std.proofs.lemmas.Bool.{cases_Bool, false_from_ne_true, le-ltb, lt-ltb, ltb-false}
 use Rattle.std.proofs.lemmas.List.{take_all}
+use Rattle.std.proofs.lemmas.List.Sums.{position_or_len_is}
+use Rattle.memchr.specs.Find.{IsFirstByte, is_byte}
 use Rattle.std.specs.List.{onto_first, position_or_len, position}
 use Rattle.org_lines.specs.Cuts.{lines}
 
@@ -70,3 +72,12 @@ first_again (b ∷ bs) l ls more e last = elim (cases_Bool (b == 10)) [
       let is : onto_first b (lines bs) ≡ l ∷ ls = rw other at e in
       first_onto b bs l ls (lines bs) more other refl is last (λ m ms k h. first_again bs m ms more k h)
 ]
+
+-- the first line feed, as a search finds it
+pub feed_is : (text : List ℕ) (found : Option ℕ) → IsFirstByte (is_byte 10) text found → found ≡ position (λ b. b == 10) text
+feed_is text None h =
+    let at = position_or_len_is (is_byte 10) text (length text) 0 (omega arith) (λ k lt. false_from_ne_true _ (h k (omega arith) lt)) (λ lt. absurd (omega (arith, lt))) in
+    rw (at, le-ltb (length text) (length text) (omega arith)) refl
+feed_is text (Some i) h =
+    let at = position_or_len_is (is_byte 10) text i 0 (omega (arith, h.0.high)) (λ k lt. false_from_ne_true _ (h.0.before k (omega arith) lt)) (λ lt. h.1) in
+    rw (at, lt-ltb i (length text) h.0.high) refl

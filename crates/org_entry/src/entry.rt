@@ -6,6 +6,7 @@ ghost use Rattle.org_head.specs.Spans.{part_of};
 
 use crate::lists::{Clocks, PlacedStamps};
 use crate::own::{OwnPlanning, OwnProperties};
+use memchr::memchr;
 use org_base::{Bytes, Span};
 use org_head::Head;
 
@@ -55,5 +56,5 @@ impl Entry {
 fn line_feed(text: &[u8]) -> Option<usize>
     ensures value { result ≡ position (λ b. b == 10) text.now }
 {
-    text.iter().position(|byte| *byte == b'\n')
+    memchr(b'\n', text)
 }

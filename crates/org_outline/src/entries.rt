@@ -1,6 +1,8 @@
 //! Entries that are to be put into an outline.
-ghost use Rattle.std.specs.Prelude.{◌≡◌, [], ◌++◌, ◌∷◌, length, map, IfErr, OnOk, OnErr};
+ghost use Rattle.std.specs.Prelude.{◌≡◌, [], ◌++◌, ◌∷◌, length, map, IfOk, IfErr, OnOk, OnErr, IsOkUnless};
+ghost use Rattle.org_base.specs.Codes.{memory_fault};
 
+use org_base::Fault;
 use org_entry::Entry;
 use std::alloc::{AllocFailed, Global};
 use std::marker::Model;
@@ -31,6 +33,15 @@ impl Entries {
             alloc,
             list: Vec::new(alloc),
         }
+    }
+
+    /// No entries, with room for so many. Want of memory is its only refusal.
+    pub fn with_room(alloc: Global, count: usize) -> Result<Entries, Fault>
+        ensures value { IfOk result (λ entries. entries ≡ []) }
+        ensures memory { IsOkUnless result memory_fault }
+    {
+        let list = Vec::with_capacity(alloc, count)?;
+        Ok(Entries { alloc, list })
     }
 
     /// Puts an entry at the end. Want of memory is the only refusal: it hands the entry back, and the entries are as

@@ -33,7 +33,7 @@ pub returns-in_err-entry-clause-few : goal.returns-in_err-entry-clause-few
 returns-in_err-entry-clause-few g c =
     let t = g.T.Text.content c.args.text.now in
     let count = length-map c.args.spans.now (bytes_in t) in
-    one_read c.from_residual.result (sections t) c.loop-place.place _ _ _ (omega (arith, ap length c.as_slice-span-items.ensures.value, ap length c.requires.bytes, count)) c.read_entry.ensures.counts c.loop-place.invariant.counts
+    one_read c.from_residual-in_err-entry.result (sections t) c.loop-place.place _ _ _ (omega (arith, ap length c.as_slice-span-items.ensures.value, ap length c.requires.bytes, count)) c.read_entry.ensures.counts c.loop-place.invariant.counts
 
 pub returns-in_err-keep-clause-few : goal.returns-in_err-keep-clause-few
 returns-in_err-keep-clause-few g c =
