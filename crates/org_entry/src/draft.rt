@@ -105,6 +105,7 @@ impl Draft {
         }) }
         ensures memory { IsOkUnless result memory_fault }
     {
+        self.text.reserve_exact(line.len())?;
         self.text.extend_from_slice(line)?;
         self.planning = OwnPlanning::new(self.alloc, planning_at(at, line))?;
         Ok(())

@@ -9,10 +9,11 @@ use org_stamp::{Found, stamps_in};
 use std::alloc::Global;
 use std::marker::Model;
 
-/// Stamps with their places, in order.
+/// Stamps with their places, in order. Most sections have none, so their list stands out of line.
 #[derive(Drop)]
 pub struct PlacedStamps {
-    stamps: Vec<Found>,
+    alloc: Global,
+    stamps: Option<Box<Vec<Found>>>,
 }
 
 impl Model for PlacedStamps {
@@ -21,7 +22,10 @@ impl Model for PlacedStamps {
 
     ghost Value = { List AnyFound };
 
-    ghost view = { λ s. s.stamps.items };
+    ghost use Rattle.std.specs.Prelude.{[], unwrap_or};
+    ghost use Rattle.std.specs.Option.{option_map};
+
+    ghost view = { λ s. unwrap_or (option_map (λ b. b.value.items) s.stamps) [] };
 }
 
 impl PlacedStamps {
@@ -30,7 +34,8 @@ impl PlacedStamps {
         ensures value { result ≡ [] }
     {
         PlacedStamps {
-            stamps: Vec::new(alloc),
+            alloc,
+            stamps: None,
         }
     }
 
@@ -52,13 +57,24 @@ impl PlacedStamps {
         ensures ok { OnOk result (self.new ≡ self.old ++ if_active at found) }
         ensures memory { IsOkUnless result memory_fault }
     {
-        if found.stamp.active {
-            self.stamps.push(Found {
+        if !found.stamp.active {
+            return Ok(());
+        }
+        if let Some(stamps) = &mut self.stamps {
+            stamps.push(Found {
                 at: at + found.at,
                 len: found.len,
                 stamp: found.stamp,
             })?;
+            return Ok(());
         }
+        let mut stamps = Vec::new(self.alloc);
+        stamps.push(Found {
+            at: at + found.at,
+            len: found.len,
+            stamp: found.stamp,
+        })?;
+        self.stamps = Some(Box::new(self.alloc, stamps)?);
         Ok(())
     }
 
@@ -66,7 +82,7 @@ impl PlacedStamps {
     pub fn count(&self) -> usize
         ensures value { result ≡ length self.now }
     {
-        self.stamps.len()
+        self.as_slice().len()
     }
 
     /// The stamp at a place, from 0.
@@ -80,14 +96,18 @@ impl PlacedStamps {
     pub fn as_slice(&self) -> &[Found]
         ensures value { result.now ≡ self.now }
     {
-        self.stamps.as_slice()
+        match &self.stamps {
+            Some(stamps) => stamps.as_slice(),
+            None => &[],
+        }
     }
 }
 
-/// The clocks of a section, in order.
+/// The clocks of a section, in order. Most sections have none, so their list stands out of line.
 #[derive(Drop)]
 pub struct Clocks {
-    clocks: Vec<ClockLine>,
+    alloc: Global,
+    clocks: Option<Box<Vec<ClockLine>>>,
 }
 
 impl Model for Clocks {
@@ -96,7 +116,10 @@ impl Model for Clocks {
 
     ghost Value = { List ClockLine };
 
-    ghost view = { λ c. c.clocks.items };
+    ghost use Rattle.std.specs.Prelude.{[], unwrap_or};
+    ghost use Rattle.std.specs.Option.{option_map};
+
+    ghost view = { λ c. unwrap_or (option_map (λ b. b.value.items) c.clocks) [] };
 }
 
 impl Clocks {
@@ -105,7 +128,8 @@ impl Clocks {
         ensures value { result ≡ [] }
     {
         Clocks {
-            clocks: Vec::new(alloc),
+            alloc,
+            clocks: None,
         }
     }
 
@@ -115,7 +139,13 @@ impl Clocks {
         ensures memory { IsOkUnless result memory_fault }
     {
         let ClockLine { from, to } = clock;
-        self.clocks.push(ClockLine { from, to })?;
+        if let Some(clocks) = &mut self.clocks {
+            clocks.push(ClockLine { from, to })?;
+            return Ok(());
+        }
+        let mut clocks = Vec::new(self.alloc);
+        clocks.push(ClockLine { from, to })?;
+        self.clocks = Some(Box::new(self.alloc, clocks)?);
         Ok(())
     }
 
@@ -123,7 +153,7 @@ impl Clocks {
     pub fn count(&self) -> usize
         ensures value { result ≡ length self.now }
     {
-        self.clocks.len()
+        self.as_slice().len()
     }
 
     /// The clock at a place, from 0.
@@ -137,6 +167,9 @@ impl Clocks {
     pub fn as_slice(&self) -> &[ClockLine]
         ensures value { result.now ≡ self.now }
     {
-        self.clocks.as_slice()
+        match &self.clocks {
+            Some(clocks) => clocks.as_slice(),
+            None => &[],
+        }
     }
 }

@@ -113,7 +113,7 @@ fn read_parts(alloc: Global, line: &[u8], settings: &Settings) -> Result<Head, F
 
 /// The parts of a heading line in a file with these settings: behind the stars, each optional and a whole word, a
 /// keyword, a priority cookie and `COMMENT`, then the title, then the tags as the last word (Org Syntax, "Headings").
-/// Want of memory is its only refusal, and can come only from the fifth tag on.
+/// Want of memory is its only refusal, and can come only from the third tag on.
 #[tactic(auto, using(crate::proofs::Inside::head_inside, crate::proofs::PartsHold::parts_hold))]
 pub fn read_head(alloc: Global, line: &[u8], settings: &Settings) -> Result<Head, Fault>
     requires size { length line.now < 2 ^ 32 }

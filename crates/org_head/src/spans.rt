@@ -9,10 +9,10 @@ use smallvec::SmallVec;
 use std::alloc::Global;
 use std::marker::Model;
 
-/// Parts of a line in order. Up to four of them need no memory.
+/// Parts of a line in order. Up to two of them need no memory.
 #[derive(Drop)]
 pub struct Spans {
-    spans: SmallVec<Span, 4>,
+    spans: SmallVec<Span, 2>,
 }
 
 impl Model for Spans {

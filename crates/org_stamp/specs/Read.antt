@@ -34,6 +34,15 @@ abbrev pub ranged : Stamp → ℕ → List ℕ → Stamp × ℕ
 ranged s n (a ∷ b ∷ rest) = if (a == 45) && (b == 45) then joined s n (single_of rest) else (s, n)
 ranged s n _ = (s, n)
 
+-- the length of the same
+abbrev pub joined_len : Bool → ℕ → Option (Stamp × ℕ) → ℕ
+joined_len active n None = n
+joined_len active n (Some t) = if same_bool active t.0.active then n + 2 + t.1 else n
+
+abbrev pub ranged_len : Bool → ℕ → List ℕ → ℕ
+ranged_len active n (a ∷ b ∷ rest) = if (a == 45) && (b == 45) then joined_len active n (single_of rest) else n
+ranged_len active n _ = n
+
 -- the longest stamp at the front
 abbrev pub stamp_of : List ℕ → Option (Stamp × ℕ)
 stamp_of bytes = option_map (λ found. ranged found.0 found.1 (drop found.1 bytes)) (single_of bytes)

@@ -5,7 +5,7 @@ ghost use Rattle.org_base.specs.Words.{is_space};
 ghost use Rattle.org_stamp.specs.Pair as spec;
 
 use crate::pair::{Pair, PlanningWord};
-use crate::read::{single_of, stamp_of};
+use crate::read::{ranged_len, single_of, stamp_of};
 use crate::stamp::Stamp;
 use crate::word::leading_spaces;
 
@@ -41,8 +41,8 @@ fn pair_of(word: PlanningWord, at: usize, bytes: &[u8]) -> Option<Pair>
     ensures value { result ≡ spec.pair_of word at bytes.now }
     ensures bound { IfSome result (λ p. (at ≤ p.end) × (p.end ≤ at + length bytes.now) × (p.at + p.len ≤ at + length bytes.now)) }
 {
-    let (_, all) = stamp_of(bytes)?;
     let (stamp, len) = single_of(bytes)?;
+    let all = ranged_len(stamp.active, len, &bytes[len..]);
     Some(Pair {
         word,
         stamp,

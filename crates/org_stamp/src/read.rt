@@ -131,6 +131,21 @@ fn ranged(first: Stamp, len: usize, rest: &[u8]) -> (Stamp, usize)
     }
 }
 
+/// The length of a stamp with what follows it, if it begins a range, else its own.
+pub(crate) fn ranged_len(active: bool, len: usize, rest: &[u8]) -> usize
+    requires { len + length rest.now < 2 ^ 63 }
+    ensures value { result ≡ spec.ranged_len active len rest.now }
+    ensures within { result ≤ len + length rest.now }
+{
+    match rest {
+        [b'-', b'-', back @ ..] => match single_of(back) {
+            Some((second, more)) if second.active == active => len + 2 + more,
+            _ => len,
+        },
+        _ => len,
+    }
+}
+
 fn with_last(first: Stamp, second: Stamp) -> Stamp
     ensures value { result ≡ with_last first second }
 {
