@@ -170,10 +170,7 @@ impl Outline {
 }
 
 // The body of a list, to be shared. Want of memory hands the list back.
-fn shared(
-    alloc: Global,
-    list: Vec<Rc<Entry>>,
-) -> Result<Rc<Body>, AllocFailed<Vec<Rc<Entry>>>>
+fn shared(alloc: Global, list: Vec<Rc<Entry>>) -> Result<Rc<Body>, AllocFailed<Vec<Rc<Entry>>>>
     ensures value { IfOk result (λ b. b.value ≡ map (λ e. e.value) list.items) }
     ensures back { IfErr result (λ failed. map (λ e. e.value) failed.value.items ≡ map (λ e. e.value) list.items) }
 {

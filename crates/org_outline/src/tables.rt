@@ -88,10 +88,7 @@ fn parent_from(levels: &[Option<u32>], parents: &[Option<usize>], place: usize) 
 }
 
 // The parents of all entries.
-fn parent_table(
-    alloc: Global,
-    levels: &[Option<u32>],
-) -> Result<Vec<Option<usize>>, AllocError>
+fn parent_table(alloc: Global, levels: &[Option<u32>]) -> Result<Vec<Option<usize>>, AllocError>
     ensures value { IfOk result (λ v. v.items ≡ map (parent levels.now) (range_with_len 0 (length levels.now))) }
 {
     let mut parents = Vec::with_capacity(alloc, levels.len())?;

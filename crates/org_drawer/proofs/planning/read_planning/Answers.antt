@@ -1,5 +1,5 @@
 -- The pairs are read one by one, and a line without a first one is no planning line.
-use Rattle.std.proofs.Common.{◌≡◌, ap, sym, refl, ◌∙◌, ◌∷◌, Some, None, true, false, List, drop}
+use Rattle.std.proofs.Common.{ap, sym, ◌∙◌, ◌∷◌, Some, None, List, drop}
 use Rattle.std.specs.Prelude.{if◌then◌else◌, not, Option}
 use Rattle.org_stamp.specs.Pair.{is_empty, pairs_from}
 use Rattle.org_stamp.specs.declared.pair.Pair.{Pair}

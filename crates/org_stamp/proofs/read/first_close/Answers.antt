@@ -1,5 +1,4 @@
 -- What the search finds is the first place.
-use Rattle.std.proofs.Common.{length}
 use Rattle.org_stamp.proofs.LineLemmas.{first_is, none_is}
 use Rattle.org_stamp.proofs.read.first_close.Goals as goal
 
