@@ -199,6 +199,8 @@ fn measure(program: &str, own: &str) -> io::Result<()> {
         ("a section, 8 MiB", section_of(8 * MIB)),
         ("a drawer, 50,000 names", drawer_of(50_000)),
         ("a drawer, 100,000 names", drawer_of(100_000)),
+        ("rows under a drawer", format!("{}{}", drawer_of(50_000), "** TODO a\n".repeat(100_000))),
+        ("rows under properties", properties_of(50_000) + &"* TODO a\n".repeat(100_000)),
     ] {
         measure_text(program, own, &stream, what, &text)?;
     }
@@ -232,6 +234,11 @@ fn section_of(bytes: usize) -> String {
 fn drawer_of(names: usize) -> String {
     let lines: Vec<String> = (0..names).map(|name| format!(":name{name}: value\n")).collect();
     format!("* TODO a\n:PROPERTIES:\n{}:END:\n", lines.concat())
+}
+
+// Setting lines that give values to so many names.
+fn properties_of(names: usize) -> String {
+    (0..names).map(|name| format!("#+PROPERTY: name{name} value\n")).collect()
 }
 
 // 8 MiB of nearly 200,000 headings of one level.
