@@ -17,8 +17,13 @@ fn read(alloc: Global, text: &str) -> Result<FileOutline, Fault> {
     read_file(alloc, &mut Meter::new(), &text)
 }
 
-// Whether the entries at these places have these tags.
-fn tags_are(alloc: Global, file: &FileOutline, rows: &[(usize, &str)]) -> Result<bool, Fault> {
+// Whether the entries of a file at these places have these tags.
+fn tags_are(alloc: Global, text: &str, rows: &[(usize, &str)]) -> Result<bool, Fault> {
+    let file = read(alloc, text)?;
+    file_tags_are(alloc, &file, rows)
+}
+
+fn file_tags_are(alloc: Global, file: &FileOutline, rows: &[(usize, &str)]) -> Result<bool, Fault> {
     let names = Texts::new(alloc);
     let inherit = Inherit::new(alloc, &file.outline, &file.settings, "work.org", &names)?;
     for (place, want) in rows {
@@ -36,9 +41,7 @@ fn tags_are(alloc: Global, file: &FileOutline, rows: &[(usize, &str)]) -> Result
 
 #[test]
 fn tags_come_from_the_outermost(rt: HostRuntime) -> Result<(), Fail> {
-    let alloc = rt.alloc();
     let text = "#+FILETAGS: :f:\n* a :x:y:\n*** b :y:z:y:\n** c :f:w:\n* d\n";
-    let file = read(alloc, text)?;
     let rows = [
         (0, ":f:"),
         (1, ":f:x:y:"),
@@ -46,12 +49,20 @@ fn tags_come_from_the_outermost(rt: HostRuntime) -> Result<(), Fail> {
         (3, ":f:x:y:w:"),
         (4, ":f:"),
     ];
-    assert!(rt; tags_are(alloc, &file, &rows)?);
+    assert!(rt; tags_are(rt.alloc(), text, &rows)?);
+    let many = "* a :a:b:c:d:e:f:\n** b :g:a:\n*** c :h:i:b:j:i:\n";
+    let rows = [(1, ":a:b:c:d:e:f:g:"), (2, ":a:b:c:d:e:f:g:h:i:j:")];
+    assert!(rt; tags_are(rt.alloc(), many, &rows)?);
     Ok(())
 }
 
-// Whether just these entries are hidden.
-fn hidden_are(alloc: Global, file: &FileOutline, wants: &[bool]) -> Result<bool, Fault> {
+// Whether just these entries of a file are hidden.
+fn hidden_are(alloc: Global, text: &str, wants: &[bool]) -> Result<bool, Fault> {
+    let file = read(alloc, text)?;
+    file_hides(alloc, &file, wants)
+}
+
+fn file_hides(alloc: Global, file: &FileOutline, wants: &[bool]) -> Result<bool, Fault> {
     let names = Texts::new(alloc);
     let inherit = Inherit::new(alloc, &file.outline, &file.settings, "work.org", &names)?;
     for (place, want) in wants.iter().enumerate() {
@@ -64,18 +75,20 @@ fn hidden_are(alloc: Global, file: &FileOutline, wants: &[bool]) -> Result<bool,
 
 #[test]
 fn hidden_with_what_is_below(rt: HostRuntime) -> Result<(), Fail> {
-    let alloc = rt.alloc();
     let text =
         "#+FILETAGS: :ARCHIVE:\n* COMMENT p\n** TODO a\n* TODO b\n* c :x:ARCHIVE:\n*** d\n** e\n* COMMENTS\n";
-    let file = read(alloc, text)?;
     let wants = [false, true, true, false, true, true, true, false];
-    assert!(rt; hidden_are(alloc, &file, &wants)?);
+    assert!(rt; hidden_are(rt.alloc(), text, &wants)?);
     Ok(())
 }
 
 // Whether the second entry of a file has this category.
 fn category_is(alloc: Global, text: &str, want: &str) -> Result<bool, Fault> {
     let file = read(alloc, text)?;
+    file_category_is(alloc, &file, want)
+}
+
+fn file_category_is(alloc: Global, file: &FileOutline, want: &str) -> Result<bool, Fault> {
     let names = Texts::new(alloc);
     let inherit = Inherit::new(alloc, &file.outline, &file.settings, "d/x.y.org", &names)?;
     Ok(file.outline.count() > 1 && inherit.category(1) == want.as_bytes())
@@ -119,8 +132,18 @@ fn lent(value: &Option<Bytes>) -> Option<&[u8]> {
     }
 }
 
-// Whether names have these values at these places, where the values of some names are inherited.
+// Whether names have these values at these places of a file, where the values of some names are inherited.
 fn values_are(
+    alloc: Global,
+    text: &str,
+    inherited: &Texts,
+    rows: &[(usize, &str, Option<&[u8]>)],
+) -> Result<bool, Fault> {
+    let file = read(alloc, text)?;
+    file_values_are(alloc, &file, inherited, rows)
+}
+
+fn file_values_are(
     alloc: Global,
     file: &FileOutline,
     inherited: &Texts,
@@ -150,21 +173,20 @@ fn values_of_names(rt: HostRuntime) -> Result<(), Fail> {
     let alloc = rt.alloc();
     let text =
         "#+PROPERTY: Owner ann\n* a\n:PROPERTIES:\n:OWNER: bob\n:Owner+: cy\n:END:\n** b\n* c\n";
-    let file = read(alloc, text)?;
     let mut names = Texts::new(alloc);
     let own: [(usize, &str, Option<&[u8]>); 3] = [
         (1, "Owner", Some(b"bob cy")),
         (2, "Owner", None),
         (3, "Owner", None),
     ];
-    assert!(rt; values_are(alloc, &file, &names, &own)?);
+    assert!(rt; values_are(alloc, text, &names, &own)?);
     names.push(b"owner")?;
     let inherited: [(usize, &str, Option<&[u8]>); 3] = [
         (1, "Owner", Some(b"bob cy")),
         (2, "Owner", Some(b"bob cy")),
         (3, "Owner", Some(b"ann")),
     ];
-    assert!(rt; values_are(alloc, &file, &names, &inherited)?);
+    assert!(rt; values_are(alloc, text, &names, &inherited)?);
     Ok(())
 }
 
@@ -173,7 +195,6 @@ fn values_of_special_names(rt: HostRuntime) -> Result<(), Fail> {
     let alloc = rt.alloc();
     let text =
         "#+FILETAGS: :f:\n#+PRIORITIES: A Z F\n* TODO [#12] t i :x:x:\nSCHEDULED: <2024-02-28 Wed>--<2024-02-29 Thu> DEADLINE: <2024-03-01 Fri +1w> CLOSED: [2024-02-27 Tue 9:00]\n:PROPERTIES:\n:ITEM: other\n:END:\n** b\n";
-    let file = read(alloc, text)?;
     let rows: [(usize, &str, Option<&[u8]>); 18] = [
         (1, "todo", Some(b"TODO")),
         (1, "PRIORITY", Some(b"12")),
@@ -194,7 +215,7 @@ fn values_of_special_names(rt: HostRuntime) -> Result<(), Fail> {
         (0, "LEVEL", None),
         (0, "CATEGORY", Some(b"work")),
     ];
-    assert!(rt; values_are(alloc, &file, &Texts::new(alloc), &rows)?);
+    assert!(rt; values_are(alloc, text, &Texts::new(alloc), &rows)?);
     Ok(())
 }
 
@@ -207,8 +228,13 @@ fn both<'a>(alloc: Global, first: Inherit<'a>, second: Inherit<'a>) -> Result<In
     Ok(inherits)
 }
 
-// The category in the second of two files of one text.
-fn second_category_is(alloc: Global, file: &FileOutline, want: &str) -> Result<bool, Fault> {
+// Whether the category in the second of two files of one text is this.
+fn second_category_is(alloc: Global, text: &str, want: &str) -> Result<bool, Fault> {
+    let file = read(alloc, text)?;
+    second_of_files_has(alloc, &file, want)
+}
+
+fn second_of_files_has(alloc: Global, file: &FileOutline, want: &str) -> Result<bool, Fault> {
     let names = Texts::new(alloc);
     let first = Inherit::new(alloc, &file.outline, &file.settings, "a.org", &names)?;
     let second = Inherit::new(alloc, &file.outline, &file.settings, "b.org", &names)?;
@@ -222,8 +248,7 @@ fn second_category_is(alloc: Global, file: &FileOutline, want: &str) -> Result<b
 
 #[test]
 fn several_files(rt: HostRuntime) -> Result<(), Fail> {
-    let file = read(rt.alloc(), "* a\n")?;
-    assert!(rt; second_category_is(rt.alloc(), &file, "b")?);
+    assert!(rt; second_category_is(rt.alloc(), "* a\n", "b")?);
     Ok(())
 }
 
@@ -259,10 +284,31 @@ fn take_out(alloc: Global, outline: &mut Outline, start: usize, end: usize) -> R
     }
 }
 
+// Whether a share of an outline keeps its entries where some are taken out of the outline.
+fn share_keeps(
+    alloc: Global,
+    outline: &mut Outline,
+    before: &[Row],
+    after: &[Row],
+) -> Result<bool, Fault> {
+    let kept = outline.share()?;
+    if !take_out(alloc, outline, 1, 3)? {
+        return Ok(false);
+    }
+    Ok(has(outline, after) && has(&kept, before))
+}
+
+// Whether a file has these entries, and others once the second and third are taken out.
+fn entries_are(alloc: Global, text: &str, before: &[Row], after: &[Row]) -> Result<bool, Fault> {
+    let mut file = read(alloc, text)?;
+    if !has(&file.outline, before) {
+        return Ok(false);
+    }
+    share_keeps(alloc, &mut file.outline, before, after)
+}
+
 #[test]
 fn replaced_and_shared(rt: HostRuntime) -> Result<(), Fail> {
-    let alloc = rt.alloc();
-    let mut file = read(alloc, "x\n* a\n*** b\n**** c\n** d\n* e\n")?;
     let before = [
         ("", None, None, 1),
         ("* a\n", None, None, 5),
@@ -271,17 +317,14 @@ fn replaced_and_shared(rt: HostRuntime) -> Result<(), Fail> {
         ("** d\n", Some(1), Some(1), 5),
         ("* e\n", None, None, 6),
     ];
-    assert!(rt; has(&file.outline, &before));
-    let kept = file.outline.share()?;
-    assert!(rt; take_out(alloc, &mut file.outline, 1, 3)?);
     let after = [
         ("", None, None, 1),
         ("**** c\n", None, None, 2),
         ("** d\n", None, None, 3),
         ("* e\n", None, None, 4),
     ];
-    assert!(rt; has(&file.outline, &after));
-    assert!(rt; has(&kept, &before));
+    let text = "x\n* a\n*** b\n**** c\n** d\n* e\n";
+    assert!(rt; entries_are(rt.alloc(), text, &before, &after)?);
     Ok(())
 }
 
@@ -324,6 +367,35 @@ fn first_clock(entry: &Entry) -> Option<Minute> {
     }
 }
 
+// Whether the entry of the lines before the first heading is as it should be.
+fn is_front(entry: &Entry) -> bool {
+    entry.head.is_none()
+        && entry.planning.get().is_none()
+        && entry.line().is_empty()
+        && entry.drawer.get(b"OWNER") == Some(b"ann".as_slice())
+        && stamps_stand_at(entry, &[57])
+}
+
+// Whether the entry of the heading is.
+fn is_heading(entry: &Entry, start: Minute) -> bool {
+    entry.text.as_slice().len() == 59
+        && entry.line() == b"* TODO a <2024-02-28 Wed>  :x:\n".as_slice()
+        && title(entry) == Some(b"a <2024-02-28 Wed>".as_slice())
+        && deadline(entry) == Some(b"<2024-03-01 Fri>".as_slice())
+        && entry.drawer.get(b"owner") == Some(b"bob cy".as_slice())
+        && stamps_stand_at(entry, &[9, 186])
+        && first_clock(entry) == Some(start)
+}
+
+fn has_front_and_heading(outline: &Outline, start: Minute) -> bool {
+    outline.count() == 2 && is_front(outline.entry(0)) && is_heading(outline.entry(1), start)
+}
+
+fn sections_are_read(alloc: Global, text: &str, start: Minute) -> Result<bool, Fault> {
+    let file = read(alloc, text)?;
+    Ok(has_front_and_heading(&file.outline, start))
+}
+
 #[test]
 fn entries_of_sections(rt: HostRuntime) -> Result<(), Fail> {
     let text = "# <2024-02-25>
@@ -341,21 +413,7 @@ CLOCK: [2024-02-27 Tue 23:30]--[2024-02-28 Wed 00:45]
 # <2024-02-29>
 x [2024-02-26] <2024-02-27 Tue>
 ";
-    let file = read(rt.alloc(), text)?;
-    assert!(rt; file.outline.count() == 2);
-    let front = file.outline.entry(0);
-    assert!(rt; front.head.is_none() && front.planning.get().is_none());
-    assert!(rt; front.line().is_empty());
-    assert!(rt; front.drawer.get(b"OWNER") == Some(b"ann".as_slice()));
-    assert!(rt; stamps_stand_at(front, &[57]));
-    let entry = file.outline.entry(1);
-    assert!(rt; entry.text.as_slice().len() == 59);
-    assert!(rt; entry.line() == b"* TODO a <2024-02-28 Wed>  :x:\n".as_slice());
-    assert!(rt; title(entry) == Some(b"a <2024-02-28 Wed>".as_slice()));
-    assert!(rt; deadline(entry) == Some(b"<2024-03-01 Fri>".as_slice()));
-    assert!(rt; entry.drawer.get(b"owner") == Some(b"bob cy".as_slice()));
-    assert!(rt; stamps_stand_at(entry, &[9, 186]));
     let start = Minute::at(Day::read(b"2024-02-27")?, TimeOfDay::of_minutes(1410));
-    assert!(rt; first_clock(entry) == Some(start));
+    assert!(rt; sections_are_read(rt.alloc(), text, start)?);
     Ok(())
 }
