@@ -13,7 +13,7 @@ use std::time::Instant;
 
 const MIB: usize = 1 << 20;
 const SIZES: [usize; 3] = [MIB, 4 * MIB, 8 * MIB];
-const RUNS: usize = 7;
+const RUNS: usize = 15;
 const QUESTIONS: usize = 10;
 
 fn main() -> io::Result<()> {
