@@ -1,12 +1,14 @@
 -- Tables by an entry's place.
-use Rattle.std.proofs.Common.{◌≡◌, ℕ, ◌<◌, ◌≤◌, List, [], ◌∷◌, ◌++◌, Option, map, length, get_or, take, drop, refl, sym, ap, ◌∙◌, arith}
+use Rattle.std.proofs.Common.{◌≡◌, ℕ, ◌-◌, ◌<◌, ◌≤◌, List, [], ◌∷◌, ◌++◌, Option, None, Some, map, length, get_or, take, drop, refl, sym, ap, ◌∙◌, arith}
 use Rattle.std.specs.List.{range_with_len, splice}
+use Rattle.std.specs.Option.{SomeIff}
 use Rattle.std.proofs.lemmas.List.{length-map, take-map, drop-map, append_assoc}
 use Rattle.std.proofs.lemmas.List.FromFn.{length-map-range_with_len, get_or-map-range_with_len}
 use Rattle.org_entry.specs.declared.entry.Entry.{Entry}
-use Rattle.org_outline.specs.Tree.{parent, end_of}
+use Rattle.org_outline.specs.Tree.{end_of}
 use Rattle.org_outline.specs.Levels.{level_of, levels}
-use Rattle.org_outline.specs.Shared.{HasTables}
+use Rattle.org_outline.specs.Places.{behind}
+use Rattle.org_outline.specs.Shared.{HasTables, up_to_parent}
 use Rattle.org_outline.proofs.Ends.{end_is}
 
 pub table_length : {X : Type 0} (f : ℕ → X) (xs : List X) (n : ℕ) → xs ≡ map f (range_with_len 0 n) → length xs ≡ n
@@ -19,9 +21,9 @@ pub map_twice : {X Y Z : Type 0} (f : X → Y) (g : Y → Z) (xs : List X) → m
 map_twice f g [] = refl
 map_twice f g (x ∷ xs) = ap (λ v. g (f x) ∷ v) (map_twice f g xs)
 
-pub tables_are : {R : Type 0} (v : R → Entry) (rs : List R) (ls ps : List (Option ℕ)) (es : List ℕ) →
+pub tables_are : {R : Type 0} (v : R → Entry) (rs : List R) (ls : List (Option ℕ)) (ps es : List ℕ) →
     ls ≡ map (λ r. level_of (v r)) rs →
-    ps ≡ map (parent ls) (range_with_len 0 (length ls)) →
+    ps ≡ map (up_to_parent ls) (range_with_len 0 (length ls)) →
     es ≡ map (end_of ls) (range_with_len 0 (length ls)) →
     HasTables (map v rs) ps es
 tables_are v rs ls ps es a b d =
@@ -49,3 +51,10 @@ end_after es i h = omega (arith, (end_is (levels es) i (omega (arith, h, length-
 
 pub end_inside : (es : List Entry) (i : ℕ) → i < length es → end_of (levels es) i ≤ length es
 end_inside es i h = omega (arith, (end_is (levels es) i (omega (arith, h, length-map es level_of))).within, length-map es level_of)
+
+-- a parent, from the count of the entries up to it
+pub counted_parent : (found : Option ℕ) (n : ℕ) (p : Option ℕ) → SomeIff found (1 ≤ n) (n - 1) → n ≡ behind p → found ≡ p
+counted_parent None n None h e = refl
+counted_parent None n (Some k) h e = absurd (h (omega (arith, e)))
+counted_parent (Some j) n None h e = absurd (omega (arith, h.0, e))
+counted_parent (Some j) n (Some k) h e = let same : j ≡ k = omega (arith, h.1, e) in ap Some same

@@ -100,7 +100,7 @@ impl Body {
         requires { place < length self.now }
         ensures value { result ≡ parent (levels self.now) place }
     {
-        self.tables.parents[place]
+        self.tables.parents[place].checked_sub(1)
     }
 
     // Where the subtree of the entry at a place ends.

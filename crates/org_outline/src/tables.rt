@@ -1,11 +1,10 @@
 //! The parents and the subtree ends of all entries, from their levels. Each table is made in one pass that jumps along
 //! what it holds already, so that it takes time linear in the entries.
-ghost use Rattle.std.specs.Prelude.{◌≡◌, ℕ, ◌<◌, ◌^◌, length, map, slice_index, slice_index_or, IfOk, None};
+ghost use Rattle.std.specs.Prelude.{◌≡◌, ℕ, ◌<◌, length, map, slice_index, IfOk};
 ghost use Rattle.std.specs.List.{range_with_len};
 ghost use Rattle.org_outline.specs.Levels.{level_of};
-ghost use Rattle.org_outline.specs.Places.{behind};
-ghost use Rattle.org_outline.specs.Shared.{HasTables};
-ghost use Rattle.org_outline.specs.Tree.{parent, end_of, ends};
+ghost use Rattle.org_outline.specs.Shared.{HasTables, up_to_parent};
+ghost use Rattle.org_outline.specs.Tree.{end_of, ends};
 
 use org_entry::Entry;
 use std::alloc::{AllocError, Global};
@@ -14,7 +13,8 @@ use std::rc::Rc;
 /// The parents and the subtree ends of entries, by their places.
 #[derive(Drop)]
 pub(crate) struct Tables {
-    pub parents: Vec<Option<usize>>,
+    // How many entries there are up to the parent of each, with it; 0 where it has none.
+    pub parents: Vec<usize>,
     pub ends: Vec<usize>,
 }
 
@@ -51,26 +51,18 @@ fn levels_of(alloc: Global, list: &[Rc<Entry>]) -> Result<Vec<Option<u32>>, Allo
     Ok(levels)
 }
 
-// How many entries there are up to a place, with it; 0 where there is no place.
-fn behind(place: Option<usize>) -> usize
-    requires { behind place < 2 ^ 64 }
-    ensures value { result ≡ behind place }
-{
-    match place {
-        None => 0,
-        Some(place) => place + 1,
-    }
-}
-
-// The parent of an entry, from the parents of those before it. An earlier heading whose level isn't smaller has nothing
-// between its parent and itself that has a smaller level, so the search goes on at its parent.
-fn parent_from(levels: &[Option<u32>], parents: &[Option<usize>], place: usize) -> Option<usize>
+// How many entries there are up to the parent of an entry, with it, from the same of those before it. An earlier heading
+// whose level isn't smaller has nothing between its parent and itself that has a smaller level, so the search goes on at
+// its parent.
+fn up_to_parent(levels: &[Option<u32>], parents: &[usize], place: usize) -> usize
     requires within { place < length levels.now }
     requires count { length parents.now ≡ place }
-    requires before { (k : ℕ) → k < place → slice_index_or parents.now k None ≡ parent levels.now k }
-    ensures value { result ≡ parent levels.now place }
+    requires before { (k : ℕ) → k < place → slice_index parents.now k ≡ up_to_parent levels.now k }
+    ensures value { result ≡ up_to_parent levels.now place }
 {
-    let level = levels[place]?;
+    let Some(level) = levels[place] else {
+        return 0;
+    };
     let mut rest = place;
     while rest > 0 {
         let candidate = rest - 1;
@@ -78,22 +70,22 @@ fn parent_from(levels: &[Option<u32>], parents: &[Option<usize>], place: usize) 
             None => rest = candidate,
             Some(other) => {
                 if other < level {
-                    return Some(candidate);
+                    return rest;
                 }
-                rest = behind(parents[candidate]);
+                rest = parents[candidate];
             }
         }
     }
-    None
+    0
 }
 
-// The parents of all entries.
-fn parent_table(alloc: Global, levels: &[Option<u32>]) -> Result<Vec<Option<usize>>, AllocError>
-    ensures value { IfOk result (λ v. v.items ≡ map (parent levels.now) (range_with_len 0 (length levels.now))) }
+// The same of all entries.
+fn parent_table(alloc: Global, levels: &[Option<u32>]) -> Result<Vec<usize>, AllocError>
+    ensures value { IfOk result (λ v. v.items ≡ map (up_to_parent levels.now) (range_with_len 0 (length levels.now))) }
 {
     let mut parents = Vec::with_capacity(alloc, levels.len())?;
     for place in 0..levels.len() {
-        parents.push(parent_from(levels, &parents, place))?;
+        parents.push(up_to_parent(levels, &parents, place))?;
     }
     Ok(parents)
 }

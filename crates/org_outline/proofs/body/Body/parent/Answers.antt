@@ -1,7 +1,8 @@
 use Rattle.std.proofs.Common.{length, ap, ◌∙◌, arith}
+use Rattle.org_outline.specs.Shared.{up_to_parent}
 use Rattle.org_outline.specs.Tree.{parent}
 use Rattle.org_outline.specs.Levels.{levels}
-use Rattle.org_outline.proofs.ByPlace.{table_length, table_at}
+use Rattle.org_outline.proofs.ByPlace.{counted_parent, table_length, table_at}
 use Rattle.org_outline.proofs.body.Body.parent.Goals as goal
 
 pub index-requires : goal.index-requires
@@ -15,9 +16,10 @@ pub returns : goal.returns
 returns c =
     let n = ap length c.self.view_is in
     let h = c.requires in
+    let es = c.args.self.now in
     record {
-      value =
-          c.index.ensures
+      value = counted_parent c.checked_sub.result c.index.result.now (parent (levels es) c.args.place) c.checked_sub.ensures
+          (c.index.ensures
           ∙ table_at _ _ _ c.args.place c.index.result.now c.self.invariant.parents_are (omega (arith, n, h))
-          ∙ ap (λ v. parent (levels v) c.args.place) c.self.view_is;
+          ∙ ap (λ v. up_to_parent (levels v) c.args.place) c.self.view_is);
     }

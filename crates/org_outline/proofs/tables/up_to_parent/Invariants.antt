@@ -1,6 +1,6 @@
 -- No entry from `rest` on, and before the entry, is its parent.
 use Rattle.org_outline.proofs.Parents.{NoneFrom}
-use Rattle.org_outline.proofs.tables.parent_from.Given as goal
+use Rattle.org_outline.proofs.tables.up_to_parent.Given as goal
 
 abbrev pub invariant-loop-rest : goal.invariant-loop-rest
 invariant-loop-rest l = NoneFrom l.levels l.place l.rest
