@@ -8,3 +8,4 @@ pub mod Sections
 pub mod Gathered
 pub mod Step
 pub mod Questions
+pub mod Trees

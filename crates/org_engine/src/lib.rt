@@ -13,6 +13,7 @@ mod row;
 #[cfg(test)]
 mod tests;
 mod todo;
+mod trees;
 mod world;
 
 pub use engine::{Engine, LAST_SERIAL, MOST_FILES};

@@ -1,7 +1,7 @@
 //! Entries, outlines and what headings inherit, over files that are read.
 ghost use Rattle.std.specs.Prelude.{◌≡◌, [], ◌∷◌, IfOk};
 
-use crate::file::{FileOutline, read_file};
+use crate::file::classify_file;
 use org_base::{Bytes, Fault, Meter, Texts};
 use org_cal::{Day, Minute, TimeOfDay};
 use org_drawer::Planning;
@@ -12,9 +12,33 @@ use org_text::{Text, Whole};
 use std::alloc::Global;
 use std::test::Fail;
 
+/// What a file says: its settings, and the outline of its entries.
+#[derive(Drop)]
+struct FileOutline {
+    settings: Settings,
+    outline: Outline,
+}
+
 fn read(alloc: Global, text: &str) -> Result<FileOutline, Fault> {
     let text = Whole::of(alloc, text)?;
-    read_file(alloc, &mut Meter::new(), &text)
+    let spans = sections(alloc, &text)?;
+    let file = classify_file(alloc, &mut Meter::new(), &text, &spans)?;
+    let entries = read_entries(alloc, &text, &spans, &file)?;
+    let mut outline = Outline::new(alloc);
+    let Ok(_) = outline.replace(0..0, entries) else {
+        return Err(Fault::Plain(Code::Memory));
+    };
+    let settings = file.settings;
+    Ok(FileOutline { settings, outline })
+}
+
+fn read_entries(alloc: Global, text: &Whole, spans: &SectionSpans, file: &FileClasses) -> Result<Entries, Fault> {
+    let mut entries = Entries::new(alloc);
+    for (place, span) in spans.as_slice().iter().enumerate() {
+        let entry = read_entry(alloc, &mut Meter::new(), text, *span, &file.classes[place], &file.settings)?;
+        keep(&mut entries, entry)?;
+    }
+    Ok(entries)
 }
 
 // Whether the entries of a file at these places have these tags.

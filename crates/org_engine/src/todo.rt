@@ -1,21 +1,25 @@
 //! The plain TODO list.
-ghost use Rattle.std.specs.Prelude.{◌≡◌, ◌<◌, Some, length, slice_get, IfOk, OnOk, OnErr, IsOkUnless};
+ghost use Rattle.std.specs.Prelude.{◌≡◌, ◌+◌, ◌<◌, ◌≤◌, ℕ, Some, drop, length, map, slice_get, IfOk, OnOk, OnErr, IsOkUnless};
+ghost use Rattle.std.specs.List.{All};
 ghost use Rattle.org_base.specs.Codes.{memory_fault};
-ghost use Rattle.org_class.specs.Sections.{sections};
+ghost use Rattle.org_class.specs.Classes.{text_classes};
+ghost use Rattle.org_class.specs.Sections.{bytes_in, sections};
 ghost use Rattle.org_head.specs.Head.{AreInside, head_of};
-ghost use Rattle.org_engine.specs.Counts.{AtMost, worked};
-ghost use Rattle.org_engine.specs.FileOutline.{HaveHeads, scope_of};
+ghost use Rattle.org_engine.specs.Counts.{AtMost, have_read, worked};
+ghost use Rattle.org_engine.specs.FileOutline.{HaveHeads, file_settings, scope_of};
 ghost use Rattle.org_engine.specs.Gathered.{gathered};
 ghost use Rattle.org_engine.specs.Sections.{section_count};
-ghost use Rattle.org_engine.specs.TodoList.{is_open, is_open_word, heading_row, entry_row, scope_rows, todo_text};
+ghost use Rattle.org_engine.specs.TodoList.{is_open, is_open_word, heading_row, entry_row, rows_from, scope_rows, todo_text};
+ghost use Rattle.org_engine.specs.Trees.{no_trees};
 
-use crate::file::read_file;
+use crate::file::classify_file;
 use crate::list::PriorityTexts;
 use crate::row::Row;
+use crate::trees::Trees;
 use crate::world::World;
 use org_base::{Bytes, Fault, Meter, Texts};
-use org_class::Settings;
-use org_entry::Entry;
+use org_class::{Classes, SectionSpans, Settings, sections};
+use org_entry::{Entry, read_entry};
 use org_head::{Head, part};
 use org_inherit::Inherit;
 use org_text::Text;
@@ -55,20 +59,55 @@ fn gather_file<T: Text>(
     ensures few { OnErr result (AtMost (length (sections (T.content text.now))) meter.old meter.new) }
     ensures memory { IsOkUnless result memory_fault }
 {
-    let file = read_file(alloc, meter, text)?;
-    let inherit = Inherit::new(alloc, &file.outline, &file.settings, name, inherited)?;
-    gather(alloc, texts, &inherit)
+    let spans = sections(alloc, text)?;
+    let file = classify_file(alloc, meter, text, &spans)?;
+    let trees = Trees::new(alloc, &file.settings, name, inherited)?;
+    let classes = file.classes.as_slice();
+    gather_sections(alloc, meter, texts, trees, text, &spans, classes, &file.settings)
 }
 
-// Adds the rows of the headings of an outline.
-fn gather(alloc: Global, texts: &mut PriorityTexts, inherit: &Inherit<'_>) -> Result<(), Fault>
+// Reads the sections of a file, and adds the rows of their headings.
+fn gather_sections<T: Text>(
+    alloc: Global,
+    meter: &mut Meter,
+    texts: &mut PriorityTexts,
+    mut trees: Trees<'_>,
+    text: &T,
+    spans: &SectionSpans,
+    classes: &[Classes],
+    settings: &Settings,
+) -> Result<(), Fault>
+    requires bytes { map (bytes_in (T.content text.now)) spans.now ≡ sections (T.content text.now) }
+    requires inside { All (λ s. s.at + s.len ≤ length (T.content text.now)) spans.now }
+    requires belong { classes.now ≡ text_classes (T.content text.now) }
+    requires settings { settings.now ≡ file_settings (T.content text.now) }
+    requires trees { trees ≡ no_trees settings.now trees.scope.file trees.scope.inherited }
+    ensures ok { OnOk result (texts.new ≡ gathered texts.old (scope_rows (scope_of trees.scope.inherited trees.scope.file (T.content text.now)))) }
+    ensures counts { OnOk result (meter.new ≡ have_read (length (sections (T.content text.now))) meter.old) }
+    ensures few { OnErr result ((n : ℕ) × (n ≤ length (sections (T.content text.now))) × (meter.new ≡ have_read n meter.old)) }
+    ensures memory { IsOkUnless result memory_fault }
+{
+    for (place, span) in spans.as_slice().iter().enumerate() {
+        let entry = read_entry(alloc, meter, text, *span, &classes[place], settings)?;
+        trees.add(texts, entry)?;
+    }
+    trees.gather(texts)
+}
+
+// Adds the rows of the headings of an outline from a place on.
+pub(crate) fn gather(
+    alloc: Global,
+    texts: &mut PriorityTexts,
+    inherit: &Inherit<'_>,
+    first: usize,
+) -> Result<(), Fault>
     requires heads { HaveHeads inherit.now.settings inherit.now.entries }
-    ensures ok { OnOk result (texts.new ≡ gathered texts.old (scope_rows inherit.now)) }
+    ensures ok { OnOk result (texts.new ≡ gathered texts.old (rows_from inherit.now first (drop first inherit.now.entries))) }
     ensures memory { IsOkUnless result memory_fault }
 {
     let mut row = Row::new(alloc);
     let outline = inherit.outline();
-    for place in 0..outline.count() {
+    for place in first..outline.count() {
         gather_entry(texts, &mut row, inherit, place, outline.entry(place))?;
     }
     Ok(())

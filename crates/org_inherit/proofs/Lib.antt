@@ -4,3 +4,4 @@ pub mod LineageLemmas
 pub mod ListLemmas
 pub mod TaggedLemmas
 pub mod TagLemmas
+pub mod TreeLemmas

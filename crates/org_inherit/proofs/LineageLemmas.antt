@@ -47,7 +47,7 @@ next_within : (ls : List (Option ℕ)) (n m : ℕ) (p : Option ℕ) → ((j : �
 next_within ls n m None f g = All-nil (λ k. k < m)
 next_within ls n m (Some j) f g = All-cons (λ k. k < m) j (chain ls n j) (f j refl) (let l = f j refl in g j (omega arith))
 
-chain_within : (ls : List (Option ℕ)) (n m j : ℕ) → j ≤ m → All (λ k. k < m) (chain ls n j)
+pub chain_within : (ls : List (Option ℕ)) (n m j : ℕ) → j ≤ m → All (λ k. k < m) (chain ls n j)
 chain_within ls zero m j h = All-nil (λ k. k < m)
 chain_within ls (suc n) m j h = next_within ls n m (parent ls j) (λ k e. let l = parent_earlier ls j k e in omega arith) (λ k a. chain_within ls n m k a)
 

@@ -1,12 +1,13 @@
 -- Laws of inheritance.
-use Rattle.std.specs.Prelude.{◌≡◌, ◌||◌, ℕ, Bool, true, List, ◌∷◌, Some, filter, slice_get, bytes_eq}
-use Rattle.std.specs.List.{list_any}
+use Rattle.std.specs.Prelude.{◌≡◌, ◌||◌, ℕ, ◌+◌, ◌<◌, Bool, true, List, ◌∷◌, ◌++◌, Some, filter, length, slice_get, bytes_eq}
+use Rattle.std.specs.List.{list_any, flat_map}
 use Rattle.org_entry.specs.declared.entry.Entry.{Entry}
 use Rattle.org_inherit.specs.Hidden.{is_hidden}
 use Rattle.org_inherit.specs.Scope.{Scope}
 use Rattle.org_inherit.specs.Tagged.{is_tagged_at, nearest_tagged}
-use Rattle.org_inherit.specs.Tags.{own_tags_at, all_tags}
-use Rattle.org_outline.specs.Laws.{is_above}
+use Rattle.org_inherit.specs.Tags.{own_tags_at, all_tags, lineage}
+use Rattle.org_inherit.specs.Values.{nearest_value}
+use Rattle.org_outline.specs.Laws.{BeginsTree, is_above}
 use Rattle.org_outline.specs.Levels.{levels}
 use Rattle.org_outline.specs.Tree.{ancestors, up_from}
 
@@ -33,3 +34,17 @@ TagsAreOnce = (scope : Scope) (i j k : ℕ) (tag : List ℕ) →
 abbrev pub TaggedAreUpFromTheNearest : Type 0
 TaggedAreUpFromTheNearest = (es : List Entry) (i : ℕ) →
     filter (is_tagged_at es) (i ∷ ancestors (levels es) i) ≡ filter (is_tagged_at es) (up_from (levels es) (nearest_tagged es i))
+
+-- over two entries the same stands: what hides them, the tags along their lineage, and the nearest values
+pub record InheritSame (es fs : List Entry) (i j : ℕ) : Type 0 where
+  pub hidden : is_hidden es i ≡ is_hidden fs j
+  pub tags : flat_map (own_tags_at es) (lineage es i) ≡ flat_map (own_tags_at fs) (lineage fs j)
+  pub values : (name : List ℕ) → nearest_value es name i ≡ nearest_value fs name j
+
+-- what stands before a tree has no say in what its entries inherit
+abbrev pub TreesInheritAlone : Type 0
+TreesInheritAlone = (xs ys : List Entry) (k : ℕ) → BeginsTree (levels xs) (levels ys) → k < length ys → InheritSame (xs ++ ys) ys (length xs + k) k
+
+-- what stands behind an entry has no say in what it inherits
+abbrev pub LaterSaysNothing : Type 0
+LaterSaysNothing = (xs ys : List Entry) (k : ℕ) → k < length xs → InheritSame (xs ++ ys) xs k k

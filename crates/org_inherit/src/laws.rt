@@ -1,5 +1,5 @@
 //! Laws of inheritance. Each is a function without parameters whose contract is the law.
-ghost use Rattle.org_inherit.specs.Laws.{HiddenIsInherited, TaggedAreUpFromTheNearest, TagsAreInherited, TagsAreOnce};
+ghost use Rattle.org_inherit.specs.Laws.{HiddenIsInherited, LaterSaysNothing, TaggedAreUpFromTheNearest, TagsAreInherited, TagsAreOnce, TreesInheritAlone};
 
 /// What has a hidden ancestor is hidden.
 pub fn hidden_is_inherited()
@@ -19,4 +19,16 @@ pub fn tags_are_once()
 /// Of an entry and its ancestors those that have own tags are the nearest one that has, and those above that one.
 pub fn tagged_are_up_from_the_nearest()
     ensures { TaggedAreUpFromTheNearest }
+{}
+
+/// Entries before a tree have no say in what its entries inherit.
+#[tactic(auto, using(crate::proofs::TreeLemmas::trees_inherit_alone))]
+pub fn trees_inherit_alone()
+    ensures { TreesInheritAlone }
+{}
+
+/// Entries behind an entry have no say in what it inherits.
+#[tactic(auto, using(crate::proofs::TreeLemmas::later_says_nothing))]
+pub fn later_says_nothing()
+    ensures { LaterSaysNothing }
 {}

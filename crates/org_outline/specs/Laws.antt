@@ -1,5 +1,5 @@
 -- Laws of the tree.
-use Rattle.std.specs.Prelude.{◌≡◌, ℕ, ◌+◌, ◌<◌, ◌≤◌, Bool, true, false, ◌==◌, ◌↔◌, Option, Some, None, List, is_some, length}
+use Rattle.std.specs.Prelude.{◌≡◌, ℕ, ◌+◌, ◌<◌, ◌≤◌, Bool, true, false, ◌==◌, ◌↔◌, Option, Some, None, List, ◌++◌, is_some, length, map}
 use Rattle.std.specs.List.{list_any}
 use Rattle.org_outline.specs.Tree.{level_at, is_smaller, parent, end_of, ancestors, up_from}
 
@@ -51,3 +51,15 @@ SubtreesNest = (ls : List (Option ℕ)) (i j : ℕ) → i < j → j < end_of ls 
 -- an entry that is no heading has no parent, and its end is right behind it
 abbrev pub OthersStandAlone : Type 0
 OthersStandAlone = (ls : List (Option ℕ)) (i : ℕ) → level_at ls i ≡ None → (parent ls i ≡ None) × (end_of ls i ≡ i + 1)
+
+-- a tree begins behind the entries: its first is a heading, and none of them has a smaller level
+abbrev pub BeginsTree : List (Option ℕ) → List (Option ℕ) → Type 0
+BeginsTree xs ys = (is_some (level_at ys 0) ≡ true) × ((j : ℕ) → is_smaller (level_at xs j) (level_at ys 0) ≡ false)
+
+-- what stands before a tree has no say in it
+abbrev pub TreesStandAlone : Type 0
+TreesStandAlone = (xs ys : List (Option ℕ)) (k : ℕ) → BeginsTree xs ys → ancestors (xs ++ ys) (length xs + k) ≡ map (λ i. length xs + i) (ancestors ys k)
+
+-- what stands behind an entry has no say in its ancestors
+abbrev pub LaterHasNoSay : Type 0
+LaterHasNoSay = (xs ys : List (Option ℕ)) (k : ℕ) → k < length xs → ancestors (xs ++ ys) k ≡ ancestors xs k

@@ -1,5 +1,5 @@
 //! Laws of the tree. Each is a function without parameters whose contract is the law.
-ghost use Rattle.org_outline.specs.Laws.{AncestorsAreParentsUp, AncestorsFall, AncestorsOfAncestors, EndIsNotBelow, OthersStandAlone, ParentIsNearest, SubtreeIsWhatIsBelow, SubtreesNest};
+ghost use Rattle.org_outline.specs.Laws.{AncestorsAreParentsUp, AncestorsFall, AncestorsOfAncestors, EndIsNotBelow, LaterHasNoSay, OthersStandAlone, ParentIsNearest, SubtreeIsWhatIsBelow, SubtreesNest, TreesStandAlone};
 
 /// The parent is the nearest earlier heading of a smaller level, and missing exactly where there is no such heading.
 pub fn parent_is_nearest()
@@ -42,4 +42,16 @@ pub fn subtrees_nest()
 /// An entry that is no heading has no parent, and its end is right behind it.
 pub fn others_stand_alone()
     ensures { OthersStandAlone }
+{}
+
+/// Entries before a tree have no say in it.
+#[tactic(auto, using(crate::proofs::Trees::trees_stand_alone))]
+pub fn trees_stand_alone()
+    ensures { TreesStandAlone }
+{}
+
+/// Entries behind an entry have no say in its ancestors.
+#[tactic(auto, using(crate::proofs::Trees::later_has_no_say))]
+pub fn later_has_no_say()
+    ensures { LaterHasNoSay }
 {}
