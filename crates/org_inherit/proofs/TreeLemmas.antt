@@ -1,5 +1,5 @@
 -- What stands before a tree, or behind an entry, has no say in what is inherited.
-use Rattle.std.proofs.Common.{◌≡◌, ◌∙◌, ℕ, ◌+◌, ◌++◌, ◌<◌, ◌≤◌, All, Bool, ◌||◌, reverse, Option, List, [], ◌∷◌, length, map, get_or, refl, sym, ap, ap₂, arith}
+use Rattle.std.proofs.Common.{◌≡◌, ◌∙◌, ℕ, ◌+◌, ◌++◌, ◌<◌, All, Bool, ◌||◌, reverse, Option, List, [], ◌∷◌, length, map, get_or, refl, sym, ap, ap₂, arith}
 use Rattle.std.specs.List.{list_any, flat_map}
 use Rattle.std.specs.Option.{option_or}
 use Rattle.std.proofs.lemmas.List.{get_or_append_left, get_or-append-add, length-map, map-append, map-id, reverse-append}
@@ -12,7 +12,6 @@ use Rattle.org_inherit.specs.Laws.{InheritSame, LaterSaysNothing, TreesInheritAl
 use Rattle.org_inherit.specs.Tags.{own_tags, own_tags_at, lineage}
 use Rattle.org_inherit.specs.Values.{first_of, own_value}
 use Rattle.org_inherit.proofs.LineageLemmas.{chain_within, lineage_within}
-use Rattle.org_outline.specs.Laws.{BeginsTree}
 use Rattle.org_outline.specs.Levels.{level_of, levels}
 use Rattle.org_outline.specs.Tree.{ancestors}
 use Rattle.org_outline.proofs.Trees.{trees_stand_alone, later_has_no_say}

@@ -22,13 +22,11 @@ pub fn tagged_are_up_from_the_nearest()
 {}
 
 /// Entries before a tree have no say in what its entries inherit.
-#[tactic(auto, using(crate::proofs::TreeLemmas::trees_inherit_alone))]
 pub fn trees_inherit_alone()
     ensures { TreesInheritAlone }
 {}
 
 /// Entries behind an entry have no say in what it inherits.
-#[tactic(auto, using(crate::proofs::TreeLemmas::later_says_nothing))]
 pub fn later_says_nothing()
     ensures { LaterSaysNothing }
 {}
