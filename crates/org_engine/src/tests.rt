@@ -1,18 +1,19 @@
 //! Entries, outlines and what headings inherit, over files that are read.
 ghost use Rattle.std.specs.Prelude.{◌≡◌, [], ◌∷◌, IfOk};
 
-use crate::file::classify_file;
-use org_base::{Bytes, Fault, Meter, Texts};
+use crate::file::{FileClasses, classify_file};
+use org_base::{Bytes, Code, Fault, Meter, Texts};
 use org_cal::{Day, Minute, TimeOfDay};
+use org_class::{SectionSpans, Settings, sections};
 use org_drawer::Planning;
-use org_entry::Entry;
+use org_entry::{Entry, read_entry};
 use org_inherit::{Inherit, Inherits, category_of, tags_text};
 use org_outline::{Entries, Outline};
 use org_text::{Text, Whole};
 use std::alloc::Global;
 use std::test::Fail;
 
-/// What a file says: its settings, and the outline of its entries.
+// What a file says: its settings, and the outline of its entries.
 #[derive(Drop)]
 struct FileOutline {
     settings: Settings,
@@ -32,13 +33,32 @@ fn read(alloc: Global, text: &str) -> Result<FileOutline, Fault> {
     Ok(FileOutline { settings, outline })
 }
 
-fn read_entries(alloc: Global, text: &Whole, spans: &SectionSpans, file: &FileClasses) -> Result<Entries, Fault> {
+fn read_entries(
+    alloc: Global,
+    text: &Whole,
+    spans: &SectionSpans,
+    file: &FileClasses,
+) -> Result<Entries, Fault> {
     let mut entries = Entries::new(alloc);
     for (place, span) in spans.as_slice().iter().enumerate() {
-        let entry = read_entry(alloc, &mut Meter::new(), text, *span, &file.classes[place], &file.settings)?;
+        let entry = read_entry(
+            alloc,
+            &mut Meter::new(),
+            text,
+            *span,
+            &file.classes[place],
+            &file.settings,
+        )?;
         keep(&mut entries, entry)?;
     }
     Ok(entries)
+}
+
+fn keep(entries: &mut Entries, entry: Entry) -> Result<(), Fault> {
+    match entries.push(entry) {
+        Ok(()) => Ok(()),
+        Err(_) => Err(Fault::Plain(Code::Memory)),
+    }
 }
 
 // Whether the entries of a file at these places have these tags.

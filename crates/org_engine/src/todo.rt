@@ -61,9 +61,18 @@ fn gather_file<T: Text>(
 {
     let spans = sections(alloc, text)?;
     let file = classify_file(alloc, meter, text, &spans)?;
-    let trees = Trees::new(alloc, &file.settings, name, inherited)?;
+    let mut trees = Trees::new(alloc, &file.settings, name, inherited)?;
     let classes = file.classes.as_slice();
-    gather_sections(alloc, meter, texts, trees, text, &spans, classes, &file.settings)
+    gather_sections(
+        alloc,
+        meter,
+        texts,
+        &mut trees,
+        text,
+        &spans,
+        classes,
+        &file.settings,
+    )
 }
 
 // Reads the sections of a file, and adds the rows of their headings.
@@ -71,7 +80,7 @@ fn gather_sections<T: Text>(
     alloc: Global,
     meter: &mut Meter,
     texts: &mut PriorityTexts,
-    mut trees: Trees<'_>,
+    trees: &mut Trees<'_>,
     text: &T,
     spans: &SectionSpans,
     classes: &[Classes],
@@ -81,8 +90,8 @@ fn gather_sections<T: Text>(
     requires inside { All (λ s. s.at + s.len ≤ length (T.content text.now)) spans.now }
     requires belong { classes.now ≡ text_classes (T.content text.now) }
     requires settings { settings.now ≡ file_settings (T.content text.now) }
-    requires trees { trees ≡ no_trees settings.now trees.scope.file trees.scope.inherited }
-    ensures ok { OnOk result (texts.new ≡ gathered texts.old (scope_rows (scope_of trees.scope.inherited trees.scope.file (T.content text.now)))) }
+    requires trees { trees.old ≡ no_trees settings.now trees.old.scope.file trees.old.scope.inherited }
+    ensures ok { OnOk result (texts.new ≡ gathered texts.old (scope_rows (scope_of trees.old.scope.inherited trees.old.scope.file (T.content text.now)))) }
     ensures counts { OnOk result (meter.new ≡ have_read (length (sections (T.content text.now))) meter.old) }
     ensures few { OnErr result ((n : ℕ) × (n ≤ length (sections (T.content text.now))) × (meter.new ≡ have_read n meter.old)) }
     ensures memory { IsOkUnless result memory_fault }

@@ -105,7 +105,13 @@ impl<'a> Trees<'a> {
         ensures memory { IsOkUnless result memory_fault }
     {
         let first = self.turn()?;
-        let inherit = Inherit::new(self.alloc, &self.outline, self.settings, self.name, self.inherited)?;
+        let inherit = Inherit::new(
+            self.alloc,
+            &self.outline,
+            self.settings,
+            self.name,
+            self.inherited,
+        )?;
         gather(self.alloc, texts, &inherit, first)
     }
 
