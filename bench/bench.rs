@@ -4,6 +4,7 @@
 //!     bench parts PROGRAM        parts of the engine on their own, by the program `org_measure`
 //!     bench plain                answers the commands `add`, `text` and `todo` of standard input
 //!     bench text BYTES           an Org file of that many bytes
+//!     bench cost FILE PROGRAM .. seconds and KiB of one run of a program over a file
 use std::collections::{HashMap, HashSet};
 use std::fs::File;
 use std::io::{self, BufRead, BufReader, Read, Write};
@@ -20,10 +21,11 @@ fn main() -> io::Result<()> {
     let args: Vec<String> = std::env::args().collect();
     match args.get(1).map(String::as_str) {
         Some("measure") => measure(&args[2], &args[0]),
-        Some("parts") => parts(&args[2]),
+        Some("parts") => parts(&args[2], &args[0]),
         Some("plain") => plain(),
         Some("text") => io::stdout().write_all(text(args[2].parse().unwrap()).as_bytes()),
-        _ => panic!("bench measure PROGRAM | parts PROGRAM | plain | text BYTES"),
+        Some("cost") => print_cost(&args[2], &args[3..]),
+        _ => panic!("bench measure PROGRAM | parts PROGRAM | plain | text BYTES | cost FILE PROGRAM .."),
     }
 }
 
@@ -109,22 +111,32 @@ fn finish(child: Child) -> u64 {
     usage.max_rss_kib as u64
 }
 
-fn cost(command: &mut Command, stream: &str) -> io::Result<Cost> {
-    command.stdin(File::open(stream)?).stdout(Stdio::null());
+fn print_cost(stream: &str, command: &[String]) -> io::Result<()> {
     let start = Instant::now();
-    let child = command.spawn()?;
+    let child = Command::new(&command[0]).args(&command[1..]).stdin(File::open(stream)?).stdout(Stdio::null()).spawn()?;
     let kib = finish(child);
+    println!("{} {kib}", start.elapsed().as_secs_f64());
+    Ok(())
+}
+
+// What one run takes. A process of its own starts it, since the system counts to a program the memory that its parent
+// had, and this process holds large texts.
+fn cost(own: &str, stream: &str, command: &[&str]) -> io::Result<Cost> {
+    let output = Command::new(own).args(["cost", stream]).args(command).output()?;
+    assert!(output.status.success(), "a run failed");
+    let figures = String::from_utf8_lossy(&output.stdout);
+    let (seconds, kib) = figures.trim_end().split_once(' ').expect("two figures");
     Ok(Cost {
-        seconds: start.elapsed().as_secs_f64(),
-        kib,
+        seconds: seconds.parse().expect("seconds"),
+        kib: kib.parse().expect("KiB"),
     })
 }
 
 fn both(program: &str, own: &str, stream: &str) -> io::Result<(Cost, Cost)> {
     let mut least = None;
     for _run in 0..RUNS {
-        let proved = cost(Command::new(program).args(["--at", "2024-02-28 10:30"]), stream)?;
-        let plain = cost(Command::new(own).arg("plain"), stream)?;
+        let proved = cost(own, stream, &[program, "--at", "2024-02-28 10:30"])?;
+        let plain = cost(own, stream, &[own, "plain"])?;
         least = Some(match least {
             None => (proved, plain),
             Some((a, b)) => (proved.least(a), plain.least(b)),
@@ -206,6 +218,7 @@ fn measure(program: &str, own: &str) -> io::Result<()> {
     }
     measure_text(program, own, &stream, "headings of one level", &headings_of_one_level())?;
     measure_text(program, own, &stream, "levels to 4,090 and back", &levels_up_and_down())?;
+    measure_text(program, own, &stream, "headings of one tree", &one_tree())?;
     std::fs::remove_dir_all(&folder)
 }
 
@@ -265,16 +278,23 @@ fn levels_up_and_down() -> String {
     out
 }
 
+// 8 MiB of ordinary headings, all under the first.
+fn one_tree() -> String {
+    let below = text(8 * MIB - MIB / 8).replace("\n*", "\n**");
+    format!("* a\n*{below}")
+}
+
 // The least time of a part of the engine over a text on standard input.
-fn part(program: &str, words: &[&str], path: &str) -> io::Result<Cost> {
-    let mut least = cost(Command::new(program).args(words), path)?;
+fn part(own: &str, program: &str, words: &[&str], path: &str) -> io::Result<Cost> {
+    let command = [&[program], words].concat();
+    let mut least = cost(own, path, &command)?;
     for _run in 1..RUNS {
-        least = least.least(cost(Command::new(program).args(words), path)?);
+        least = least.least(cost(own, path, &command)?);
     }
     Ok(least)
 }
 
-fn parts(program: &str) -> io::Result<()> {
+fn parts(program: &str, own: &str) -> io::Result<()> {
     let path = std::env::temp_dir().join(format!("orgviews-parts-{}", std::process::id()));
     let path = path.to_string_lossy().into_owned();
     println!("parts of the engine, least of {RUNS} runs of a whole process");
@@ -285,14 +305,14 @@ fn parts(program: &str) -> io::Result<()> {
     ] {
         let text = piece.repeat(8 * MIB / piece.len());
         std::fs::write(&path, &text)?;
-        let cost = part(program, &["stamps"], &path)?;
+        let cost = part(own, program, &["stamps"], &path)?;
         let mib = text.len() as f64 / MIB as f64;
         println!("{mib:>4.0} MiB  {what:<25} {:>8.4} s {:>7.0} MiB/s", cost.seconds, mib / cost.seconds);
     }
     std::fs::write(&path, "")?;
     for unit in ["h", "d", "w", "m", "y"] {
-        let near = part(program, &["occurrences", unit, "near"], &path)?;
-        let far = part(program, &["occurrences", unit, "far"], &path)?;
+        let near = part(own, program, &["occurrences", unit, "near"], &path)?;
+        let far = part(own, program, &["occurrences", unit, "far"], &path)?;
         println!(
             "1,000,000 questions whether +1{unit} of 0001-01-01 occurs: on its first days {:.4} s, on the calendar's last {:.4} s",
             near.seconds, far.seconds
