@@ -85,7 +85,6 @@ impl<'a> Trees<'a> {
     {
         if self.is_turn(&entry) {
             self.gather(texts)?;
-            return self.keep(entry);
         }
         self.keep(entry)
     }
