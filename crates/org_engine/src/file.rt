@@ -10,9 +10,10 @@ ghost use Rattle.org_engine.specs.Counts.{AtMost, have_read, worked};
 ghost use Rattle.org_engine.specs.FileOutline.{file_entries, file_settings};
 
 use org_base::{Code, Fault, Meter, Texts};
-use org_class::{Classes, SectionSpans, Settings, classify, push_setting_lines, sections};
+use org_class::{Classes, SectionSpans, classify, push_setting_lines, sections};
 use org_entry::{Entry, read_entry};
 use org_outline::{Entries, Outline};
+use org_settings::Settings;
 use org_text::Text;
 use std::alloc::Global;
 

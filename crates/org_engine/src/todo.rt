@@ -14,10 +14,10 @@ use crate::list::PriorityTexts;
 use crate::row::Row;
 use crate::world::World;
 use org_base::{Bytes, Fault, Meter, Texts};
-use org_class::Settings;
 use org_entry::Entry;
 use org_head::{Head, part};
 use org_inherit::Inherit;
+use org_settings::Settings;
 use org_text::Text;
 use std::alloc::Global;
 
