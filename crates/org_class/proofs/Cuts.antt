@@ -4,9 +4,10 @@ use Rattle.std.proofs.lemmas.Bool.{and_parts, eqb-true}
 use Rattle.std.proofs.lemmas.List.{append-nil, map-append}
 use Rattle.std.proofs.lemmas.Grind.{flat_map-append}
 use Rattle.std.specs.List.{concat, flat_map}
+use Rattle.org_settings.specs.Pieces.{put_before}
 use Rattle.org_class.specs.Heading.{begins_heading}
 use Rattle.org_class.specs.Classes.{section_classes, section_settings}
-use Rattle.org_class.specs.Sections.{put_before, cut_where, ends_line, sections}
+use Rattle.org_class.specs.Sections.{cut_where, ends_line, sections}
 use Rattle.org_class.specs.Laws.{CutsIntoSections, ClassesAreOfSections, SettingLinesAreOfSections}
 use Rattle.org_class.proofs.HeadingLemmas.{heading_front}
 

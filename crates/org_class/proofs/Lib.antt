@@ -3,13 +3,8 @@ pub mod Cuts
 pub mod DrawerLemmas
 pub mod EndLemmas
 pub mod HeadingLemmas
-pub mod KeywordLemmas
 pub mod LineLemmas
-pub mod PieceLemmas
-pub mod PriorityLemmas
-pub mod RefLemmas
 pub mod Runs
-pub mod SequenceLemmas
 pub mod SettingLemmas
 pub mod SpanLemmas
 pub mod StepLemmas

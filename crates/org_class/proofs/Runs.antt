@@ -3,8 +3,9 @@ use Rattle.std.proofs.Common.{◌≡◌, inl, inr, ℕ, Bool, true, false, ◌==
 use Rattle.std.proofs.lemmas.Bool.{cases_Bool, eqb-true}
 use Rattle.std.specs.List.{concat, onto_first}
 use Rattle.org_lines.specs.Cuts.{lines}
+use Rattle.org_settings.specs.Pieces.{put_before}
 use Rattle.org_class.specs.Heading.{begins_heading}
-use Rattle.org_class.specs.Sections.{put_before, sections, is_headed, runs}
+use Rattle.org_class.specs.Sections.{sections, is_headed, runs}
 use Rattle.org_class.specs.Laws.{SectionsAreRunsOfLines}
 use Rattle.org_class.proofs.Cuts.{concat-sections}
 use Rattle.org_class.proofs.HeadingLemmas.{after_star, headed, headed_is}

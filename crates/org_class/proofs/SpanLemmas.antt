@@ -8,9 +8,10 @@ use Rattle.std.specs.List.{All, concat, slice_range}
 use Rattle.org_base.specs.declared.span.Span.{Span}
 use Rattle.org_lines.specs.Cuts.{lines}
 use Rattle.org_lines.proofs.LineLemmas.{range_is}
+use Rattle.org_settings.specs.Pieces.{put_before}
 use Rattle.org_class.specs.Heading.{begins_heading}
 use Rattle.org_class.specs.Open.{goes_on, ended, opened, whole}
-use Rattle.org_class.specs.Sections.{put_before, sections, spans_from, bytes_in, is_headed, runs}
+use Rattle.org_class.specs.Sections.{sections, spans_from, bytes_in, is_headed, runs}
 use Rattle.org_class.proofs.Cuts.{concat-sections}
 use Rattle.org_class.proofs.LineLemmas.{first_line}
 use Rattle.org_class.proofs.Runs.{sections_are_runs}

@@ -1,13 +1,11 @@
--- Laws of sections, classes and settings.
-use Rattle.std.specs.Prelude.{◌≡◌, ◌↔◌, ℕ, true, List, [], ◌∷◌, ◌++◌, map, length, replicate, None}
+-- Laws of sections, classes and setting lines.
+use Rattle.std.specs.Prelude.{◌≡◌, ◌↔◌, ℕ, true, List, ◌∷◌, ◌++◌, map, length, replicate, None}
 use Rattle.std.specs.List.{concat}
 use Rattle.org_lines.specs.Cuts.{lines}
 use Rattle.org_class.specs.Blocks.{body_classes, AreBlocks}
 use Rattle.org_class.specs.Classes.{text_classes, setting_lines}
 use Rattle.org_class.specs.Drawers.{classes_below, HasDrawer}
-use Rattle.org_class.specs.Keywords.{standard_keywords}
 use Rattle.org_class.specs.Sections.{sections, is_cut, runs}
-use Rattle.org_class.specs.Settings.{settings_of}
 use Rattle.org_class.specs.declared.class.Class.{Class}
 use Rattle.org_class.specs.declared.class.Class.TheVariants.{DrawerOpen, Node, DrawerEnd}
 
@@ -38,7 +36,3 @@ DrawersAreFound = (ls nodes rest : List (List ℕ)) → HasDrawer ls nodes rest 
 -- without a drawer at the front they are those of the body
 abbrev pub OthersAreBodies : Type 0
 OthersAreBodies = (ls : List (List ℕ)) → ((nodes rest : List (List ℕ)) → HasDrawer ls nodes rest → ⊥) → classes_below ls ≡ body_classes None ls
-
--- a file without setting lines has the standard keywords, no tags, no category, no properties, and the default priority B
-abbrev pub NoLinesAreStandard : Type 0
-NoLinesAreStandard = settings_of [] ≡ record { keywords = standard_keywords; file_tags = []; category = None; properties = []; default_priority = 66 }

@@ -3,15 +3,9 @@ pub mod Classes
 pub mod Drawers
 pub mod Ends
 pub mod Heading
-pub mod Keywords
 pub mod LineClass
 pub mod Laws
 pub mod Open
-pub mod Pieces
-pub mod Priority
-pub mod Said
 pub mod Sections
-pub mod SettingLines
-pub mod Settings
 pub mod Stages
 pub mod Ticks

@@ -2,13 +2,8 @@
 use Rattle.std.specs.Prelude.{ℕ, ◌+◌, Bool, true, false, ◌&&◌, ◌==◌, List, [], ◌∷◌, length}
 use Rattle.std.specs.List.{slice_range}
 use Rattle.org_base.specs.declared.span.Span.{Span}
+use Rattle.org_settings.specs.Pieces.{put_before}
 use Rattle.org_class.specs.Heading.{begins_heading}
-
--- x before the pieces: at true it is a piece of its own
-abbrev pub put_before : {X : Type 0} → Bool → X → List (List X) → List (List X)
-put_before true x ps = (x ∷ []) ∷ ps
-put_before false x [] = (x ∷ []) ∷ []
-put_before false x (p ∷ ps) = (x ∷ p) ∷ ps
 
 -- the list cut behind each x where the test of x and of what follows it says so
 abbrev pub cut_where : {X : Type 0} → (X → List X → Bool) → List X → List (List X)

@@ -1,5 +1,7 @@
 //! Laws of the definitions. Each is a function without parameters whose contract is the law.
-ghost use Rattle.org_class.specs.Laws.{CutsIntoSections, SectionsAreRunsOfLines, ClassesAreOfSections, SettingLinesAreOfSections, BlocksAreBodyClasses, DrawersAreFound, OthersAreBodies, NoLinesAreStandard};
+ghost use Rattle.org_class.specs.Laws.{CutsIntoSections, SectionsAreRunsOfLines, ClassesAreOfSections, SettingLinesAreOfSections, BlocksAreBodyClasses, DrawersAreFound, OthersAreBodies};
+
+pub use org_settings::laws::no_lines_are_standard;
 
 /// A text that is cut where a heading line begins has the sections of its first part, then those of its second.
 #[tactic(auto, using(crate::proofs::Cuts::cuts_into_sections))]
@@ -41,10 +43,4 @@ pub fn drawers_are_found()
 #[tactic(auto, using(crate::proofs::DrawerLemmas::others_are_bodies))]
 pub fn others_are_bodies()
     ensures { OthersAreBodies }
-{}
-
-/// A file without setting lines has the standard settings.
-#[tactic(auto, using(crate::proofs::SettingLemmas::none_said))]
-pub fn no_lines_are_standard()
-    ensures { NoLinesAreStandard }
 {}

@@ -1,7 +1,7 @@
-//! The sections of a text, the class of each line of a section, and what the setting lines of a file say.
+//! The sections of a text, the class of each line of a section, and the setting lines of a whole text.
 //!
-//! What is read is what the definitions give: sections, classes and settings; each law about them is a function in
-//! `laws`.
+//! What is read is what the definitions give: sections, classes and the settings of a text; each law about them is a
+//! function in `laws`.
 #![tactic(auto)]
 
 mod ahead;
@@ -10,18 +10,10 @@ mod class;
 mod drawers;
 mod ends;
 mod heading;
-mod keywords;
 pub mod laws;
 mod line_class;
-mod pieces;
-mod priority;
-mod property;
 mod read;
-mod said;
 mod section;
-mod sequence;
-mod setting_line;
-mod settings;
 mod spans;
 mod stage;
 #[cfg(test)]
@@ -29,8 +21,7 @@ mod tests;
 
 pub use class::{Class, Classes};
 pub use heading::{begins_heading, leading_stars};
-pub use priority::{is_priority, priority_number};
+pub use org_settings::{Settings, is_priority, priority_number};
 pub use read::{push_setting_lines, read_settings};
 pub use section::classify;
-pub use settings::Settings;
 pub use spans::{SectionSpans, sections};

@@ -5,15 +5,15 @@ ghost use Rattle.org_base.specs.Codes.{memory_fault};
 ghost use Rattle.org_lines.specs.Cuts.{lines};
 ghost use Rattle.org_class.specs.Classes.{lines_of_setting, setting_of, setting_lines};
 ghost use Rattle.org_class.specs.Sections.{bytes_in, sections};
-ghost use Rattle.org_class.specs.Settings.{settings_of};
+ghost use Rattle.org_settings.specs.Settings.{settings_of};
 ghost use Rattle.org_class.specs.Ticks.{classified};
 
 use crate::class::{Class, Classes};
 use crate::section::classify;
-use crate::settings::Settings;
 use crate::spans::sections;
 use org_base::{Fault, Meter, Span, Texts};
 use org_lines::{Line, Lines};
+use org_settings::Settings;
 use org_text::Text;
 use std::alloc::Global;
 

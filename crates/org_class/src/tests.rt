@@ -1,8 +1,8 @@
 ghost use Rattle.std.specs.Prelude.{◌<◌, ◌^◌, length};
 
 use crate::{
-    Class, Settings, begins_heading, classify, is_priority, leading_stars, priority_number,
-    push_setting_lines, read_settings, sections,
+    Class, Settings, begins_heading, classify, leading_stars, push_setting_lines, read_settings,
+    sections,
 };
 use org_base::{Meter, Span, Texts};
 use org_text::{Text, Whole};
@@ -167,32 +167,6 @@ fn heading_lines(rt: HostRuntime) {
     }
 }
 
-fn number_of(text: &[u8]) -> Option<u8> {
-    if is_priority(text) {
-        Some(priority_number(text))
-    } else {
-        None
-    }
-}
-
-#[test]
-fn priorities(rt: HostRuntime) {
-    let rows: [(&[u8], Option<u8>); 9] = [
-        (b"A", Some(65)),
-        (b"Z", Some(90)),
-        (b"0", Some(0)),
-        (b"64", Some(64)),
-        (b"65", None),
-        (b"07", None),
-        (b"a", None),
-        (b"AB", None),
-        (b"", None),
-    ];
-    for (text, number) in rows {
-        assert_eq!(rt; number_of(text), number);
-    }
-}
-
 // The place of a word among the keywords, whether it is a done one, and the place of the first of its sequence.
 fn standing(settings: &Settings, word: &[u8]) -> Option<(usize, bool, usize)> {
     let place = settings.keyword_place(word)?;
@@ -203,31 +177,13 @@ fn standing(settings: &Settings, word: &[u8]) -> Option<(usize, bool, usize)> {
     ))
 }
 
+// Setting lines count wherever they stand, but not inside blocks.
 #[test]
 fn keywords_of_texts(rt: HostRuntime) -> Result<(), Fail> {
-    let rows: [(&str, &[u8], Option<(usize, bool, usize)>); 20] = [
-        ("", b"TODO", Some((0, false, 0))),
+    let rows: [(&str, &[u8], Option<(usize, bool, usize)>); 5] = [
         ("", b"DONE", Some((1, true, 0))),
-        ("", b"todo", None),
-        ("#+TODO: A B | C D\n", b"B", Some((1, false, 0))),
-        ("#+TODO: A B | C D\n", b"C", Some((2, true, 0))),
-        ("#+TODO: A B | C D\n", b"TODO", None),
-        ("#+SEQ_TODO: A B\n", b"A", Some((0, false, 0))),
-        ("#+SEQ_TODO: A B\n", b"B", Some((1, true, 0))),
-        ("#+TYP_TODO: A | B | C\n", b"C", Some((2, true, 0))),
-        ("#+TYP_TODO: A | B | C\n", b"|", None),
-        (
-            "#+TODO: WAIT(w@/!) | DONE(d)\n",
-            b"WAIT",
-            Some((0, false, 0)),
-        ),
-        ("#+TODO: A | B\n#+TODO: B C | D\n", b"B", Some((1, true, 0))),
         ("#+TODO: A | B\n#+TODO: B C | D\n", b"D", Some((3, true, 2))),
-        ("#+TODO: A B A\n", b"B", Some((1, false, 0))),
-        ("#+TODO: A B A\n", b"A", Some((0, false, 0))),
-        ("#+TODO: | (x)\n", b"DONE", Some((1, true, 0))),
         ("* h\n#+todo: A\n", b"A", Some((0, true, 0))),
-        ("#+TODO: A |\n", b"A", Some((0, false, 0))),
         ("#+BEGIN_X\n#+TODO: A B\n#+END_X\n", b"A", None),
         ("#+BEGIN_X\n#+TODO: A B\n", b"A", Some((0, false, 0))),
     ];
@@ -252,77 +208,16 @@ fn joined(alloc: Global, texts: &Texts) -> Result<Vec<u8>, Fail> {
 
 #[test]
 fn other_settings(rt: HostRuntime) -> Result<(), Fail> {
-    let rows: [(&str, &[u8], Option<&[u8]>, u8); 6] = [
-        ("", b"", None, 66),
-        (
-            "#+FILETAGS: :a::b: c\n* x\n#+filetags: d:a\n",
-            b"a,b,c,d,a,",
-            None,
-            66,
-        ),
-        (
-            "#+CATEGORY: work\n#+CATEGORY: home\n",
-            b"",
-            Some(b"work"),
-            66,
-        ),
-        ("#+CATEGORY:\n#+CATEGORY: home\n", b"", Some(b""), 66),
-        (
-            "#+PRIORITIES: A C\n#+PRIORITIES: 1 65 2\n#+PRIORITIES: 1 64 12\n#+PRIORITIES: A Z F\n",
-            b"",
-            None,
-            12,
-        ),
-        ("#+PRIORITIES: A Z F\n", b"", None, 70),
-    ];
-    for (text, tags, category, priority) in rows {
-        let text = Whole::of(rt.alloc(), text)?;
-        let mut meter = Meter::new();
-        let settings = read_settings(rt.alloc(), &mut meter, &text)?;
-        let found = joined(rt.alloc(), settings.file_tags())?;
-        assert_eq!(rt; found.as_slice(), tags);
-        assert!(rt; settings.category() == category);
-        assert_eq!(rt; settings.default_priority(), priority);
-    }
-    Ok(())
-}
-
-#[test]
-fn properties_of_texts(rt: HostRuntime) -> Result<(), Fail> {
-    let rows: [(&str, &[u8], Option<&[u8]>); 9] = [
-        ("#+PROPERTY: Owner ann\n", b"owner", Some(b"ann")),
-        ("#+PROPERTY: Owner ann\n", b"Own", None),
-        (
-            "#+PROPERTY: Owner+ cy\n#+property: OWNER bob\n#+PROPERTY: owner ann\n",
-            b"Owner",
-            Some(b"bob cy"),
-        ),
-        (
-            "#+PROPERTY: Owner+ cy\n* x\n#+PROPERTY: Owner+  d  e \n",
-            b"Owner",
-            Some(b"cy d  e"),
-        ),
-        ("#+PROPERTY: Owner\n", b"Owner", Some(b"")),
-        ("#+PROPERTY: Owner++ cy\n", b"Owner", None),
-        ("#+PROPERTY: Owner++ cy\n", b"Owner+", None),
-        ("#+PROPERTY: + cy\n", b"", None),
-        ("#+PROPERTY:\n", b"", None),
-    ];
-    for (text, name, want) in rows {
-        let text = Whole::of(rt.alloc(), text)?;
-        let mut meter = Meter::new();
-        let settings = read_settings(rt.alloc(), &mut meter, &text)?;
-        assert!(rt; settings.property(name) == want);
-    }
-    Ok(())
-}
-
-#[test]
-fn settings_of_lines(rt: HostRuntime) -> Result<(), Fail> {
-    let mut lines = Texts::new(rt.alloc());
-    lines.push(b"#+TODO: A | B")?;
-    let settings = Settings::of_lines(rt.alloc(), &lines)?;
-    assert_eq!(rt; standing(&settings, b"B"), Some((1, true, 0)));
+    let text = Whole::of(
+        rt.alloc(),
+        "#+FILETAGS: :a::b: c\n#+PROPERTY: Owner+ cy\n* x\n#+filetags: d:a\n#+PROPERTY: Owner+  d  e \n",
+    )?;
+    let mut meter = Meter::new();
+    let settings = read_settings(rt.alloc(), &mut meter, &text)?;
+    let found = joined(rt.alloc(), settings.file_tags())?;
+    assert_eq!(rt; found.as_slice(), b"a,b,c,d,a,".as_slice());
+    let owner: Option<&[u8]> = Some(b"cy d  e");
+    assert!(rt; settings.property(b"Owner") == owner);
     Ok(())
 }
 

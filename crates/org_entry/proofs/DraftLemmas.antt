@@ -3,7 +3,7 @@ use Rattle.std.proofs.Common.{◌≡◌, ℕ, ◌+◌, List, [], ◌∷◌, ◌+
 use Rattle.std.proofs.lemmas.List.{length-map}
 use Rattle.std.specs.List.{flat_map, concat}
 use Rattle.org_class.specs.Classes.{section_classes}
-use Rattle.org_class.specs.Settings.{FileSettings}
+use Rattle.org_settings.specs.Settings.{FileSettings}
 use Rattle.org_class.specs.declared.class.Class.{Class}
 use Rattle.org_entry.specs.Draft.{EntrySoFar, nothing_said, with_line, with_lines, ended}
 use Rattle.org_entry.specs.Entry.{PlacedLine, text_of, nodes_of, clocks_of, stamps_of, head_from, planning_from, placed, entry_of_lines}

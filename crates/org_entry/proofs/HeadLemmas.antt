@@ -5,7 +5,7 @@ use Rattle.std.specs.List.{flat_map}
 use Rattle.std.specs.Prelude.{IfSome}
 use Rattle.org_class.specs.Classes.{classes, classes_under_heading, front_classes}
 use Rattle.org_class.specs.Heading.{begins_heading}
-use Rattle.org_class.specs.Settings.{FileSettings}
+use Rattle.org_settings.specs.Settings.{FileSettings}
 use Rattle.org_class.specs.declared.class.Class.{Class}
 use Rattle.org_class.specs.declared.class.Class.TheVariants.{Heading, Planning, DrawerOpen, Node, DrawerEnd, Clock, Setting, Comment, BlockOpen, Verbatim, BlockEnd, Plain}
 use Rattle.org_entry.specs.Entry.{PlacedLine, placed, text_of, head_after, head_from, entry_of, heading_line}

@@ -1,6 +1,6 @@
 -- What the lines of a section so far say.
 use Rattle.std.specs.Prelude.{ℕ, List, [], ◌∷◌, ◌++◌, Option, None}
-use Rattle.org_class.specs.Settings.{FileSettings}
+use Rattle.org_settings.specs.Settings.{FileSettings}
 use Rattle.org_drawer.specs.Node.{drawer_of}
 use Rattle.org_drawer.specs.declared.clock.ClockLine.{ClockLine}
 use Rattle.org_drawer.specs.declared.planning.Planning.{Planning}

@@ -6,7 +6,7 @@ use Rattle.std.specs.Option.{option_map, option_to_list}
 use Rattle.org_base.specs.declared.span.Span.{Span}
 use Rattle.org_class.specs.Classes.{section_classes}
 use Rattle.org_class.specs.Sections.{sections}
-use Rattle.org_class.specs.Settings.{FileSettings}
+use Rattle.org_settings.specs.Settings.{FileSettings}
 use Rattle.org_class.specs.declared.class.Class.{Class}
 use Rattle.org_class.specs.declared.class.Class.TheVariants.{Heading, Planning as PlanningLine, Node, Clock, Setting, Plain}
 use Rattle.org_drawer.specs.Clock.{clock_of}

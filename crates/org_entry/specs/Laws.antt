@@ -3,7 +3,7 @@ use Rattle.std.specs.Prelude.{◌≡◌, ℕ, true, List, IfSome}
 use Rattle.std.specs.List.{AllByRecursion}
 use Rattle.std.specs.Option.{is_some}
 use Rattle.org_class.specs.Classes.{section_classes}
-use Rattle.org_class.specs.Settings.{FileSettings}
+use Rattle.org_settings.specs.Settings.{FileSettings}
 use Rattle.org_class.specs.declared.class.Class.TheVariants.{Planning, Node, Clock}
 use Rattle.org_drawer.specs.Clock.{clock_of}
 use Rattle.org_drawer.specs.Node.{given_of}

@@ -10,8 +10,9 @@ ghost use Rattle.org_entry.specs.Entry.{entry_of};
 use crate::draft::Draft;
 use crate::entry::Entry;
 use org_base::{Fault, Meter, Span, Tick};
-use org_class::{Classes, Settings};
+use org_class::Classes;
 use org_lines::Lines;
+use org_settings::Settings;
 use org_text::Text;
 use std::alloc::Global;
 

@@ -7,7 +7,7 @@ use Rattle.std.specs.List.{prefix_len}
 use Rattle.org_base.specs.Words.{trim_start, first_word, is_gap}
 use Rattle.org_base.specs.declared.span.Span.{Span}
 use Rattle.org_head.specs.declared.head.Head.{Head}
-use Rattle.org_class.specs.Settings.{FileSettings}
+use Rattle.org_settings.specs.Settings.{FileSettings}
 use Rattle.org_class.specs.Heading.{stars}
 use Rattle.org_head.specs.Cookie.{is_cookie}
 use Rattle.org_head.specs.Spans.{part_of}

@@ -9,7 +9,7 @@ use Rattle.org_base.specs.Words.{trim_start, trim_end, first_word, is_letter, is
 use Rattle.org_base.specs.declared.span.Span.{Span}
 use Rattle.org_head.proofs.Ends.{end-length, end-stars, end-keyword, end-comment}
 use Rattle.org_head.specs.declared.head.Head.{Head}
-use Rattle.org_class.specs.Settings.{FileSettings}
+use Rattle.org_settings.specs.Settings.{FileSettings}
 use Rattle.org_head.specs.Parts.{is_tag_word, is_colon, last_word}
 use Rattle.org_head.specs.Spans.{IsInside}
 use Rattle.org_head.specs.Tags.{span, spans_from}

@@ -10,7 +10,7 @@ use Rattle.std.specs.List.{list_all, prefix_len, suffix_len}
 use Rattle.org_base.specs.Words.{trim_start, trim_end, first_word, is_letter, is_gap, is_blank}
 use Rattle.org_base.specs.declared.span.Span.{Span}
 use Rattle.org_head.specs.declared.head.Head.{Head}
-use Rattle.org_class.specs.Settings.{FileSettings}
+use Rattle.org_settings.specs.Settings.{FileSettings}
 use Rattle.org_class.specs.Heading.{is_star, stars}
 use Rattle.org_head.specs.Cookie.{is_cookie}
 use Rattle.org_head.specs.Parts.{is_keyword, is_comment_word, is_tag_word, last_word}

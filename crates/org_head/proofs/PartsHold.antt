@@ -12,7 +12,7 @@ use Rattle.std.specs.List.{prefix_len, suffix_len}
 use Rattle.org_base.specs.Words.{trim_start, trim_end, first_word, is_letter, is_gap}
 use Rattle.org_base.specs.declared.span.Span.{Span}
 use Rattle.org_head.specs.declared.head.Head.{Head}
-use Rattle.org_class.specs.Settings.{FileSettings}
+use Rattle.org_settings.specs.Settings.{FileSettings}
 use Rattle.org_class.specs.Heading.{stars, begins_heading}
 use Rattle.org_head.specs.Cookie.{is_cookie}
 use Rattle.org_head.specs.Parts.{is_keyword, is_comment_word, is_tag_word, last_word}

@@ -1,6 +1,6 @@
 -- Priority cookies (Org manual 9.6, Priorities).
 use Rattle.std.specs.Prelude.{ℕ, ◌-◌, Bool, ◌&&◌, ◌==◌, nat_lt, List, length, take, drop, slice_index}
-use Rattle.org_class.specs.Priority.{is_priority}
+use Rattle.org_settings.specs.Priority.{is_priority}
 
 -- X of the cookie [#X]
 abbrev pub cookie_value : List ℕ → List ℕ

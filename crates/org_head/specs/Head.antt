@@ -6,8 +6,8 @@ use Rattle.org_base.specs.declared.span.Span.{Span}
 use Rattle.org_head.specs.declared.head.Head.{Head}
 use Rattle.org_head.specs.Spans.{part_of, IsInside}
 use Rattle.org_class.specs.Heading.{stars}
-use Rattle.org_class.specs.Settings.{FileSettings}
-use Rattle.org_class.specs.Priority.{priority_number}
+use Rattle.org_settings.specs.Settings.{FileSettings}
+use Rattle.org_settings.specs.Priority.{priority_number}
 use Rattle.org_head.specs.Cookie.{is_cookie, cookie_value}
 use Rattle.org_head.specs.Parts.{is_keyword, is_comment_word, is_tag_word, last_word}
 use Rattle.org_head.specs.Tags.{spans_from}

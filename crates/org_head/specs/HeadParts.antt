@@ -6,7 +6,7 @@ use Rattle.std.specs.List.{list_all}
 use Rattle.org_base.specs.Words.{is_letter, is_blank, trim_start, trim_end, first_word}
 use Rattle.org_base.specs.declared.span.Span.{Span}
 use Rattle.org_head.specs.declared.head.Head.{Head}
-use Rattle.org_class.specs.Settings.{FileSettings}
+use Rattle.org_settings.specs.Settings.{FileSettings}
 use Rattle.org_head.specs.Cookie.{is_cookie}
 use Rattle.org_head.specs.Parts.{is_keyword, is_comment_word, is_colon, is_tag_word, last_word}
 use Rattle.org_head.specs.Spans.{part_of, IsInside}

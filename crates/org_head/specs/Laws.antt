@@ -1,7 +1,7 @@
 -- Laws of the parts of a heading line (Org Syntax, Headings).
 use Rattle.std.specs.Prelude.{ℕ, ◌≡◌, List, IsTrue}
 use Rattle.org_head.specs.declared.head.Head.{Head}
-use Rattle.org_class.specs.Settings.{FileSettings}
+use Rattle.org_settings.specs.Settings.{FileSettings}
 use Rattle.org_class.specs.Heading.{begins_heading}
 use Rattle.org_head.specs.Head.{head_of}
 use Rattle.org_head.specs.HeadParts.{HasParts}

@@ -5,7 +5,7 @@ use Rattle.std.specs.Str.{is_utf8}
 use Rattle.unicode.specs.Binary.{is_alphabetic}
 use Rattle.ucd_category.specs.GeneralCategory.{general_category, general_category_number}
 use Rattle.org_base.specs.Words.{is_letter}
-use Rattle.org_class.specs.Keywords.{Keyword, keyword_place}
+use Rattle.org_settings.specs.Keywords.{Keyword, keyword_place}
 
 abbrev pub is_keyword : List Keyword → List ℕ → Bool
 is_keyword keywords w = is_some (keyword_place keywords w)

@@ -1,9 +1,9 @@
 //! Priority cookies.
 ghost use Rattle.std.specs.Prelude.{◌≡◌, ◌≤◌, IsTrue};
-ghost use Rattle.org_class.specs.Priority.{greatest_priority, priority_number};
+ghost use Rattle.org_settings.specs.Priority.{greatest_priority, priority_number};
 ghost use Rattle.org_head.specs.Cookie.{cookie_value, is_cookie};
 
-use org_class::{is_priority, priority_number};
+use org_settings::{is_priority, priority_number};
 
 /// Whether the word is a cookie `[#X]`.
 pub(crate) fn is_cookie(word: &[u8]) -> bool

@@ -3,7 +3,7 @@
 use crate::cookie::cookie_number;
 use crate::spans::{Spans, part};
 use org_base::Span;
-use org_class::Settings;
+use org_settings::Settings;
 
 /// The parts of a heading line, as spans of the line's bytes (Org Syntax, "Headings").
 #[derive(Drop)]
@@ -25,7 +25,7 @@ pub struct Head {
 impl Head {
     ghost use Rattle.std.specs.Prelude.{◌≡◌, ◌≤◌};
     ghost use Rattle.org_head.specs.Head.{head_of, priority_of};
-    ghost use Rattle.org_class.specs.Priority.{greatest_priority};
+    ghost use Rattle.org_settings.specs.Priority.{greatest_priority};
 
     /// The priority of the heading: the number of its cookie's X, or X's ASCII code where X is a letter; without a
     /// cookie the file's default (Org manual 9.6, "Priorities"). A smaller one is more urgent. The head is to be that

@@ -12,7 +12,8 @@ use crate::parts::{is_comment_word, is_tag_word, last_word};
 use crate::spans::Spans;
 use org_base::words::{first_word, trim_end, trim_start};
 use org_base::{Fault, Span};
-use org_class::{Settings, leading_stars};
+use org_class::leading_stars;
+use org_settings::Settings;
 use std::alloc::Global;
 
 fn is_keyword(settings: &Settings, word: &[u8]) -> bool

@@ -5,7 +5,7 @@ ghost use Rattle.org_head.specs.Spans.{IsInside};
 use crate::read::read_head;
 use crate::spans::part;
 use org_base::{Span, Texts};
-use org_class::Settings;
+use org_settings::Settings;
 use std::alloc::Global;
 use std::test::Fail;
 

@@ -1,6 +1,6 @@
 -- What inheritance looks at in one file (Org manual 9.6, Tag Inheritance and Property Inheritance).
 use Rattle.std.specs.Prelude.{ℕ, List}
-use Rattle.org_class.specs.Settings.{FileSettings}
+use Rattle.org_settings.specs.Settings.{FileSettings}
 use Rattle.org_entry.specs.declared.entry.Entry.{Entry}
 
 -- the entries of a file, its settings, its name, and the names whose values are inherited

@@ -4,8 +4,8 @@ ghost use Rattle.std.specs.List.{suffix_len};
 ghost use Rattle.org_inherit.specs.Category.{base_name, stem, category_of, file_category};
 
 use crate::values::file_value;
-use org_class::Settings;
 use org_outline::Outline;
+use org_settings::Settings;
 
 /// The name behind its last slash and without its last extension; a dot in first place begins none.
 pub fn category_of(name: &str) -> &str

@@ -9,9 +9,9 @@ ghost use Rattle.org_inherit.specs.Special.{priority_text, priority_value, stamp
 use crate::special::HeadingValue;
 use crate::tags::{parts, tags_value};
 use org_base::{Bytes, Fault, Span};
-use org_class::Settings;
 use org_entry::Entry;
 use org_head::Head;
+use org_settings::Settings;
 use org_stamp::PlanningWord;
 use std::alloc::Global;
 

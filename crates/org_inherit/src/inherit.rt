@@ -16,8 +16,8 @@ use crate::tables::Tables;
 use crate::tags::{all_tags, tags_value};
 use crate::values::{file_value, is_inherited, nearest_value};
 use org_base::{Bytes, Fault, Texts};
-use org_class::Settings;
 use org_outline::Outline;
+use org_settings::Settings;
 use std::alloc::Global;
 use std::marker::Model;
 

@@ -6,8 +6,8 @@ ghost use Rattle.org_inherit.specs.Values.{nearest_value, front_value, is_inheri
 
 use org_base::Texts;
 use org_base::words::same_word;
-use org_class::Settings;
 use org_outline::Outline;
+use org_settings::Settings;
 
 /// The own value of a name, else that of the nearest ancestor that has one, lent.
 pub(crate) fn nearest_value<'a>(outline: &'a Outline, place: usize, name: &[u8]) -> Option<&'a [u8]>

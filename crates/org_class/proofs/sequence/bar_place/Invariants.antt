@@ -1,7 +1,0 @@
--- No bar stands among the words so far.
-use Rattle.std.proofs.Common.{◌≡◌, ◌+◌, map, drop}
-use Rattle.org_class.specs.Keywords.{bar_place}
-use Rattle.org_class.proofs.sequence.bar_place.Given as goal
-
-abbrev pub invariant-loop-i : goal.invariant-loop-i
-invariant-loop-i l = l.i + bar_place (drop l.i (map (λ x. x.now) l.words)) ≡ bar_place (map (λ x. x.now) l.words)

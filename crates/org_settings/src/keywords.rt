@@ -1,0 +1,164 @@
+//! The keywords of a file.
+ghost use Rattle.std.specs.Prelude.{◌≡◌, ◌<◌, [], map, length, IfOk, IfSome, OnOk, IsOkUnless};
+ghost use Rattle.org_base.specs.Codes.{memory_fault};
+ghost use Rattle.org_settings.specs.Keywords.{add_word, add_words, add_sequence, add_line, standard_keywords, is_keyword_line, keyword_place, keyword_done, keyword_first};
+
+use crate::pieces::words;
+use crate::sequence::{done_from, is_named, without_parens};
+use crate::setting_line::{has_key, setting_value};
+use indexmap::IndexMap;
+use org_base::Fault;
+use std::alloc::Global;
+use std::marker::Model;
+
+// Whether a keyword is a done one, and the place of the first of its sequence.
+#[derive(Clone, Copy)]
+struct Standing {
+    is_done: bool,
+    first: usize,
+}
+
+/// The keywords of a file in the order of their first places.
+#[derive(Drop)]
+pub(crate) struct Keywords {
+    by_word: IndexMap<Vec<u8>, Standing>,
+}
+
+impl Model for Keywords {
+    ghost use Rattle.std.specs.Prelude.{List, map};
+    ghost use Rattle.org_settings.specs.Keywords.{Keyword};
+
+    ghost Value = { List Keyword };
+
+    ghost view = { λ k. map (λ e. record { word = e.0.items; done = e.1.is_done; first = e.1.first }) k.by_word.entries };
+}
+
+impl Keywords {
+    /// No keywords.
+    pub(crate) fn new(alloc: Global) -> Keywords
+        ensures value { result ≡ [] }
+    {
+        Keywords {
+            by_word: IndexMap::new(alloc),
+        }
+    }
+
+    /// How many keywords there are.
+    pub(crate) fn count(&self) -> usize
+        ensures value { result ≡ length self.now }
+    {
+        self.by_word.len()
+    }
+
+    /// The place of a word among the keywords.
+    pub(crate) fn place(&self, word: &[u8]) -> Option<usize>
+        ensures value { result ≡ keyword_place self.now word.now }
+        ensures within { IfSome result (λ place. place < length self.now) }
+    {
+        self.by_word.get_index_of(word)
+    }
+
+    // Adds the keyword that is left of a word, where none has its word.
+    fn add_word(
+        &mut self,
+        alloc: Global,
+        word: &[u8],
+        is_done: bool,
+        first: usize,
+    ) -> Result<(), Fault>
+        ensures ok { OnOk result (self.new ≡ add_word is_done first self.old word.now) }
+        ensures memory { IsOkUnless result memory_fault }
+    {
+        if !is_named(word) {
+            return Ok(());
+        }
+        let word = without_parens(word);
+        if self.place(word).is_some() {
+            return Ok(());
+        }
+        let word = Vec::from_slice(alloc, word)?;
+        self.by_word.insert(word, Standing { is_done, first })?;
+        Ok(())
+    }
+
+    // Adds the keywords that are left of words.
+    fn add_words(
+        &mut self,
+        alloc: Global,
+        words: &[&[u8]],
+        is_done: bool,
+        first: usize,
+    ) -> Result<(), Fault>
+        ensures ok { OnOk result (self.new ≡ add_words is_done first self.old (map (λ x. x.now) words.now)) }
+        ensures memory { IsOkUnless result memory_fault }
+    {
+        for word in words {
+            self.add_word(alloc, word, is_done, first)?;
+        }
+        Ok(())
+    }
+
+    // Adds the keywords of one more line.
+    fn add_sequence(&mut self, alloc: Global, words: &[&[u8]]) -> Result<(), Fault>
+        ensures ok { OnOk result (self.new ≡ add_sequence self.old (map (λ x. x.now) words.now)) }
+        ensures memory { IsOkUnless result memory_fault }
+    {
+        let first = self.count();
+        let done = done_from(words);
+        self.add_words(alloc, &words[..done], false, first)?;
+        self.add_words(alloc, &words[done..], true, first)?;
+        Ok(())
+    }
+
+    /// Whether the keyword at a place is a done one.
+    pub(crate) fn is_done(&self, place: usize) -> bool
+        requires { place < length self.now }
+        ensures value { result ≡ keyword_done self.now place }
+    {
+        match self.by_word.get_index(place) {
+            Some((_, standing)) => standing.is_done,
+            None => false,
+        }
+    }
+
+    /// The place of the first keyword of the sequence that holds the one at a place.
+    pub(crate) fn first_of_sequence(&self, place: usize) -> usize
+        requires { place < length self.now }
+        ensures value { result ≡ keyword_first self.now place }
+    {
+        match self.by_word.get_index(place) {
+            Some((_, standing)) => standing.first,
+            None => 0,
+        }
+    }
+
+    /// Adds the keywords of one more setting line, if it names any.
+    pub(crate) fn add_line(&mut self, alloc: Global, line: &[u8]) -> Result<(), Fault>
+        ensures ok { OnOk result (self.new ≡ add_line self.old line.now) }
+        ensures memory { IsOkUnless result memory_fault }
+    {
+        if !is_keyword_line(line) {
+            return Ok(());
+        }
+        let words = words(alloc, setting_value(line))?;
+        self.add_sequence(alloc, words.as_slice())
+    }
+
+    /// The keywords of a file that names none: `TODO`, and `DONE` as done.
+    pub(crate) fn standard(alloc: Global) -> Result<Keywords, Fault>
+        ensures value { IfOk result (λ k. k ≡ standard_keywords) }
+        ensures memory { IsOkUnless result memory_fault }
+    {
+        let mut keywords = Keywords::new(alloc);
+        let words: [&[u8]; 2] = [b"TODO", b"DONE"];
+        keywords.add_sequence(alloc, &words)?;
+        Ok(keywords)
+    }
+}
+
+// Whether the setting line has a key that names keywords.
+fn is_keyword_line(line: &[u8]) -> bool
+    ensures value { result ≡ is_keyword_line line.now }
+{
+    has_key(b"TODO", line) || has_key(b"SEQ_TODO", line) || has_key(b"TYP_TODO", line)
+}

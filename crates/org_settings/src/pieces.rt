@@ -1,0 +1,58 @@
+//! Pieces of a text between separators.
+ghost use Rattle.std.specs.Prelude.{◌≡◌, ◌≤◌, ◌++◌, map, length, IfOk, OnOk, IsOkUnless};
+ghost use Rattle.std.specs.List.{slice_range};
+ghost use Rattle.org_base.specs.Codes.{memory_fault};
+ghost use Rattle.org_settings.specs.Pieces.{is_between, piece, pieces, words};
+
+use org_base::Fault;
+use std::alloc::Global;
+
+// Whether the byte is white space, a line feed or the other separator.
+fn is_between(also: u8, byte: u8) -> bool
+    ensures value { result ≡ is_between also byte }
+{
+    matches!(byte, b' ' | b'\t' | b'\r' | b'\n') || byte == also
+}
+
+// Puts a part of the text at the end of the pieces, if it isn't empty.
+fn push_piece<'a>(
+    found: &mut Vec<&'a [u8]>,
+    text: &'a [u8],
+    from: usize,
+    to: usize,
+) -> Result<(), Fault>
+    requires order { from ≤ to }
+    requires within { to ≤ length text.now }
+    ensures ok { OnOk result (map (λ x. x.now) found.new.items ≡ map (λ x. x.now) found.old.items ++ piece (slice_range text.now from to)) }
+    ensures memory { IsOkUnless result memory_fault }
+{
+    if from < to {
+        found.push(&text[from..to])?;
+    }
+    Ok(())
+}
+
+/// The longest runs of the text without white space, line feeds and the byte.
+pub(crate) fn pieces<'a>(alloc: Global, text: &'a [u8], also: u8) -> Result<Vec<&'a [u8]>, Fault>
+    ensures value { IfOk result (λ v. map (λ x. x.now) v.items ≡ pieces also text.now) }
+    ensures memory { IsOkUnless result memory_fault }
+{
+    let mut found = Vec::new(alloc);
+    let mut start = 0;
+    for (i, byte) in text.iter().enumerate() {
+        if is_between(also, *byte) {
+            push_piece(&mut found, text, start, i)?;
+            start = i + 1;
+        }
+    }
+    push_piece(&mut found, text, start, text.len())?;
+    Ok(found)
+}
+
+/// The words of the text.
+pub(crate) fn words<'a>(alloc: Global, text: &'a [u8]) -> Result<Vec<&'a [u8]>, Fault>
+    ensures value { IfOk result (λ v. map (λ x. x.now) v.items ≡ words text.now) }
+    ensures memory { IsOkUnless result memory_fault }
+{
+    pieces(alloc, text, b' ')
+}
