@@ -79,8 +79,8 @@ get_before f xs ys j d h =
 pub trees_inherit_alone : TreesInheritAlone
 trees_inherit_alone xs ys k b h =
     let same : ancestors (levels (xs ++ ys)) (length xs + k) ≡ map (λ i. length xs + i) (ancestors (levels ys) k) =
-      ap (λ v. ancestors v (length xs + k)) (map-append level_of xs ys)
-      ∙ rw (← length-map xs level_of) (trees_stand_alone (levels xs) (levels ys) k b) in
+    ap (λ v. ancestors v (length xs + k)) (map-append level_of xs ys)
+    ∙ rw (← length-map xs level_of) (trees_stand_alone (levels xs) (levels ys) k b) in
     inherit_same (xs ++ ys) ys (λ i. length xs + i)
     record {
       hides_same = λ j l. get_behind hides xs ys j _;
@@ -91,9 +91,9 @@ trees_inherit_alone xs ys k b h =
 pub later_says_nothing : LaterSaysNothing
 later_says_nothing xs ys k h =
     let same : ancestors (levels (xs ++ ys)) k ≡ map (λ i. i) (ancestors (levels xs) k) =
-      ap (λ v. ancestors v k) (map-append level_of xs ys)
-      ∙ later_has_no_say (levels xs) (levels ys) k (omega (arith, h, length-map xs level_of))
-      ∙ sym (map-id (ancestors (levels xs) k)) in
+    ap (λ v. ancestors v k) (map-append level_of xs ys)
+    ∙ later_has_no_say (levels xs) (levels ys) k (omega (arith, h, length-map xs level_of))
+    ∙ sym (map-id (ancestors (levels xs) k)) in
     inherit_same (xs ++ ys) xs (λ i. i)
     record {
       hides_same = λ j l. get_before hides xs ys j _ l;
