@@ -4,7 +4,7 @@ cd "$(dirname "$0")/.." || exit 2
 work=$(mktemp -d) || exit 2
 trap 'rm -rf "$work"' EXIT
 
-echo "gate: proving every crate from nothing, its must-fail edits and tests (some 45 minutes on four processors)"
+echo "gate: proving every crate from nothing, its must-fail edits and tests (45 to 90 minutes on four processors)"
 {
     rt ci 2>&1
     echo $? > "$work/status"
