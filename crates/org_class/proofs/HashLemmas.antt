@@ -51,7 +51,7 @@ lines_none (b ∷ bs) e =
     ]
 
 -- only a # becomes one in small letters
-small_hash : (x : ℕ) → is_hash x ≡ false → (to_ascii_lowercase x == 35) ≡ false
+pub small_hash : (x : ℕ) → is_hash x ≡ false → (to_ascii_lowercase x == 35) ≡ false
 small_hash x e =
     let cases = lowercase_is x in
     let other : x ≡ 35 → ⊥ = eqb-false x 35 e in

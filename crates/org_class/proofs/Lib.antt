@@ -9,3 +9,4 @@ pub mod SettingLemmas
 pub mod SpanLemmas
 pub mod StepLemmas
 pub mod HashLemmas
+pub mod MarkLemmas

@@ -2,10 +2,14 @@
 -- where a key ends: profile).
 use Rattle.std.specs.Prelude.{ℕ, Bool, ◌&&◌, not, ◌==◌, if◌then◌else◌, List, drop, slice_index, nat_eq, bytes_eq, codes}
 use Rattle.std.specs.List.{list_any, starts_with}
-use Rattle.org_base.specs.Words.{first_word}
+use Rattle.org_base.specs.Words.{first_word, trim_start}
 use Rattle.org_stamp.specs.Pair.{is_clock}
 use Rattle.org_class.specs.declared.class.Class.{Class}
 use Rattle.org_class.specs.declared.class.Class.TheVariants.{Clock, Setting, Comment, Plain}
+
+-- the first word begins with #
+abbrev pub has_hash : List ℕ → Bool
+has_hash l = slice_index (trim_start l) 0 == 35
 
 -- a comment line's first word is # alone
 abbrev pub is_comment : List ℕ → Bool

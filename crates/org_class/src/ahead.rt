@@ -10,6 +10,7 @@ ghost use Rattle.org_class.specs.Sections.{bytes_in};
 use crate::blocks::block_name;
 use crate::drawers::{is_drawer_end, is_node};
 use crate::ends::EndPlaces;
+use crate::line_class::has_hash;
 use org_base::{Fault, Span};
 use org_lines::Lines;
 use org_text::Text;
@@ -57,10 +58,14 @@ impl<'a, T: Text> Ahead<'a, T> {
     }
 
     /// Whether the line before them opens a block.
+    #[tactic(auto, using(crate::proofs::MarkLemmas::block_has_hash))]
     pub(crate) fn opens_block(&self, alloc: Global, line: &[u8]) -> Result<bool, Fault>
         ensures value { IfOk result (λ opens. opens ≡ opens_block line.now self.now) }
         ensures memory { IsOkUnless result memory_fault }
     {
+        if !has_hash(line) {
+            return Ok(false);
+        }
         let name = block_name(line);
         if name.is_empty() {
             return Ok(false);

@@ -52,9 +52,8 @@ fn classes<T: Text>(alloc: Global, text: &T, section: Span) -> Result<Classes, F
         };
         number += 1;
         let ahead = Ahead::new(text, rest, number, &ends);
-        let (class, next) = stage.next(alloc, line, &ahead)?;
+        let class = stage.pass(alloc, line.bytes.as_slice(), &ahead)?;
         classes.push(class)?;
-        stage = next;
     }
     Ok(classes)
 }

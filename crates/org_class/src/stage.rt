@@ -1,6 +1,5 @@
 //! How far a section was classified.
 ghost use Rattle.std.specs.Prelude.{◌≡◌, ◌∷◌, ℕ, List, Some, None, IfOk, IsOkUnless};
-ghost use Rattle.std.specs.Cow.{cow_slice_items};
 ghost use Rattle.org_base.specs.Codes.{memory_fault};
 ghost use Rattle.org_class.specs.Blocks.{body_classes};
 ghost use Rattle.org_class.specs.Classes.{is_leading, classes, front_classes, classes_under_heading};
@@ -15,7 +14,6 @@ use crate::heading::begins_heading;
 use crate::line_class::{is_comment, line_class};
 use org_base::words::is_blank;
 use org_base::{Bytes, Fault};
-use org_lines::Line;
 use org_stamp::is_planning;
 use org_text::Text;
 use std::alloc::Global;
@@ -40,37 +38,132 @@ pub(crate) enum Stage {
 }
 
 impl Stage {
-    /// The class of the line that comes next, and what may come behind it.
-    pub(crate) fn next<T: Text>(
-        self,
+    /// The class of the line that comes next. The stage is then what may come behind it. Want of memory is the only
+    /// refusal.
+    pub(crate) fn pass<T: Text>(
+        &mut self,
         alloc: Global,
-        line: Line<'_>,
+        line: &[u8],
         ahead: &Ahead<'_, T>,
-    ) -> Result<(Class, Stage), Fault>
-        ensures value { IfOk result (λ next. classes_at self (cow_slice_items line.entry.bytes ∷ ahead.now) ≡ next.0 ∷ classes_at next.1 ahead.now) }
+    ) -> Result<Class, Fault>
+        ensures value { IfOk result (λ class. classes_at self.old (line.now ∷ ahead.now) ≡ class ∷ classes_at self.new ahead.now) }
         ensures memory { IsOkUnless result memory_fault }
     {
-        let line = line.bytes.as_slice();
         match self {
-            Stage::Start => start(alloc, line, ahead),
-            Stage::Front => front(alloc, line, ahead),
-            Stage::UnderHeading => under_heading(alloc, line, ahead),
-            Stage::Below => below(alloc, line, ahead),
-            Stage::Drawer => Ok(drawer(line)),
-            Stage::Body => body(alloc, line, ahead),
-            Stage::Block(name) => Ok(block(name, line)),
+            Stage::Start => self.start(alloc, line, ahead),
+            Stage::Front => self.front(alloc, line, ahead),
+            Stage::UnderHeading => self.under_heading(alloc, line, ahead),
+            Stage::Below => self.below(alloc, line, ahead),
+            Stage::Drawer => Ok(self.drawer(line)),
+            Stage::Body => self.body(alloc, line, ahead),
+            Stage::Block(name) => {
+                if ends_block(name.as_slice(), line) {
+                    *self = Stage::Body;
+                    Ok(Class::BlockEnd)
+                } else {
+                    Ok(Class::Verbatim)
+                }
+            }
         }
     }
-}
 
-fn start<T: Text>(alloc: Global, line: &[u8], ahead: &Ahead<'_, T>) -> Result<(Class, Stage), Fault>
-    ensures value { IfOk result (λ next. classes (line.now ∷ ahead.now) ≡ next.0 ∷ classes_at next.1 ahead.now) }
-    ensures memory { IsOkUnless result memory_fault }
-{
-    if begins_heading(line) {
-        Ok((Class::Heading, Stage::UnderHeading))
-    } else {
-        front(alloc, line, ahead)
+    fn start<T: Text>(
+        &mut self,
+        alloc: Global,
+        line: &[u8],
+        ahead: &Ahead<'_, T>,
+    ) -> Result<Class, Fault>
+        ensures value { IfOk result (λ class. classes (line.now ∷ ahead.now) ≡ class ∷ classes_at self.new ahead.now) }
+        ensures memory { IsOkUnless result memory_fault }
+    {
+        if begins_heading(line) {
+            *self = Stage::UnderHeading;
+            Ok(Class::Heading)
+        } else {
+            self.front(alloc, line, ahead)
+        }
+    }
+
+    fn front<T: Text>(
+        &mut self,
+        alloc: Global,
+        line: &[u8],
+        ahead: &Ahead<'_, T>,
+    ) -> Result<Class, Fault>
+        ensures value { IfOk result (λ class. front_classes (line.now ∷ ahead.now) ≡ class ∷ classes_at self.new ahead.now) }
+        ensures memory { IsOkUnless result memory_fault }
+    {
+        if is_leading(line) {
+            *self = Stage::Front;
+            Ok(line_class(line))
+        } else {
+            self.below(alloc, line, ahead)
+        }
+    }
+
+    fn under_heading<T: Text>(
+        &mut self,
+        alloc: Global,
+        line: &[u8],
+        ahead: &Ahead<'_, T>,
+    ) -> Result<Class, Fault>
+        ensures value { IfOk result (λ class. classes_under_heading (line.now ∷ ahead.now) ≡ class ∷ classes_at self.new ahead.now) }
+        ensures memory { IsOkUnless result memory_fault }
+    {
+        if is_planning(line) {
+            *self = Stage::Below;
+            Ok(Class::Planning)
+        } else {
+            self.below(alloc, line, ahead)
+        }
+    }
+
+    fn below<T: Text>(
+        &mut self,
+        alloc: Global,
+        line: &[u8],
+        ahead: &Ahead<'_, T>,
+    ) -> Result<Class, Fault>
+        ensures value { IfOk result (λ class. classes_below (line.now ∷ ahead.now) ≡ class ∷ classes_at self.new ahead.now) }
+        ensures memory { IsOkUnless result memory_fault }
+    {
+        if is_drawer_open(line) && ahead.closes_drawer(alloc)? {
+            *self = Stage::Drawer;
+            Ok(Class::DrawerOpen)
+        } else {
+            self.body(alloc, line, ahead)
+        }
+    }
+
+    fn drawer(&mut self, line: &[u8]) -> Class
+        ensures value { (ls : List (List ℕ)) → drawer_classes (line.now ∷ ls) ≡ result ∷ classes_at self.new ls }
+    {
+        if is_drawer_end(line) {
+            *self = Stage::Body;
+            Class::DrawerEnd
+        } else {
+            *self = Stage::Drawer;
+            Class::Node
+        }
+    }
+
+    fn body<T: Text>(
+        &mut self,
+        alloc: Global,
+        line: &[u8],
+        ahead: &Ahead<'_, T>,
+    ) -> Result<Class, Fault>
+        ensures value { IfOk result (λ class. body_classes None (line.now ∷ ahead.now) ≡ class ∷ classes_at self.new ahead.now) }
+        ensures memory { IsOkUnless result memory_fault }
+    {
+        if ahead.opens_block(alloc, line)? {
+            let name = Vec::from_slice(alloc, block_name(line))?;
+            *self = Stage::Block(Bytes::new(name));
+            Ok(Class::BlockOpen)
+        } else {
+            *self = Stage::Body;
+            Ok(line_class(line))
+        }
     }
 }
 
@@ -79,73 +172,4 @@ fn is_leading(line: &[u8]) -> bool
     ensures value { result ≡ is_leading line.now }
 {
     is_comment(line) || is_blank(line)
-}
-
-fn front<T: Text>(alloc: Global, line: &[u8], ahead: &Ahead<'_, T>) -> Result<(Class, Stage), Fault>
-    ensures value { IfOk result (λ next. front_classes (line.now ∷ ahead.now) ≡ next.0 ∷ classes_at next.1 ahead.now) }
-    ensures memory { IsOkUnless result memory_fault }
-{
-    if is_leading(line) {
-        Ok((line_class(line), Stage::Front))
-    } else {
-        below(alloc, line, ahead)
-    }
-}
-
-fn under_heading<T: Text>(
-    alloc: Global,
-    line: &[u8],
-    ahead: &Ahead<'_, T>,
-) -> Result<(Class, Stage), Fault>
-    ensures value { IfOk result (λ next. classes_under_heading (line.now ∷ ahead.now) ≡ next.0 ∷ classes_at next.1 ahead.now) }
-    ensures memory { IsOkUnless result memory_fault }
-{
-    if is_planning(line) {
-        Ok((Class::Planning, Stage::Below))
-    } else {
-        below(alloc, line, ahead)
-    }
-}
-
-fn below<T: Text>(alloc: Global, line: &[u8], ahead: &Ahead<'_, T>) -> Result<(Class, Stage), Fault>
-    ensures value { IfOk result (λ next. classes_below (line.now ∷ ahead.now) ≡ next.0 ∷ classes_at next.1 ahead.now) }
-    ensures memory { IsOkUnless result memory_fault }
-{
-    if is_drawer_open(line) && ahead.closes_drawer(alloc)? {
-        Ok((Class::DrawerOpen, Stage::Drawer))
-    } else {
-        body(alloc, line, ahead)
-    }
-}
-
-fn drawer(line: &[u8]) -> (Class, Stage)
-    ensures value { (ls : List (List ℕ)) → drawer_classes (line.now ∷ ls) ≡ result.0 ∷ classes_at result.1 ls }
-{
-    if is_drawer_end(line) {
-        (Class::DrawerEnd, Stage::Body)
-    } else {
-        (Class::Node, Stage::Drawer)
-    }
-}
-
-fn body<T: Text>(alloc: Global, line: &[u8], ahead: &Ahead<'_, T>) -> Result<(Class, Stage), Fault>
-    ensures value { IfOk result (λ next. body_classes None (line.now ∷ ahead.now) ≡ next.0 ∷ classes_at next.1 ahead.now) }
-    ensures memory { IsOkUnless result memory_fault }
-{
-    if ahead.opens_block(alloc, line)? {
-        let name = Vec::from_slice(alloc, block_name(line))?;
-        Ok((Class::BlockOpen, Stage::Block(Bytes::new(name))))
-    } else {
-        Ok((line_class(line), Stage::Body))
-    }
-}
-
-fn block(name: Bytes, line: &[u8]) -> (Class, Stage)
-    ensures value { (ls : List (List ℕ)) → body_classes (Some name) (line.now ∷ ls) ≡ result.0 ∷ classes_at result.1 ls }
-{
-    if ends_block(name.as_slice(), line) {
-        (Class::BlockEnd, Stage::Body)
-    } else {
-        (Class::Verbatim, Stage::Block(name))
-    }
 }

@@ -51,31 +51,22 @@ fn behind(is_part: bool, rest: &[u8]) -> &[u8]
     }
 }
 
-// The title of a text whose last word may be tags.
-fn title_of(text: &[u8]) -> &[u8]
-    ensures within { length result.now ≤ length text.now }
-    ensures value { result.now ≡ title_of text.now }
-{
-    let tail = last_word(text);
-    if is_tag_word(tail) {
-        trim_end(&text[..text.len() - tail.len()])
-    } else {
-        text
-    }
-}
-
-// The tags of a text that begins at a place.
-fn tags_of(alloc: Global, at: usize, text: &[u8]) -> Result<Spans, Fault>
+// How long the title of a text is that begins at a place, and the tags behind it, if its last word is tags.
+fn title_and_tags(alloc: Global, at: usize, text: &[u8]) -> Result<(usize, Spans), Fault>
     requires { at + length text.now < 2 ^ 32 }
-    ensures value { IfOk result (λ tags. tags ≡ tags_of at text.now) }
+    ensures title { IfOk result (λ parts. parts.0 ≡ length (title_of text.now)) }
+    ensures tags { IfOk result (λ parts. parts.1 ≡ tags_of at text.now) }
+    ensures within { IfOk result (λ parts. parts.0 ≤ length text.now) }
     ensures memory { IsOkUnless result memory_fault }
 {
     let tail = last_word(text);
     let mut tags = Spans::new(alloc);
-    if is_tag_word(tail) {
-        tags.push_pieces(at + (text.len() - tail.len()), tail)?;
+    if !is_tag_word(tail) {
+        return Ok((text.len(), tags));
     }
-    Ok(tags)
+    let front = text.len() - tail.len();
+    tags.push_pieces(at + front, tail)?;
+    Ok((trim_end(&text[..front]).len(), tags))
 }
 
 // The parts, read from the left.
@@ -96,11 +87,10 @@ fn read_parts(alloc: Global, line: &[u8], settings: &Settings) -> Result<Head, F
     let comment = is_comment_word(first_word(words));
     let left = behind(comment, words);
     let at = n - left.len();
-    let text = trim_end(left);
-    let tags = tags_of(alloc, at, text)?;
+    let (title_len, tags) = title_and_tags(alloc, at, trim_end(left))?;
     let title = Span {
         at: at as u32,
-        len: title_of(text).len() as u32,
+        len: title_len as u32,
     };
     Ok(Head {
         level: level as u32,

@@ -48,5 +48,20 @@ loop-line-preserved g c =
       left = p.behind;
       passed = drop_next c.loop-line.number all step.0.bytes _ (known.passed ∙ ap bytes_of step.1);
       few = omega (arith, count, known.few);
-      all = class_more c.loop-line.classes _ _ c.in_ok-class.class c.loop-line.stage c.in_ok-class.next _ _ step.0 _ _ step.1 step.2.bytes (c.new-ahead.ensures.value ∙ p.behind) c.in_ok-class.ensures.value c.in_ok-push.ensures.ok known.all;
+      all = class_more c.loop-line.classes _ _ c.in_ok-class.class c.loop-line.stage c.pass.new.self _ _ step.0 c.as_slice.result.now _ step.1 (c.as_slice.ensures.value ∙ step.2.bytes) (c.new-ahead.ensures.value ∙ p.behind) c.in_ok-class.ensures.value c.in_ok-push.ensures.ok known.all;
+    }
+
+pub loop-line-preserved-in_ok-push : goal.loop-line-preserved-in_ok-push
+loop-line-preserved-in_ok-push g c =
+    let step = rw c.in_ok-line.was at c.in-Some.ensures.steps in
+    let known = c.loop-line.invariant in
+    let p = passed (g.T.Text.content c.args.text.now) c.loop-line.rest _ _ step.0 c.in_ok-line.line.span.len (omega (arith, known.to_the_end, c.requires.within)) known.left step.1 step.2.len in
+    let all = lines (bytes_in (g.T.Text.content c.args.text.now) c.args.section) in
+    let count = ap length step.1 in
+    record {
+      to_the_end = omega (arith, p.within, known.to_the_end);
+      left = p.behind;
+      passed = drop_next c.loop-line.number all step.0.bytes _ (known.passed ∙ ap bytes_of step.1);
+      few = omega (arith, count, known.few);
+      all = class_more c.loop-line.classes _ _ c.in_ok-class.class c.loop-line.stage c.pass.new.self _ _ step.0 c.as_slice.result.now _ step.1 (c.as_slice.ensures.value ∙ step.2.bytes) (c.new-ahead.ensures.value ∙ p.behind) c.in_ok-class.ensures.value c.in_ok-push.ensures.ok known.all;
     }
