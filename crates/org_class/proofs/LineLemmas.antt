@@ -36,6 +36,13 @@ first_line (b ∷ bs) l ls h = elim (cases_Bool (b == 10)) [
   | inr e ↦ onto_case b bs l ls (lines bs) refl (let is : onto_first b (lines bs) ≡ l ∷ ls = rw e at h in is) (λ m more k. first_line bs m more k)
 ]
 
+-- a part of a text without its first bytes
+pub bytes_behind : (t : List ℕ) (part : Span) (n : ℕ) → n ≤ part.len → drop n (bytes_in t part) ≡ bytes_in t (record { at = part.at + n; len = part.len - n })
+bytes_behind t part n short =
+    let sum : part.len ≡ n + (part.len - n) = omega (arith, short) in
+    let front : bytes_in t part ≡ take (n + (part.len - n)) (drop part.at t) = range_is t part.at part.len ∙ ap (λ k. take k (drop part.at t)) sum in
+    ap (drop n) front ∙ drop-take n (part.len - n) (drop part.at t) ∙ ap (take (part.len - n)) (drop-drop n part.at t) ∙ sym (range_is t (part.at + n) (part.len - n))
+
 -- the part of a text behind the first line of another part
 pub record PartBehind (t l : List ℕ) (ls : List (List ℕ)) (part : Span) : Type 0 where
   pub within : length l ≤ part.len
@@ -47,11 +54,7 @@ part_behind t l ls part inside h =
     let count = length_range t part.at part.len inside in
     let n = length l in
     let short : n ≤ part.len = omega (arith, first.within, count) in
-    let sum : part.len ≡ n + (part.len - n) = omega arith in
-    let front : bytes_in t part ≡ take (n + (part.len - n)) (drop part.at t) = range_is t part.at part.len ∙ ap (λ k. take k (drop part.at t)) sum in
-    let same : drop n (bytes_in t part) ≡ bytes_in t (record { at = part.at + n; len = part.len - n }) =
-    ap (drop n) front ∙ drop-take n (part.len - n) (drop part.at t) ∙ ap (take (part.len - n)) (drop-drop n part.at t) ∙ sym (range_is t (part.at + n) (part.len - n)) in
-    record { within = short; behind = ap lines (sym same) ∙ first.behind }
+    record { within = short; behind = ap lines (sym (bytes_behind t part n short)) ∙ first.behind }
 
 pub drop_next : {X : Type 0} (n : ℕ) (xs : List X) (y : X) (ys : List X) → drop n xs ≡ y ∷ ys → drop (n + 1) xs ≡ ys
 drop_next n xs y ys h = sym (drop-drop 1 n xs) ∙ ap (drop 1) h

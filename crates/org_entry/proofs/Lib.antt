@@ -3,3 +3,4 @@ pub mod DraftLemmas
 pub mod HeadLemmas
 pub mod LineLemmas
 pub mod ReadLemmas
+pub mod QuietLemmas

@@ -1,6 +1,8 @@
 -- What the lines of a section so far say.
-use Rattle.std.specs.Prelude.{ℕ, List, [], ◌∷◌, ◌++◌, Option, None}
+use Rattle.std.specs.Prelude.{ℕ, Bool, true, false, List, [], ◌∷◌, ◌++◌, Option, None}
 use Rattle.org_settings.specs.Settings.{FileSettings}
+use Rattle.org_class.specs.declared.class.Class.{Class}
+use Rattle.org_class.specs.declared.class.Class.TheVariants.{Heading, Planning as PlanningLine, Node, Clock}
 use Rattle.org_drawer.specs.Node.{drawer_of}
 use Rattle.org_drawer.specs.declared.clock.ClockLine.{ClockLine}
 use Rattle.org_drawer.specs.declared.planning.Planning.{Planning}
@@ -21,6 +23,14 @@ pub record EntrySoFar : Type 0 where
 -- before the first line
 abbrev pub nothing_said : EntrySoFar
 nothing_said = record { text = []; head = None; planning = None; nodes = []; stamps = []; clocks = [] }
+
+-- a line of this class says no more than its stamps
+abbrev pub is_quiet : Class → Bool
+is_quiet Heading = false
+is_quiet PlanningLine = false
+is_quiet Node = false
+is_quiet Clock = false
+is_quiet _ = true
 
 -- one line more
 abbrev pub with_line : FileSettings → EntrySoFar → PlacedLine → EntrySoFar

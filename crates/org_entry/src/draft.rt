@@ -90,6 +90,7 @@ impl Draft {
     {
         let head = read_head(self.alloc, line, settings)?;
         let title = head.title;
+        self.text.reserve_exact(line.len())?;
         self.text.extend_from_slice(line)?;
         self.stamps
             .push_active(at + title.at as usize, part(line, title))?;

@@ -1,16 +1,20 @@
 //! Reading a section.
-ghost use Rattle.std.specs.Prelude.{◌≡◌, ◌+◌, ◌≤◌, length, IfOk, IsOkUnless};
+ghost use Rattle.std.specs.Prelude.{◌≡◌, ◌+◌, ◌≤◌, false, length, drop, IfOk, IsOkUnless};
+ghost use Rattle.std.specs.List.{list_any, suffix_len};
 ghost use Rattle.org_base.specs.Codes.{memory_fault};
 ghost use Rattle.org_base.specs.Counts.{ticked};
 ghost use Rattle.org_base.specs.declared.meter.Tick.TheVariants.{Read};
 ghost use Rattle.org_class.specs.Classes.{section_classes};
 ghost use Rattle.org_class.specs.Sections.{bytes_in};
+ghost use Rattle.org_entry.specs.Draft.{is_quiet};
 ghost use Rattle.org_entry.specs.Entry.{entry_of};
+ghost use Rattle.org_stamp.specs.Stamp.{is_close};
 
 use crate::draft::Draft;
 use crate::entry::Entry;
+use memchr::memchr2;
 use org_base::{Fault, Meter, Span, Tick};
-use org_class::Classes;
+use org_class::{Class, Classes};
 use org_lines::Lines;
 use org_settings::Settings;
 use org_text::Text;
@@ -37,6 +41,48 @@ pub fn read_entry<T: Text>(
     entry_in(alloc, text, section, classes, settings)
 }
 
+// Whether a line of this class says no more than its stamps.
+fn is_quiet(class: Class) -> bool
+    ensures value { result ≡ is_quiet class }
+{
+    !matches!(
+        class,
+        Class::Heading | Class::Planning | Class::Node | Class::Clock
+    )
+}
+
+// How many lines at the end say no more than their stamps.
+fn quiet_lines(classes: &[Class]) -> usize
+    ensures within { result ≤ length classes.now }
+    ensures value { result ≡ suffix_len is_quiet classes.now }
+{
+    classes
+        .iter()
+        .rev()
+        .take_while(|class| is_quiet(**class))
+        .count()
+}
+
+// Whether a closing bracket may stand in a section from a place of it on, as one does where a stamp ends. A text that
+// doesn't lend these bytes in one piece isn't searched.
+fn may_close<T: Text>(text: &T, section: Span, at: usize) -> bool
+    requires within { section.at + section.len ≤ length (T.content text.now) }
+    requires place { at ≤ section.len }
+    ensures none { result ≡ false → list_any is_close (drop at (bytes_in (T.content text.now) section)) ≡ false }
+{
+    let _len = text.len();
+    let len = section.len as usize - at;
+    let piece = text.piece_at(section.at as usize + at);
+    if piece.len() < len {
+        return true;
+    }
+    match memchr2(b'>', b']', &piece[..len]) {
+        Some(_) => true,
+        None => false,
+    }
+}
+
+// The lines behind the last one that says more than its stamps aren't read where none of them has a stamp.
 fn entry_in<T: Text>(
     alloc: Global,
     text: &T,
@@ -51,10 +97,14 @@ fn entry_in<T: Text>(
 {
     let _len = text.len();
     let classes = classes.as_slice();
+    let spoken = classes.len() - quiet_lines(classes);
     let mut draft = Draft::new(alloc);
     let mut at = 0;
     let mut place = 0;
     for line in Lines::new(alloc, text, section) {
+        if place == spoken && !may_close(text, section, at) {
+            break;
+        }
         let line = line?;
         let line = line.bytes.as_slice();
         draft.add(settings, classes[place], at, line)?;

@@ -8,7 +8,7 @@ use Rattle.std.proofs.Math.Numerals.{one-add}
 use Rattle.std.proofs.Math.Seq.{take-append_seam, drop-append_seam}
 use Rattle.std.specs.List.{list_all, prefix_len, suffix_len}
 
-pub passes_front : (p : ℕ → Bool) (xs : List ℕ) → list_all p (take (prefix_len p xs) xs) ≡ true
+pub passes_front : {X : Type 0} (p : X → Bool) (xs : List X) → list_all p (take (prefix_len p xs) xs) ≡ true
 passes_front p [] = refl
 passes_front p (x ∷ xs) = elim (cases_Bool (p x)) [
   | inl e ↦ rw (e, one-add, e) (passes_front p xs)
@@ -28,7 +28,7 @@ pub prefix_is : (p : ℕ → Bool) (xs ys : List ℕ) → list_all p xs ≡ true
 prefix_is p [] ys h k = k
 prefix_is p (x ∷ xs) ys h k = let both = and_parts (p x) (list_all p xs) h in rw (both.0, one-add, prefix_is p xs ys both.1 k) refl
 
-pub all-reverse : (p : ℕ → Bool) (xs : List ℕ) → list_all p xs ≡ true → list_all p (reverse xs) ≡ true
+pub all-reverse : {X : Type 0} (p : X → Bool) (xs : List X) → list_all p xs ≡ true → list_all p (reverse xs) ≡ true
 all-reverse p [] h = refl
 all-reverse p (x ∷ xs) h =
     let both = and_parts (p x) (list_all p xs) h in

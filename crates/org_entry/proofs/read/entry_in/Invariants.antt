@@ -11,5 +11,6 @@ abbrev pub invariant-loop-line : goal.invariant-loop-line
 invariant-loop-line g l = record {
   few : l.place + length l.line-iterator ≡ length l.classes;
   room : l.at + length (concat (map (λ c. c.bytes) l.line-iterator)) ≡ l.fn.section.len;
+  left : concat (map (λ c. c.bytes) l.line-iterator) ≡ drop l.at (bytes_in (g.T.Text.content l.text) l.fn.section);
   all : with_lines l.settings l.draft (placed l.at (map (λ c. c.bytes) l.line-iterator) (drop l.place l.classes)) ≡ with_lines l.settings nothing_said (placed 0 (lines (bytes_in (g.T.Text.content l.text) l.fn.section)) l.classes);
 }
