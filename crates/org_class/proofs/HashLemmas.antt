@@ -17,7 +17,7 @@ none_any (x ∷ xs) h =
     let first : is_hash x ≡ false = false_from_ne_true _ (λ e. h 0 (omega arith) (omega arith) e) in
     rw first (none_any xs (λ k lo hi e. h (suc k) (omega arith) (omega arith) e))
 
-or_none : (a b : Bool) → (a || b) ≡ false → (a ≡ false) × (b ≡ false)
+pub or_none : (a b : Bool) → (a || b) ≡ false → (a ≡ false) × (b ≡ false)
 or_none true b e = absurd (true≢false e)
 or_none false b e = (refl, e)
 

@@ -9,6 +9,7 @@ use Rattle.std.proofs.Math.Seq.{drop-append_seam}
 use Rattle.org_settings.specs.Settings.{FileSettings}
 use Rattle.org_class.specs.declared.class.Class.{Class}
 use Rattle.org_class.specs.declared.class.Class.TheVariants as class
+use Rattle.org_class.proofs.HashLemmas.{or_none}
 use Rattle.org_head.proofs.Runs.{all-reverse, passes_front}
 use Rattle.org_entry.specs.Draft.{EntrySoFar, ended, is_quiet, nothing_said, with_line, with_lines}
 use Rattle.org_entry.specs.Entry.{PlacedLine, active_at, entry_of_lines, if_active, placed}
@@ -16,10 +17,6 @@ use Rattle.org_entry.proofs.DraftLemmas.{lines_end}
 use Rattle.org_lines.specs.Cuts.{Cut}
 use Rattle.org_stamp.specs.Stamp.{is_close}
 use Rattle.org_stamp.proofs.LineLemmas.{none_unclosed}
-
-or_none : (a b : Bool) → (a || b) ≡ false → (a ≡ false) × (b ≡ false)
-or_none true b e = absurd cc
-or_none false b e = (refl, e)
 
 -- no closing bracket, by its first place
 pub none_closes : (bytes : List ℕ) → length bytes ≤ position_or_len is_close bytes → list_any is_close bytes ≡ false

@@ -22,7 +22,8 @@ use std::alloc::Global;
 
 /// What a section says, of its lines, their classes and its file's settings (Org Syntax, "Headings and Sections"). It is
 /// determined by the section's bytes and the settings, wherever the section stands. One pass over the lines, linear in
-/// the section. Want of memory is the only refusal; the meter counts one entry read then too.
+/// the section; its last lines aren't read where they can say nothing. Want of memory is the only refusal; the meter
+/// counts one entry read then too.
 pub fn read_entry<T: Text>(
     alloc: Global,
     meter: &mut Meter,
@@ -82,7 +83,7 @@ fn may_close<T: Text>(text: &T, section: Span, at: usize) -> bool
     }
 }
 
-// The lines behind the last one that says more than its stamps aren't read where none of them has a stamp.
+// The lines behind the last one that says more than its stamps aren't read where no bracket closes in them.
 fn entry_in<T: Text>(
     alloc: Global,
     text: &T,
