@@ -4,11 +4,16 @@ PARTS = crates/org_measure/out/org_measure
 SOURCES = $(shell find crates -name out -prune -o -type f \( -name '*.rt' -o -name '*.antt' \) -print) crates.txt
 PREFIX ?= /usr/local
 
-.PHONY: run build check test rows bench install clean
+.PHONY: run try build check changed test rows bench install clean
 
 # Builds the program where it isn't fresh, and runs the first example.
 run: $(PROGRAM)
 	@$(PROGRAM) --at "2024-02-28 10:30" < tests/rows/first-run
+
+# The same example without any proof, for a first look: the sources are compiled with checks and run.
+try:
+	@echo "orgviews: nothing is proved here; make run and make test do that"
+	@cd crates/orgviews && rt try -- --at "2024-02-28 10:30" < ../../tests/rows/first-run
 
 build: $(PROGRAM)
 
@@ -27,6 +32,10 @@ $(PARTS): $(SOURCES)
 # Every crate, over what earlier checks kept.
 check:
 	rt all check
+
+# What differs from BASE (origin/main, where there is one), and what stands above it: for daily work.
+changed:
+	@sh tests/changed.sh $(BASE)
 
 # The gate: proofs from nothing, must-fail edits, tests, both builds of the program; then the worked streams.
 test:

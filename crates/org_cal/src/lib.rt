@@ -12,8 +12,6 @@ mod minute;
 mod moment;
 mod period;
 mod steps;
-#[cfg(test)]
-mod tests;
 mod text;
 mod time_of_day;
 mod unit;

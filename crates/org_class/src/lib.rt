@@ -16,8 +16,6 @@ mod read;
 mod section;
 mod spans;
 mod stage;
-#[cfg(test)]
-mod tests;
 
 pub use class::{Class, Classes};
 pub use heading::{begins_heading, leading_stars};

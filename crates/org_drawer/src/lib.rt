@@ -10,8 +10,6 @@ mod effort;
 pub mod laws;
 mod node;
 mod planning;
-#[cfg(test)]
-mod tests;
 
 pub use clock::{ClockLine, read_clock};
 pub use drawer::{Drawer, read_drawer};

@@ -10,8 +10,6 @@ mod kept;
 mod list;
 mod question;
 mod row;
-#[cfg(test)]
-mod tests;
 mod todo;
 mod trees;
 mod world;

@@ -9,8 +9,6 @@ pub mod laws;
 mod parts;
 mod read;
 mod spans;
-#[cfg(test)]
-mod tests;
 
 pub use head::Head;
 pub use read::read_head;

@@ -4,7 +4,5 @@
 #![tactic(auto)]
 
 mod lines;
-#[cfg(test)]
-mod tests;
 
 pub use lines::{Line, Lines, line_starts};

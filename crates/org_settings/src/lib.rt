@@ -13,8 +13,6 @@ mod said;
 mod sequence;
 mod setting_line;
 mod settings;
-#[cfg(test)]
-mod tests;
 
 pub use priority::{is_priority, priority_number};
 pub use settings::Settings;

@@ -13,8 +13,6 @@ mod planning;
 mod print;
 mod read;
 mod stamp;
-#[cfg(test)]
-mod tests;
 mod word;
 
 pub use line::{Stamps, stamps_in};

@@ -23,6 +23,3 @@ pub use input::Input;
 pub use next::read_command;
 pub use reply::{Reply, write_reply};
 pub use whole::{End, run};
-
-#[cfg(test)]
-mod tests;
