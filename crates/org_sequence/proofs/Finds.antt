@@ -7,7 +7,7 @@ use Rattle.std.proofs.Math.Nat.{zero-add}
 use Rattle.std.proofs.Math.Seq.{take-append-add, drop-append-add}
 use Rattle.std.proofs.lemmas.List.{drop-drop, drop-append-le, take-append-drop, nil_from_length}
 use Rattle.std.proofs.lemmas.List.Sums.{sum_by-append, sum_by-cons, sum_by-take-drop}
-use Rattle.org_sequence.specs.Parts.{IsItemOf, IsFirstFrom}
+use Rattle.org_sequence.specs.Parts.{IsItemOf, IsFirstPassing}
 
 -- how many of a list pass a test, by its first item
 pub count_cons : {T : Type 0} (p : T → Bool) (x : T) (xs : List T) → count_by p (x ∷ xs) ≡ (if p x then 1 else 0) + count_by p xs
@@ -37,25 +37,25 @@ first_none p xs at none =
     omega (arith, parts)
 
 -- on the left side
-pub first_left : {T : Type 0} (p : T → Bool) (xs ls rs bs : List T) (at i : ℕ) → xs ≡ ls ++ rs → bs ≡ ls → at ≤ length ls → IsFirstFrom p bs at (Some i) → IsFirstFrom p xs at (Some i)
+pub first_left : {T : Type 0} (p : T → Bool) (xs ls rs bs : List T) (at i : ℕ) → xs ≡ ls ++ rs → bs ≡ ls → at ≤ length ls → IsFirstPassing p bs at (Some i) → IsFirstPassing p xs at (Some i)
 first_left p xs ls rs bs at i is b le first =
     let here : (i ≡ at + position_or_len p (drop at ls)) × (i < length ls) = subst (λ ys. (i ≡ at + position_or_len p (drop at ys)) × (i < length ys)) b first in
     let more : position_or_len p (drop at ls ++ rs) ≡ position_or_len p (drop at ls) = position_left p (drop at ls) rs (omega (arith, length-drop at ls, here.0, here.1)) in
     rw (is, drop-append-le at ls rs le) (omega (arith, more, here.0), omega (arith, here.1, length-append ls rs))
 
-pub first_is_none : {T : Type 0} (p : T → Bool) (xs : List T) (at : ℕ) (o : Option ℕ) → IsFirstFrom p xs at o → ((i : ℕ) → o ≡ Some i → ⊥) → count_by p (drop at xs) ≡ 0
+pub first_is_none : {T : Type 0} (p : T → Bool) (xs : List T) (at : ℕ) (o : Option ℕ) → IsFirstPassing p xs at o → ((i : ℕ) → o ≡ Some i → ⊥) → count_by p (drop at xs) ≡ 0
 first_is_none p xs at None first none = first
 first_is_none p xs at (Some i) first none = absurd (none i refl)
 
 -- from a place of the right side on
-pub first_beyond : {T : Type 0} (p : T → Bool) (xs ls rs bs : List T) (at k n : ℕ) (o : Option ℕ) → xs ≡ ls ++ rs → bs ≡ rs → n ≡ length ls → at ≡ n + k → IsFirstFrom p bs k o → IsFirstFrom p xs at (option_map (λ i. n + i) o)
+pub first_beyond : {T : Type 0} (p : T → Bool) (xs ls rs bs : List T) (at k n : ℕ) (o : Option ℕ) → xs ≡ ls ++ rs → bs ≡ rs → n ≡ length ls → at ≡ n + k → IsFirstPassing p bs k o → IsFirstPassing p xs at (option_map (λ i. n + i) o)
 first_beyond p xs ls rs bs at k n None is b len e first = rw (is, e, len, drop-append-add ls rs k) (subst (λ ys. count_by p (drop k ys) ≡ 0) b first)
 first_beyond p xs ls rs bs at k n (Some i) is b len e first =
     let here : (i ≡ k + position_or_len p (drop k rs)) × (i < length rs) = subst (λ ys. (i ≡ k + position_or_len p (drop k ys)) × (i < length ys)) b first in
     rw (is, e, len, drop-append-add ls rs k) (omega (arith, here.0), omega (arith, here.1, length-append ls rs))
 
 -- on the right side, where none passes on the left
-pub first_after : {T : Type 0} (p : T → Bool) (xs ls rs vs bs : List T) (at n : ℕ) (o : Option ℕ) → xs ≡ ls ++ rs → vs ≡ ls → bs ≡ rs → n ≡ length ls → at ≤ n → count_by p (drop at vs) ≡ 0 → IsFirstFrom p bs 0 o → IsFirstFrom p xs at (option_map (λ i. n + i) o)
+pub first_after : {T : Type 0} (p : T → Bool) (xs ls rs vs bs : List T) (at n : ℕ) (o : Option ℕ) → xs ≡ ls ++ rs → vs ≡ ls → bs ≡ rs → n ≡ length ls → at ≤ n → count_by p (drop at vs) ≡ 0 → IsFirstPassing p bs 0 o → IsFirstPassing p xs at (option_map (λ i. n + i) o)
 first_after p xs ls rs vs bs at n None is a b len le none first =
     let before : count_by p (drop at ls) ≡ 0 = subst (λ ys. count_by p (drop at ys) ≡ 0) a none in
     let behind : count_by p rs ≡ 0 = subst (λ ys. count_by p ys ≡ 0) b first in

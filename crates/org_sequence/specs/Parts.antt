@@ -18,6 +18,6 @@ module _ {T : Type 0} where
     pub ended : place < sum_by amount (take (i + 1) items)
 
   -- the first item from a place on that passes, or none where none does
-  abbrev pub IsFirstFrom : (T → Bool) → List T → ℕ → Option ℕ → Type 0
-  IsFirstFrom passes items at None = count_by passes (drop at items) ≡ 0
-  IsFirstFrom passes items at (Some i) = (i ≡ at + position_or_len passes (drop at items)) × (i < length items)
+  abbrev pub IsFirstPassing : (T → Bool) → List T → ℕ → Option ℕ → Type 0
+  IsFirstPassing passes items at None = count_by passes (drop at items) ≡ 0
+  IsFirstPassing passes items at (Some i) = (i ≡ at + position_or_len passes (drop at items)) × (i < length items)

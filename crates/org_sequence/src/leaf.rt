@@ -2,7 +2,7 @@
 ghost use Rattle.std.specs.Prelude.{◌≡◌, ◌+◌, ◌^◌, ◌<◌, ◌≤◌, ◌++◌, length, IfOk};
 ghost use Rattle.std.specs.List.{sum_by};
 ghost use Rattle.org_sequence.specs.declared.tree.TheConstants.{MAX_LEAF};
-ghost use Rattle.org_sequence.specs.Parts.{items_of, IsItemOf, IsFirstFrom};
+ghost use Rattle.org_sequence.specs.Parts.{items_of, IsItemOf, IsFirstPassing};
 ghost use Rattle.org_sequence.specs.Sums.{amount_in, bears};
 
 use crate::measured::{Measure, Measured, Sign, amount, has_sign};
@@ -32,7 +32,7 @@ pub(crate) fn find_in<T: Measured>(items: &[T], measure: Measure, place: u32) ->
 pub(crate) fn first_in<T: Measured>(items: &[T], sign: Sign, from: u32) -> Option<u32>
     requires few { length items.now ≤ MAX_LEAF }
     requires within { from ≤ length items.now }
-    ensures { IsFirstFrom (bears T.marked T.flagged sign) items.now from result }
+    ensures { IsFirstPassing (bears T.marked T.flagged sign) items.now from result }
 {
     for (at, item) in items[from as usize..].iter().enumerate() {
         if has_sign(item, sign) {

@@ -2,7 +2,7 @@
 ghost use Rattle.std.specs.Prelude.{◌≡◌, ◌+◌, ◌^◌, ◌<◌, ◌≤◌, [], ◌∷◌, ◌++◌, length, take, drop};
 ghost use Rattle.std.specs.Prelude.{◌↔◌, slice_index_or, IsTrue, IfOk, OnOk, OnErr};
 ghost use Rattle.std.specs.List.{sum_by, count_by, splice};
-ghost use Rattle.org_sequence.specs.Parts.{items_of, IsItemOf, IsFirstFrom};
+ghost use Rattle.org_sequence.specs.Parts.{items_of, IsItemOf, IsFirstPassing};
 
 use crate::items::Items;
 use crate::join::{build, join_of};
@@ -176,7 +176,7 @@ impl<T: Measured> Sequence<T> {
     /// The first item from a place on that bears the mark, if one does.
     pub fn first_marked(&self, from: u32) -> Option<u32>
         requires { from ≤ length self.now }
-        ensures value { IsFirstFrom T.marked self.now from result }
+        ensures value { IsFirstPassing T.marked self.now from result }
     {
         match &self.root {
             None => None,
@@ -187,7 +187,7 @@ impl<T: Measured> Sequence<T> {
     /// The first item from a place on that bears the flag, if one does.
     pub fn first_flagged(&self, from: u32) -> Option<u32>
         requires { from ≤ length self.now }
-        ensures value { IsFirstFrom T.flagged self.now from result }
+        ensures value { IsFirstPassing T.flagged self.now from result }
     {
         match &self.root {
             None => None,

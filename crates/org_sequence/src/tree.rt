@@ -1,7 +1,7 @@
 //! A balanced tree over leaves of items, seen as its items and its height.
 ghost use Rattle.std.specs.Prelude.{◌≡◌, ◌+◌, ◌^◌, ◌<◌, ◌≤◌, length, take, drop};
 ghost use Rattle.std.specs.List.{sum_by, count_by};
-ghost use Rattle.org_sequence.specs.Parts.{IsItemOf, IsFirstFrom};
+ghost use Rattle.org_sequence.specs.Parts.{IsItemOf, IsFirstPassing};
 ghost use Rattle.org_sequence.specs.Shape.{least};
 ghost use Rattle.org_sequence.specs.Sums.{AreSums, amount_in, bears};
 
@@ -141,7 +141,7 @@ impl<T: Measured> Tree<T> {
     // The first item from a place on that bears a sign.
     pub(crate) fn first_from(&self, sign: Sign, at: u32) -> Option<u32>
         requires { at ≤ length self.now.0 }
-        ensures { IsFirstFrom (bears T.marked T.flagged sign) self.now.0 at result }
+        ensures { IsFirstPassing (bears T.marked T.flagged sign) self.now.0 at result }
     {
         if self.signs(sign) == 0 {
             return None;
