@@ -1,0 +1,4 @@
+pub mod Sums
+pub mod Parts
+pub mod Shape
+pub mod Falls
