@@ -84,7 +84,7 @@ impl<'a, T: Text> Sections<'a, T> {
 
     // The file's settings.
     pub(crate) fn into_settings(self) -> Settings
-        ensures value { result ≡ file_settings self }
+        ensures value { result ≡ file_settings self.entry }
     {
         self.settings
     }
