@@ -41,7 +41,11 @@ impl<'a, T: Text> Model for Sections<'a, T> {
 impl<'a, T: Text> Sections<'a, T> {
     // Classifies the sections of a text, each once as the meter counts. Want of memory is the only refusal; then some of the
     // sections may have been counted.
-    pub(crate) fn of(alloc: Global, meter: &mut Meter, text: &'a T) -> Result<Sections<'a, T>, Fault>
+    pub(crate) fn of(
+        alloc: Global,
+        meter: &mut Meter,
+        text: &'a T,
+    ) -> Result<Sections<'a, T>, Fault>
         ensures value { IfOk result (λ own. own ≡ T.content text.now) }
         ensures counts { OnOk result (meter.new ≡ classified (length (sections (T.content text.now))) meter.old) }
         ensures few { OnErr result ((n : ℕ) × (n ≤ length (sections (T.content text.now))) × (meter.new ≡ classified n meter.old)) }

@@ -7,6 +7,7 @@
 mod command;
 mod counted;
 mod digits;
+mod expression;
 mod input;
 mod line;
 mod names;

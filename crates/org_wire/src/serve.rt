@@ -26,10 +26,8 @@ pub(crate) fn serve<T: Text>(engine: &mut Engine<T>, command: Command) -> Reply
             Ok(text) => Reply::Shown(Bytes::new(text.into_bytes())),
             Err(fault) => Reply::Refused(fault),
         },
-        Command::Todo => match engine.query(View::Todo) {
-            Ok(text) => Reply::Shown(text),
-            Err(fault) => Reply::Refused(fault),
-        },
+        Command::Todo(words) => show(engine.query(View::Todo(&words))),
+        Command::Match(text) => show(engine.query(View::Match(text.as_str()))),
     }
 }
 

@@ -1,12 +1,12 @@
 -- The entry of each section is read by its own classes; where memory is refused to one, it and those before it were counted.
-use Rattle.std.proofs.Common.{◌≡◌, ◌<◌, ◌≤◌, ◌∙◌, ◌+◌, ◌++◌, ◌∷◌, [], ℕ, List, suc, ap, sym, arith, length, get_or, take}
+use Rattle.std.proofs.Common.{◌≡◌, ◌<◌, ◌≤◌, ◌∙◌, ◌+◌, ◌++◌, ◌∷◌, [], ℕ, List, suc, ap, sym, arith, length, get_or}
 use Rattle.std.proofs.lemmas.List.{length-map, take_all}
 use Rattle.org_base.specs.Counts.{Counts, ticked}
 use Rattle.org_base.specs.declared.meter.Tick.TheVariants.{Read}
 use Rattle.org_base.specs.declared.span.Span.{Span}
 use Rattle.org_class.specs.Classes.{section_classes}
 use Rattle.org_class.specs.Sections.{bytes_in, sections}
-use Rattle.org_entry.specs.Entry.{entry_of, entries_of}
+use Rattle.org_entry.specs.Entry.{entry_of}
 use Rattle.org_file.specs.Counts.{have_read}
 use Rattle.org_file.specs.Outline.{file_entries, file_settings}
 use Rattle.org_file.proofs.ReadLemmas.{class_at, one_read, read_more}
