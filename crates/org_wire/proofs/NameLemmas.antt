@@ -2,7 +2,7 @@
 use Rattle.std.proofs.Common.{◌≡◌, ℕ, ◌+◌, ◌-◌, ◌<◌, ◌≤◌, cond, List, [], ◌∷◌, ◌++◌, length, take, drop, get_or, sym, ap, ◌∙◌, arith, ◌==◌, take_all}
 use Rattle.std.specs.Prelude.{Result, is_ok, Ok, Err, MatchResult}
 use Rattle.std.specs.Str.{IsUtf8, is_utf8}
-use Rattle.std.proofs.lemmas.Bool.{false_from_ne_true, ne_eqb}
+use Rattle.std.proofs.lemmas.Bool.{eq-eqb, false_from_ne_true, ne_eqb}
 use Rattle.std.proofs.lemmas.List.{drop_more, take_more, drop_all, get_or-drop, length-drop}
 use Rattle.std.proofs.lemmas.Str.{is_utf8-from_IsUtf8, IsUtf8-from_is_utf8}
 use Rattle.org_wire.specs.Stream.{words_from}
@@ -30,7 +30,7 @@ pub word_ends : (gap : ℕ) (t : List ℕ) (start i : ℕ) → i < length t → 
 word_ends gap t start i inside space =
     let none : i + 1 - (i + 1) ≡ 0 = omega arith in
     ap (λ n. begun t start i ∷ words_from gap (take n (drop (i + 1) t)) (drop (i + 1) t)) none
-    ∙ sym (ap (λ c. cond c (begun t start i ∷ words_from gap [] (drop (i + 1) t)) (words_from gap (begun t start i ++ get_or t i 0 ∷ []) (drop (i + 1) t))) (ap (λ b. b == gap) space))
+    ∙ sym (ap (λ c. cond c (begun t start i ∷ words_from gap [] (drop (i + 1) t)) (words_from gap (begun t start i ++ get_or t i 0 ∷ []) (drop (i + 1) t))) (eq-eqb (get_or t i 0) gap space))
     ∙ ap (words_from gap (begun t start i)) (sym (drop_more t i 0 inside))
 
 pub last_word : (gap : ℕ) (t : List ℕ) (start i : ℕ) → length t ≤ i → words_from gap (begun t start i) (drop i t) ≡ drop start t ∷ []

@@ -227,7 +227,7 @@ fn commands_of_an_input(rt: HostRuntime) -> Result<(), Fail> {
     let mut reader = Counted::new(b"todo\nfrob\nadd a.org 0\ninherit a bc\n".as_slice());
     let mut input = Input::new(rt.alloc(), &mut reader)?;
     let first = read_command(&mut input);
-    assert!(rt; matches!(first, Next::Given(Command::Todo)));
+    assert!(rt; matches!(first, Next::Given(Command::Todo(_))));
     let second = read_command(&mut input);
     assert!(rt; matches!(second, Next::Refused(Fault::Plain(Code::Command))));
     let third = read_command(&mut input);
@@ -252,8 +252,9 @@ fn calls_of_an_engine(rt: HostRuntime) -> Result<(), Fail> {
     assert_eq!(rt; engine.drop_file("c.org"), Err(Fault::Plain(Code::Unknown)));
     assert_eq!(rt; engine.drop_file("b.org"), Ok(3));
     assert!(rt; engine.text_of("b.org").is_err());
-    let list = engine.query(View::Todo)?;
-    assert_eq!(rt; list.as_slice(), b"  a:          TODO a\n".as_slice());
+    let none = Texts::new(rt.alloc());
+    let list = engine.query(View::Todo(&none))?;
+    assert_eq!(rt; list.as_str(), "  a:          TODO a\n");
     assert_eq!(rt; engine.work(), Ok(false));
     assert_eq!(rt; engine.pending(), 0);
     assert_eq!(rt; engine.meter().classified(), 2);
