@@ -1,11 +1,7 @@
 pub mod World
 pub mod Files
-pub mod Counts
-pub mod FileOutline
-pub mod Layout
-pub mod TodoList
+pub mod Outlines
+pub mod Views
 pub mod Sections
-pub mod Gathered
 pub mod Step
 pub mod Questions
-pub mod Trees

@@ -1,17 +1,14 @@
 //! The files of an engine and what commands do with them.
 //!
 //! An engine is seen as a state, and beside it counts of work. The reply to each call and the state after it are those
-//! of one definition, `step`.
+//! of one definition, `step`. What a file says, which rows a view has and how they look stand in the crates below.
 #![tactic(auto)]
 
 mod engine;
-mod file;
 mod kept;
-mod list;
+mod lists;
+mod outlines;
 mod question;
-mod row;
-mod todo;
-mod trees;
 mod world;
 
 pub use engine::{Engine, LAST_SERIAL, MOST_FILES};

@@ -11,7 +11,7 @@ use crate::built::{BuiltItem, BuiltTerm};
 use crate::compare::compares;
 use crate::facts::Facts;
 use crate::pattern::Searcher;
-use org_base::Fault;
+use org_base::{Fault, Texts};
 use org_cal::Moment;
 use org_expression::{Link, Sign};
 use std::alloc::Global;
@@ -58,29 +58,33 @@ impl<'a> Asked<'a> {
         self.item.link == Link::Or
     }
 
-    /// Whether the term holds, or doesn't behind a minus. A missing property counts as an empty text. Want of memory is
-    /// its only refusal.
+    /// Whether the term holds of a heading with these tags, or doesn't behind a minus. A missing property counts as an
+    /// empty text. Want of memory is its only refusal.
     pub fn holds<F: Facts>(
         &mut self,
         alloc: Global,
         facts: &F,
+        tags: &Texts,
         moment: Moment,
     ) -> Result<bool, Fault>
-        ensures value { IfOk result (λ yes. yes ≡ spec.item_holds (spec.tag_term_holds (F.tags facts.now) (F.value facts.now) moment) self.old) }
+        ensures value { IfOk result (λ yes. yes ≡ spec.item_holds (spec.tag_term_holds tags.now (F.value facts.now) moment) self.old) }
         ensures same { self.new ≡ self.old }
         ensures memory { IsOkUnless result memory_fault }
     {
         let item = self.item;
         let holds = match &item.term {
-            BuiltTerm::Tag(name) => has_tag(facts, name.as_str()),
+            BuiltTerm::Tag(name) => has_tag(tags, name.as_str().as_bytes()),
             BuiltTerm::Found(_) => match &mut self.searcher {
-                Some(searcher) => finds_tag(facts, searcher),
+                Some(searcher) => finds_tag(tags, searcher),
                 // A pattern has a searcher, so this is never reached.
                 None => false,
             },
-            BuiltTerm::Compare(name, op, value) => match facts.value(alloc, name.as_str())? {
-                Some(text) => compares(moment, *op, text.as_str(), value, &mut self.searcher),
-                None => compares(moment, *op, "", value, &mut self.searcher),
+            BuiltTerm::Compare(name, op, value) => match facts.value(
+                alloc,
+                name.as_str().as_bytes(),
+            )? {
+                Some(text) => compares(moment, *op, text.as_slice(), value, &mut self.searcher),
+                None => compares(moment, *op, &[], value, &mut self.searcher),
             },
         };
         Ok(signed(item.sign, holds))
@@ -98,11 +102,11 @@ pub fn signed(sign: Sign, holds: bool) -> bool
 }
 
 /// Whether the name is one of the tags.
-fn has_tag<F: Facts>(facts: &F, name: &str) -> bool
-    ensures value { result ≡ list_any (bytes_eq name.now) (F.tags facts.now) }
+fn has_tag(tags: &Texts, name: &[u8]) -> bool
+    ensures value { result ≡ list_any (bytes_eq name.now) tags.now }
 {
-    for place in 0..facts.tag_count() {
-        if name == facts.tag(place) {
+    for place in 0..tags.count() {
+        if name == tags.get(place) {
             return true;
         }
     }
@@ -110,12 +114,12 @@ fn has_tag<F: Facts>(facts: &F, name: &str) -> bool
 }
 
 /// Whether the pattern is found in one of the tags.
-fn finds_tag<F: Facts>(facts: &F, searcher: &mut Searcher<'_>) -> bool
-    ensures value { result ≡ list_any (found searcher.old) (F.tags facts.now) }
+fn finds_tag(tags: &Texts, searcher: &mut Searcher<'_>) -> bool
+    ensures value { result ≡ list_any (found searcher.old) tags.now }
     ensures same { searcher.new ≡ searcher.old }
 {
-    for place in 0..facts.tag_count() {
-        if searcher.is_found(facts.tag(place)) {
+    for place in 0..tags.count() {
+        if searcher.is_found(tags.get(place)) {
             return true;
         }
     }

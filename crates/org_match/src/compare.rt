@@ -15,7 +15,7 @@ use std::cmp::Ordering;
 pub fn compares(
     moment: Moment,
     op: Op,
-    text: &str,
+    text: &[u8],
     value: &BuiltValue,
     searcher: &mut Option<Searcher<'_>>,
 ) -> bool
@@ -30,14 +30,9 @@ pub fn compares(
                 whole.as_str().as_bytes(),
                 fraction.as_str().as_bytes(),
             );
-            allows(op, number_at(text.as_bytes()).cmp(&number))
+            allows(op, number_at(text).cmp(&number))
         }
-        BuiltValue::Quoted(quoted) => by_quoted(
-            moment,
-            op,
-            text.as_bytes(),
-            quoted.as_str().as_bytes(),
-        ),
+        BuiltValue::Quoted(quoted) => by_quoted(moment, op, text, quoted.as_str().as_bytes()),
         BuiltValue::Pattern(_) => match searcher {
             Some(searcher) => by_pattern(op, searcher.is_found(text)),
             // A pattern has a searcher, so this is never reached.

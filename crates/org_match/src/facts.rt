@@ -1,9 +1,9 @@
 //! What an expression asks of a heading.
-ghost use Rattle.std.specs.Prelude.{◌≡◌, ◌<◌, ℕ, Bool, List, Option, Some, length, slice_get, string_bytes, IfOk, IsOkUnless};
+ghost use Rattle.std.specs.Prelude.{◌≡◌, ℕ, Bool, List, Option, IfOk, IsOkUnless};
 ghost use Rattle.std.specs.Option.{option_map};
 ghost use Rattle.org_base.specs.Codes.{memory_fault};
 
-use org_base::Fault;
+use org_base::{Bytes, Fault, Texts};
 use std::alloc::Global;
 
 /// What an expression asks of one heading: its tags, the values of names, its keyword.
@@ -20,23 +20,19 @@ pub trait Facts {
     // whether the keyword is a done one
     ghost finished: { Self → Bool };
 
-    /// How many tags the heading has, inherited ones too.
-    fn tag_count(&self) -> usize
-        ensures value { result ≡ length (tags self.now) };
-
-    /// One of the tags, by its place from 0.
-    fn tag(&self, place: usize) -> &str
-        requires { place < length (tags self.now) }
-        ensures value { slice_get (tags self.now) place ≡ Some result.now };
+    /// All tags of the heading, inherited ones too. Want of memory is its only refusal.
+    fn tags(&self, alloc: Global) -> Result<Texts, Fault>
+        ensures value { IfOk result (λ found. found ≡ tags self.now) }
+        ensures memory { IsOkUnless result memory_fault };
 
     /// The value of a name, if it isn't missing. Special names (Org manual 9.6, Special Properties) win over a
     /// drawer's; names ignore ASCII case. Want of memory is its only refusal.
-    fn value(&self, alloc: Global, name: &str) -> Result<Option<String>, Fault>
-        ensures value { IfOk result (λ found. option_map string_bytes found ≡ value self.now name.now) }
+    fn value(&self, alloc: Global, name: &[u8]) -> Result<Option<Bytes>, Fault>
+        ensures value { IfOk result (λ found. found ≡ value self.now name.now) }
         ensures memory { IsOkUnless result memory_fault };
 
     /// The keyword, if there is one.
-    fn keyword(&self) -> Option<&str>
+    fn keyword(&self) -> Option<&[u8]>
         ensures value { option_map (λ keyword. keyword.now) result ≡ keyword self.now };
 
     /// Whether the keyword is a done one.

@@ -1,13 +1,14 @@
 //! Whether an expression holds of a heading.
-ghost use Rattle.std.specs.Prelude.{◌≡◌, ◌&&◌, IfOk, IsOkUnless, map};
+ghost use Rattle.std.specs.Prelude.{◌≡◌, ◌&&◌, true, IfOk, IsOkUnless, map};
 ghost use Rattle.org_base.specs.Codes.{memory_fault};
 ghost use Rattle.org_match.specs.Holds as spec;
+ghost use Rattle.org_match.specs.Asked.{ask_tags};
 ghost use Rattle.org_match.specs.Built.{built_item_of, built_term_of};
 
 use crate::asked::{Asked, signed};
 use crate::built::{BuiltItem, BuiltTerm, Match};
 use crate::facts::Facts;
-use org_base::Fault;
+use org_base::{Fault, Texts};
 use org_cal::Moment;
 use org_expression::{Kind, Link};
 use std::alloc::Global;
@@ -18,18 +19,23 @@ use std::marker::Model;
 pub struct Testing<'a> {
     expression: &'a Match,
     asked: Vec<Asked<'a>>,
+    asks_tags: bool,
 }
 
 impl<'a> Model for Testing<'a> {
     ghost use Rattle.std.specs.Prelude.{◌≡◌};
     ghost use Rattle.org_expression.specs.Grammar.{Expr};
     ghost use Rattle.org_match.specs.Holds.{tag_items};
+    ghost use Rattle.org_match.specs.Asked.{ask_tags};
 
     ghost Value = { Expr };
 
     ghost view = { λ t. t.expression.now };
 
-    ghost invariant = { λ t. t.asked.items ≡ tag_items t.expression.now };
+    ghost invariant = { λ t. record {
+      items : t.asked.items ≡ tag_items t.expression.now;
+      tags : t.asks_tags ≡ ask_tags (tag_items t.expression.now);
+    } };
 }
 
 impl<'a> Testing<'a> {
@@ -39,7 +45,12 @@ impl<'a> Testing<'a> {
         ensures memory { IsOkUnless result memory_fault }
     {
         let asked = asked_of(alloc, expression.tags.as_slice())?;
-        Ok(Testing { expression, asked })
+        let asks_tags = ask_tags(expression.tags.as_slice());
+        Ok(Testing {
+            expression,
+            asked,
+            asks_tags,
+        })
     }
 
     /// Whether the expression holds of a heading at a moment, as [`Match::test`]. Want of memory is its only refusal, and
@@ -62,7 +73,13 @@ impl<'a> Testing<'a> {
         if expression.kind != Kind::Tags && !todo_holds(facts, expression.todo.as_slice()) {
             return Ok(false);
         }
-        tags_hold(alloc, facts, moment, self.asked.as_mut_slice())
+        by_tags(
+            alloc,
+            facts,
+            moment,
+            self.asks_tags,
+            self.asked.as_mut_slice(),
+        )
     }
 }
 
@@ -90,14 +107,56 @@ fn asked_of<'a>(alloc: Global, items: &'a [BuiltItem]) -> Result<Vec<Asked<'a>>,
     Ok(asked)
 }
 
+/// Whether one of the items asks of tags.
+fn ask_tags(items: &[BuiltItem]) -> bool
+    ensures value { result ≡ ask_tags (map built_item_of items.now) }
+{
+    for item in items {
+        if item.term.asks_tags() {
+            return true;
+        }
+    }
+    false
+}
+
+/// Whether all terms of some part between bars hold. The heading's tags are made once, and only where a term asks of them.
+fn by_tags<F: Facts>(
+    alloc: Global,
+    facts: &F,
+    moment: &Moment,
+    asks_tags: bool,
+    items: &mut [Asked<'_>],
+) -> Result<bool, Fault>
+    requires asked { asks_tags ≡ ask_tags items.old }
+    ensures value { IfOk result (λ yes. yes ≡ spec.items_hold (spec.tag_term_holds (F.tags facts.now) (F.value facts.now) moment.now) items.old) }
+    ensures memory { IsOkUnless result memory_fault }
+    ensures same { items.new ≡ items.old }
+{
+    let tags = tags_if(alloc, facts, asks_tags)?;
+    tags_hold(alloc, facts, &tags, moment, items)
+}
+
+/// The tags of a heading, if they are asked for.
+fn tags_if<F: Facts>(alloc: Global, facts: &F, asked: bool) -> Result<Texts, Fault>
+    ensures value { IfOk result (λ tags. asked ≡ true → tags ≡ F.tags facts.now) }
+    ensures memory { IsOkUnless result memory_fault }
+{
+    if asked {
+        facts.tags(alloc)
+    } else {
+        Ok(Texts::new(alloc))
+    }
+}
+
 /// Whether all terms of some part between bars hold.
 fn tags_hold<F: Facts>(
     alloc: Global,
     facts: &F,
+    tags: &Texts,
     moment: &Moment,
     items: &mut [Asked<'_>],
 ) -> Result<bool, Fault>
-    ensures value { IfOk result (λ yes. yes ≡ spec.items_hold (spec.tag_term_holds (F.tags facts.now) (F.value facts.now) moment.now) items.old) }
+    ensures value { IfOk result (λ yes. yes ≡ spec.items_hold (spec.tag_term_holds tags.now (F.value facts.now) moment.now) items.old) }
     ensures memory { IsOkUnless result memory_fault }
     ensures same { items.new ≡ items.old }
 {
@@ -109,7 +168,7 @@ fn tags_hold<F: Facts>(
             }
             all = true;
         }
-        all = holds_too(alloc, facts, moment, all, item)?;
+        all = holds_too(alloc, facts, tags, moment, all, item)?;
     }
     Ok(all)
 }
@@ -118,18 +177,19 @@ fn tags_hold<F: Facts>(
 fn holds_too<F: Facts>(
     alloc: Global,
     facts: &F,
+    tags: &Texts,
     moment: &Moment,
     all: bool,
     item: &mut Asked<'_>,
 ) -> Result<bool, Fault>
-    ensures value { IfOk result (λ yes. yes ≡ (all && spec.item_holds (spec.tag_term_holds (F.tags facts.now) (F.value facts.now) moment.now) item.old)) }
+    ensures value { IfOk result (λ yes. yes ≡ (all && spec.item_holds (spec.tag_term_holds tags.now (F.value facts.now) moment.now) item.old)) }
     ensures memory { IsOkUnless result memory_fault }
     ensures same { item.new ≡ item.old }
 {
     if !all {
         return Ok(false);
     }
-    item.holds(alloc, facts, *moment)
+    item.holds(alloc, facts, tags, *moment)
 }
 
 /// Whether all keywords of some part between bars are the heading's, or aren't behind a minus.
@@ -157,7 +217,7 @@ fn todo_term_holds<F: Facts>(facts: &F, term: &BuiltTerm) -> bool
 {
     match term {
         BuiltTerm::Tag(name) => match facts.keyword() {
-            Some(keyword) => keyword == name.as_str(),
+            Some(keyword) => keyword == name.as_str().as_bytes(),
             None => false,
         },
         BuiltTerm::Found(_) => false,

@@ -2,7 +2,7 @@
 ghost use Rattle.std.specs.Prelude.{[], ◌∷◌, ◌≤◌, None, bytes_eq, codes, if◌then◌else◌, length};
 ghost use Rattle.std.specs.Option.{option_map};
 
-use org_base::{Code, Fault};
+use org_base::{Bytes, Code, Fault, Texts};
 use org_cal::Moment;
 use org_match::{Facts, Match, Testing};
 use std::alloc::Global;
@@ -37,42 +37,40 @@ impl Facts for Heading<'_> {
 
     ghost finished = { λ h. h.is_done };
 
-    fn tag_count(&self) -> usize {
-        2
+    fn tags(&self, alloc: Global) -> Result<Texts, Fault> {
+        let mut tags = Texts::new(alloc);
+        tags.push(self.first_tag.as_bytes())?;
+        tags.push(self.second_tag.as_bytes())?;
+        Ok(tags)
     }
 
-    fn tag(&self, place: usize) -> &str {
-        if place == 0 {
-            self.first_tag
-        } else {
-            self.second_tag
-        }
-    }
-
-    fn value(&self, alloc: Global, name: &str) -> Result<Option<String>, Fault> {
-        let found = if name == "TODO" {
+    fn value(&self, alloc: Global, name: &[u8]) -> Result<Option<Bytes>, Fault> {
+        let found = if name == b"TODO".as_slice() {
             self.keyword
-        } else if name == "PRIORITY" {
+        } else if name == b"PRIORITY".as_slice() {
             self.priority
-        } else if name == "Coffee" {
+        } else if name == b"Coffee".as_slice() {
             self.coffee
-        } else if name == "With" {
+        } else if name == b"With".as_slice() {
             self.with
-        } else if name == "Effort" {
+        } else if name == b"Effort".as_slice() {
             self.effort
-        } else if name == "my-time" {
+        } else if name == b"my-time".as_slice() {
             self.scheduled
         } else {
             None
         };
         match found {
-            Some(text) => Ok(Some(String::from_str(alloc, text)?)),
+            Some(text) => Ok(Some(Bytes::new(Vec::from_slice(alloc, text.as_bytes())?))),
             None => Ok(None),
         }
     }
 
-    fn keyword(&self) -> Option<&str> {
-        self.keyword
+    fn keyword(&self) -> Option<&[u8]> {
+        match self.keyword {
+            Some(keyword) => Some(keyword.as_bytes()),
+            None => None,
+        }
     }
 
     fn is_finished(&self) -> bool {

@@ -1,5 +1,5 @@
 //! Streams over readers and writers that take bytes in pieces or fail.
-use org_base::Fault;
+use org_base::{Fault, Texts};
 use org_cal::Moment;
 use org_engine::{Engine, LAST_SERIAL, View};
 use org_text::Whole;
@@ -243,7 +243,7 @@ fn next_is<R: Read>(input: &mut Input<'_, R>, want: &str) -> bool {
     let name = match read_command(input) {
         Next::Given(Command::Add(_, _)) => "add",
         Next::Given(Command::Inherit(_)) => "inherit",
-        Next::Given(Command::Todo) => "todo",
+        Next::Given(Command::Todo(_)) => "todo",
         Next::Given(_) => "other",
         Next::Refused(fault) => fault.code().name(),
         Next::Last(fault) => fault.code().name(),
@@ -270,10 +270,10 @@ fn commands_of_an_input(rt: HostRuntime) -> Result<(), Fail> {
 }
 
 // A question reads each section once; nothing is left for a background step.
-fn counts_a_question(engine: &mut Engine<Whole>) -> Result<bool, Fault> {
+fn counts_a_question(alloc: Global, engine: &mut Engine<Whole>) -> Result<bool, Fault> {
     engine.add("a.org", b"* TODO a\n* DONE b\n")?;
-    let list = engine.query(View::Todo)?;
-    Ok(list.as_slice() == b"  a:          TODO a\n".as_slice()
+    let list = engine.query(View::Todo(&Texts::new(alloc)))?;
+    Ok(list.as_str() == "  a:          TODO a\n"
         && engine.work() == Ok(false)
         && engine.pending() == 0
         && engine.meter().classified() == 2
@@ -282,7 +282,7 @@ fn counts_a_question(engine: &mut Engine<Whole>) -> Result<bool, Fault> {
 
 fn engine_counts(alloc: Global) -> Result<bool, Fault> {
     let mut engine = new_engine(alloc)?;
-    counts_a_question(&mut engine)
+    counts_a_question(alloc, &mut engine)
 }
 
 #[test]

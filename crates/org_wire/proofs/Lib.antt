@@ -3,3 +3,4 @@ pub mod NameLemmas
 pub mod WroteLemmas
 pub mod PayloadLemmas
 pub mod RunLemmas
+pub mod ServeLemmas

@@ -2,7 +2,7 @@
 use Rattle.std.proofs.Common.{◌≡◌, ℕ, ◌+◌, ◌-◌, ◌<◌, ◌≤◌, cond, List, [], ◌∷◌, ◌++◌, length, take, drop, get_or, sym, ap, ◌∙◌, arith, ◌==◌, take_all}
 use Rattle.std.specs.Prelude.{Result, is_ok, Ok, Err, MatchResult}
 use Rattle.std.specs.Str.{IsUtf8, is_utf8}
-use Rattle.std.proofs.lemmas.Bool.{false_from_ne_true, ne_eqb}
+use Rattle.std.proofs.lemmas.Bool.{eq-eqb, false_from_ne_true, ne_eqb}
 use Rattle.std.proofs.lemmas.List.{drop_more, take_more, drop_all, get_or-drop, length-drop}
 use Rattle.std.proofs.lemmas.Str.{is_utf8-from_IsUtf8, IsUtf8-from_is_utf8}
 use Rattle.org_wire.specs.Stream.{words_from}
@@ -18,26 +18,26 @@ one_further t start i h inside =
     let byte : get_or (drop start t) (i - start) 0 ≡ get_or t i 0 = get_or-drop start t (i - start) 0 ∙ ap (λ k. get_or t k 0) place in
     ap (λ n. take n (drop start t)) more ∙ take_more (drop start t) (i - start) 0 (omega arith) ∙ ap (λ b. begun t start i ++ b ∷ []) byte
 
-pub word_grows : (t : List ℕ) (start i : ℕ) → start ≤ i → i < length t → (get_or t i 0 ≡ 32 → ⊥) →
-    words_from (begun t start (i + 1)) (drop (i + 1) t) ≡ words_from (begun t start i) (drop i t)
-word_grows t start i h inside other =
-    ap (λ w. words_from w (drop (i + 1) t)) (one_further t start i h inside)
-    ∙ sym (ap (λ c. cond c (begun t start i ∷ words_from [] (drop (i + 1) t)) (words_from (begun t start i ++ get_or t i 0 ∷ []) (drop (i + 1) t))) (ne_eqb (get_or t i 0) 32 other))
-    ∙ ap (words_from (begun t start i)) (sym (drop_more t i 0 inside))
+pub word_grows : (gap : ℕ) (t : List ℕ) (start i : ℕ) → start ≤ i → i < length t → (get_or t i 0 ≡ gap → ⊥) →
+    words_from gap (begun t start (i + 1)) (drop (i + 1) t) ≡ words_from gap (begun t start i) (drop i t)
+word_grows gap t start i h inside other =
+    ap (λ w. words_from gap w (drop (i + 1) t)) (one_further t start i h inside)
+    ∙ sym (ap (λ c. cond c (begun t start i ∷ words_from gap [] (drop (i + 1) t)) (words_from gap (begun t start i ++ get_or t i 0 ∷ []) (drop (i + 1) t))) (ne_eqb (get_or t i 0) gap other))
+    ∙ ap (words_from gap (begun t start i)) (sym (drop_more t i 0 inside))
 
-pub word_ends : (t : List ℕ) (start i : ℕ) → i < length t → get_or t i 0 ≡ 32 →
-    begun t start i ∷ words_from (begun t (i + 1) (i + 1)) (drop (i + 1) t) ≡ words_from (begun t start i) (drop i t)
-word_ends t start i inside space =
+pub word_ends : (gap : ℕ) (t : List ℕ) (start i : ℕ) → i < length t → get_or t i 0 ≡ gap →
+    begun t start i ∷ words_from gap (begun t (i + 1) (i + 1)) (drop (i + 1) t) ≡ words_from gap (begun t start i) (drop i t)
+word_ends gap t start i inside space =
     let none : i + 1 - (i + 1) ≡ 0 = omega arith in
-    ap (λ n. begun t start i ∷ words_from (take n (drop (i + 1) t)) (drop (i + 1) t)) none
-    ∙ sym (ap (λ c. cond c (begun t start i ∷ words_from [] (drop (i + 1) t)) (words_from (begun t start i ++ get_or t i 0 ∷ []) (drop (i + 1) t))) (ap (λ b. b == 32) space))
-    ∙ ap (words_from (begun t start i)) (sym (drop_more t i 0 inside))
+    ap (λ n. begun t start i ∷ words_from gap (take n (drop (i + 1) t)) (drop (i + 1) t)) none
+    ∙ sym (ap (λ c. cond c (begun t start i ∷ words_from gap [] (drop (i + 1) t)) (words_from gap (begun t start i ++ get_or t i 0 ∷ []) (drop (i + 1) t))) (eq-eqb (get_or t i 0) gap space))
+    ∙ ap (words_from gap (begun t start i)) (sym (drop_more t i 0 inside))
 
-pub last_word : (t : List ℕ) (start i : ℕ) → length t ≤ i → words_from (begun t start i) (drop i t) ≡ drop start t ∷ []
-last_word t start i h =
+pub last_word : (gap : ℕ) (t : List ℕ) (start i : ℕ) → length t ≤ i → words_from gap (begun t start i) (drop i t) ≡ drop start t ∷ []
+last_word gap t start i h =
     let count : length (drop start t) ≡ length t - start = length-drop start t in
     let none : drop i t ≡ [] = drop_all i t h in
-    ap (words_from (begun t start i)) none ∙ ap (λ w. w ∷ []) (take_all (i - start) (drop start t) (omega arith))
+    ap (words_from gap (begun t start i)) none ∙ ap (λ w. w ∷ []) (take_all (i - start) (drop start t) (omega arith))
 
 pub utf8_found : {X E : Type 0} (P : X → Type 0) (Q : E → Type 0) (t : List ℕ) (found : Result X E) → MatchResult found (λ x. P x × IsUtf8 t) (λ e. (IsUtf8 t → ⊥) × Q e) → is_ok found ≡ is_utf8 t
 utf8_found P Q t (Ok x) h = sym (is_utf8-from_IsUtf8 t h.1)

@@ -1,5 +1,6 @@
 -- The commands of a stream of bytes (profile).
 use Rattle.std.specs.Prelude.{◌≡◌, ℕ, ◌+◌, ◌-◌, ◌*◌, List, [], ◌∷◌, Bool, not, true, false, ◌&&◌, ◌==◌, ◌++◌, nat_lt, nat_le, Option, None, Some, length, take, drop, codes, if◌then◌else◌}
+use Rattle.std.specs.List.{list_all}
 use Rattle.std.specs.Str.{bytes_eq, is_utf8}
 use Rattle.org_base.specs.FileName.{is_file_name}
 use Rattle.org_base.specs.declared.code.Code.TheVariants.{Memory, Long, Size, Cut, Device}
@@ -9,7 +10,7 @@ use Rattle.org_text.specs.Replace.{max_bytes}
 use Rattle.org_wire.specs.Lines.{cut_at, longest}
 use Rattle.org_wire.specs.Lines as lines
 use Rattle.org_wire.specs.declared.command.Command.{Command}
-use Rattle.org_wire.specs.declared.command.Command.TheVariants.{Add, Drop, Inherit, Text, Todo}
+use Rattle.org_wire.specs.declared.command.Command.TheVariants.{Add, Drop, Inherit, Match, Text, Todo}
 use Rattle.org_wire.specs.declared.command.Next.{Next}
 use Rattle.org_wire.specs.declared.command.Next.TheVariants.{Given, Refused, Last, Ended}
 
@@ -46,19 +47,31 @@ drop_line name = if is_name name then Plainly (Drop name) else Bad
 abbrev pub text_line : List ℕ → Line
 text_line name = if is_name name then Plainly (Text name) else Bad
 
--- single spaces separate words, none of them empty; at true one begins here
-abbrev pub are_words : Bool → List ℕ → Bool
-are_words begins [] = not begins
-are_words begins (b ∷ bs) = if b == 32 then not begins && are_words true bs else are_words false bs
+-- single bytes of a kind separate words, none of them empty; at true one begins here
+abbrev pub are_words : ℕ → Bool → List ℕ → Bool
+are_words gap begins [] = not begins
+are_words gap begins (b ∷ bs) = if b == gap then not begins && are_words gap true bs else are_words gap false bs
 
--- the words between spaces, behind an open word
-abbrev pub words_from : List ℕ → List ℕ → List (List ℕ)
-words_from word [] = word ∷ []
-words_from word (b ∷ bs) = if b == 32 then word ∷ words_from [] bs else words_from (word ++ b ∷ []) bs
+-- the words between bytes of a kind, behind an open word
+abbrev pub words_from : ℕ → List ℕ → List ℕ → List (List ℕ)
+words_from gap word [] = word ∷ []
+words_from gap word (b ∷ bs) = if b == gap then word ∷ words_from gap [] bs else words_from gap (word ++ b ∷ []) bs
+
+-- no space stands in it
+abbrev pub is_word : List ℕ → Bool
+is_word text = list_all (λ b. not (b == 32)) text
+
+-- `todo KW|KW`, from its first keyword on: one word, of keywords between bars
+abbrev pub todo_line : List ℕ → Line
+todo_line words = if is_utf8 words && is_word words && are_words 124 true words then Plainly (Todo (words_from 124 [] words)) else Bad
+
+-- `match EXPR`, whose expression is the rest of the line
+abbrev pub match_line : List ℕ → Line
+match_line text = if is_utf8 text then Plainly (Match text) else Bad
 
 -- `inherit NAME ..`, from its first name on
 abbrev pub inherit_line : List ℕ → Line
-inherit_line names = if is_utf8 names && are_words true names then Plainly (Inherit (words_from [] names)) else Bad
+inherit_line names = if is_utf8 names && are_words 32 true names then Plainly (Inherit (words_from 32 [] names)) else Bad
 
 -- a name, and the length of a payload where it is a number
 abbrev pub sized_frame : List ℕ → Option ℕ → Line
@@ -73,7 +86,9 @@ add_line (Some cut) = if is_name cut.before then sized_frame cut.before (number_
 -- a line of several words, cut behind its first
 abbrev pub words_line : Option lines.Cut → Line
 words_line None = Bad
-words_line (Some cut) = if bytes_eq cut.before (codes "text") then text_line cut.after
+words_line (Some cut) = if bytes_eq cut.before (codes "todo") then todo_line cut.after
+    else if bytes_eq cut.before (codes "match") then match_line cut.after
+    else if bytes_eq cut.before (codes "text") then text_line cut.after
     else if bytes_eq cut.before (codes "drop") then drop_line cut.after
     else if bytes_eq cut.before (codes "inherit") then inherit_line cut.after
     else if bytes_eq cut.before (codes "add") then add_line (cut_at 32 cut.after)
@@ -81,7 +96,8 @@ words_line (Some cut) = if bytes_eq cut.before (codes "text") then text_line cut
 
 -- what a line says
 unfoldable pub line_of : List ℕ → Line
-line_of line = if bytes_eq line (codes "todo") then Plainly Todo
+line_of line = if bytes_eq line (codes "todo") then Plainly (Todo [])
+    else if bytes_eq line (codes "match") then Plainly (Match [])
     else if bytes_eq line (codes "inherit") then Plainly (Inherit [])
     else words_line (cut_at 32 line)
 

@@ -1,8 +1,11 @@
 -- What holds between the turns of a run.
 use Rattle.std.specs.Prelude.{◌≡◌, List, ℕ, Option, Some}
 use Rattle.std.specs.Io.KnownBytes.{Appends}
+use Rattle.org_engine.specs.Questions.{Asks}
+use Rattle.org_engine.specs.Step as step
 use Rattle.org_engine.specs.World.{State}
-use Rattle.org_wire.specs.Run.{AnswersSo, Runs, out_of_memory, written}
+use Rattle.org_engine.specs.declared.question.View.{View}
+use Rattle.org_wire.specs.Run.{AnswersSo, Runs, out_of_memory, shown, written}
 use Rattle.org_wire.specs.declared.command.Command.{Command}
 use Rattle.org_wire.specs.declared.command.Next.{Next}
 use Rattle.org_wire.specs.declared.command.Next.TheVariants.{Given, Refused, Last, Ended}
@@ -20,6 +23,11 @@ pub record IsSoFar (bytes : List ℕ) (old new : State) (had has now : Option (L
 -- the engine's answer to a command, or want of memory with nothing changed
 pub record Serves (command : Command) (old : State) (answer : Reply) (new : State) : Type 0 where
   pub done : (answer ≡ out_of_memory → ⊥) → AnswersSo (Given command) old answer new
+  pub memory : answer ≡ out_of_memory → new ≡ old
+
+-- the engine's answer to a view, or want of memory with nothing changed
+pub record ServesView (view : View) (old : State) (answer : Reply) (new : State) : Type 0 where
+  pub done : (answer ≡ out_of_memory → ⊥) → (question : step.Question) × Asks view question × (answer ≡ shown (step.step (step.Ask question) old).reply) × (new ≡ (step.step (step.Ask question) old).after)
   pub memory : answer ≡ out_of_memory → new ≡ old
 
 -- what was read is answered so

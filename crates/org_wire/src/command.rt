@@ -1,5 +1,6 @@
 //! The commands of a stream.
 
+use crate::expression::Expression;
 use org_base::{Bytes, Fault, Name, Texts};
 
 /// A command, one variant for each line that is one.
@@ -13,8 +14,10 @@ pub enum Command {
     Inherit(Texts),
     /// `text NAME`: asks for a file's text.
     Text(Name),
-    /// `todo`: asks for the TODO list.
-    Todo,
+    /// `todo` or `todo KW|KW`: asks for the TODO list of these keywords; of none, of those that aren't done.
+    Todo(Texts),
+    /// `match EXPR`: asks for the match list of an expression, which is the rest of the line and may be empty.
+    Match(Expression),
 }
 
 /// What comes next on a stream.

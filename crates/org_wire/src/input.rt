@@ -3,9 +3,10 @@ ghost use Rattle.std.specs.Prelude.{◌≡◌, [], ◌++◌, true, IfOk, IfSome,
 ghost use Rattle.org_base.specs.Codes.{memory_fault};
 
 use crate::command::{Command, Next};
+use crate::expression::Expression;
 use crate::counted::Counted;
 use crate::line::LineBuffer;
-use crate::names::names_in;
+use crate::names::words_in;
 use crate::parse::{Parsed, parse_line};
 use crate::room::{MOST_ROOM, Room};
 use org_base::{Bytes, Code, Fault, Name};
@@ -268,12 +269,19 @@ impl<'a, R: Read> Input<'a, R> {
     {
         match parse_line(self.line.as_slice()) {
             Parsed::Bad => Next::Refused(Fault::Plain(Code::Command)),
-            Parsed::Todo => Next::Given(Command::Todo),
+            Parsed::Todo(words) => match words_in(self.alloc, b'|', words) {
+                Ok(words) => Next::Given(Command::Todo(words)),
+                Err(_) => Next::Refused(Fault::Plain(Code::Memory)),
+            },
+            Parsed::Match(text) => match Expression::new(self.alloc, text) {
+                Ok(text) => Next::Given(Command::Match(text)),
+                Err(_) => Next::Refused(Fault::Plain(Code::Memory)),
+            },
             Parsed::Drop(name) => match Name::new(self.alloc, name) {
                 Ok(name) => Next::Given(Command::Drop(name)),
                 Err(_) => Next::Refused(Fault::Plain(Code::Memory)),
             },
-            Parsed::Inherit(words) => match names_in(self.alloc, words) {
+            Parsed::Inherit(words) => match words_in(self.alloc, b' ', words) {
                 Ok(names) => Next::Given(Command::Inherit(names)),
                 Err(_) => Next::Refused(Fault::Plain(Code::Memory)),
             },

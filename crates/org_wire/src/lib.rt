@@ -7,6 +7,7 @@
 mod command;
 mod counted;
 mod digits;
+mod expression;
 mod input;
 mod line;
 mod names;
@@ -19,6 +20,7 @@ mod whole;
 
 pub use command::{Command, Next};
 pub use counted::Counted;
+pub use expression::Expression;
 pub use input::Input;
 pub use next::read_command;
 pub use reply::{Reply, write_reply};

@@ -68,6 +68,7 @@ impl LineBuffer {
 
     pub(crate) fn as_slice(&self) -> &[u8]
         ensures value { result.now ≡ self.now }
+        ensures most { length result.now ≤ longest }
     {
         &self.bytes[..self.len]
     }

@@ -1,8 +1,8 @@
 //! What a line says, read without memory.
-ghost use Rattle.std.specs.Prelude.{◌≡◌, None, Some, IfSome, IfNone, MatchOption, true, false};
+ghost use Rattle.std.specs.Prelude.{◌≡◌, ◌≤◌, None, Some, IfSome, IfNone, MatchOption, length, true, false};
 ghost use Rattle.org_wire.specs.Lines.{cut_at};
-ghost use Rattle.org_wire.specs.Stream.{number_of, is_name, are_words, line_of, drop_line, inherit_line, text_line, add_line};
-ghost use Rattle.org_wire.specs.Parsed.{said};
+ghost use Rattle.org_wire.specs.Stream.{number_of, is_name, is_word, are_words, line_of, drop_line, inherit_line, match_line, text_line, todo_line, add_line};
+ghost use Rattle.org_wire.specs.Parsed.{IsWithin, said};
 ghost use Rattle.std.specs.Str.{is_utf8};
 
 use org_base::is_file_name;
@@ -15,7 +15,10 @@ const MOST_NUMBER: u64 = 1_000_000_000_000_000_000;
 pub(crate) enum Parsed<'a> {
     /// No command.
     Bad,
-    Todo,
+    /// The keywords of a TODO list, with one bar between them; None without one.
+    Todo(Option<&'a [u8]>),
+    /// The text of an expression.
+    Match(&'a str),
     Drop(&'a str),
     /// The names to inherit, with one space between them; None without a name.
     Inherit(Option<&'a [u8]>),
@@ -28,6 +31,7 @@ pub(crate) enum Parsed<'a> {
 fn cut(line: &[u8], byte: u8) -> Option<(&[u8], &[u8])>
     ensures value { MatchOption result (cut_at byte line.now ≡ None)
         (λ parts. cut_at byte line.now ≡ Some (record { before = parts.0.now; after = parts.1.now })) }
+    ensures within { IfSome result (λ parts. length parts.1.now ≤ length line.now) }
 {
     for (i, x) in line.iter().enumerate() {
         if *x == byte {
@@ -71,19 +75,26 @@ fn name(word: &[u8]) -> Option<&str>
     }
 }
 
+// Whether no space stands in the text.
+fn is_word(text: &[u8]) -> bool
+    ensures value { result ≡ is_word text.now }
+{
+    text.iter().all(|byte| *byte != b' ')
+}
+
 fn is_utf8(text: &[u8]) -> bool
     ensures value { result ≡ is_utf8 text.now }
 {
     str::from_utf8(text).is_ok()
 }
 
-// Whether single spaces separate words in the text, none of them empty.
-fn are_words(text: &[u8]) -> bool
-    ensures value { result ≡ are_words true text.now }
+// Whether single bytes of this kind separate words in the text, none of them empty.
+fn are_words(gap: u8, text: &[u8]) -> bool
+    ensures value { result ≡ are_words gap true text.now }
 {
     let mut begins = true;
     for byte in text {
-        if *byte != b' ' {
+        if *byte != gap {
             begins = false;
         } else if begins {
             return false;
@@ -98,9 +109,13 @@ fn are_words(text: &[u8]) -> bool
 #[tactic(auto, unfolding(crate::specs::Stream::line_of))]
 pub(crate) fn parse_line(line: &[u8]) -> Parsed<'_>
     ensures value { line_of line.now ≡ said result }
+    ensures within { IsWithin (length line.now) result }
 {
     if line == b"todo".as_slice() {
-        return Parsed::Todo;
+        return Parsed::Todo(None);
+    }
+    if line == b"match".as_slice() {
+        return Parsed::Match("");
     }
     if line == b"inherit".as_slice() {
         return Parsed::Inherit(None);
@@ -108,6 +123,12 @@ pub(crate) fn parse_line(line: &[u8]) -> Parsed<'_>
     let Some((word, rest)) = cut(line, b' ') else {
         return Parsed::Bad;
     };
+    if word == b"todo".as_slice() {
+        return parse_todo(rest);
+    }
+    if word == b"match".as_slice() {
+        return parse_match(rest);
+    }
     if word == b"text".as_slice() {
         return parse_text(rest);
     }
@@ -123,9 +144,33 @@ pub(crate) fn parse_line(line: &[u8]) -> Parsed<'_>
     Parsed::Bad
 }
 
+// What stands behind `todo`.
+fn parse_todo(rest: &[u8]) -> Parsed<'_>
+    ensures value { todo_line rest.now ≡ said result }
+    ensures within { IsWithin (length rest.now) result }
+{
+    if is_utf8(rest) && is_word(rest) && are_words(b'|', rest) {
+        Parsed::Todo(Some(rest))
+    } else {
+        Parsed::Bad
+    }
+}
+
+// What stands behind `match`.
+fn parse_match(rest: &[u8]) -> Parsed<'_>
+    ensures value { match_line rest.now ≡ said result }
+    ensures within { IsWithin (length rest.now) result }
+{
+    match str::from_utf8(rest) {
+        Ok(text) => Parsed::Match(text),
+        Err(_) => Parsed::Bad,
+    }
+}
+
 // What stands behind `drop`.
 fn parse_drop(rest: &[u8]) -> Parsed<'_>
     ensures value { drop_line rest.now ≡ said result }
+    ensures within { IsWithin (length rest.now) result }
 {
     match name(rest) {
         Some(name) => Parsed::Drop(name),
@@ -136,8 +181,9 @@ fn parse_drop(rest: &[u8]) -> Parsed<'_>
 // What stands behind `inherit`.
 fn parse_inherit(rest: &[u8]) -> Parsed<'_>
     ensures value { inherit_line rest.now ≡ said result }
+    ensures within { IsWithin (length rest.now) result }
 {
-    if is_utf8(rest) && are_words(rest) {
+    if is_utf8(rest) && are_words(b' ', rest) {
         Parsed::Inherit(Some(rest))
     } else {
         Parsed::Bad
@@ -147,6 +193,7 @@ fn parse_inherit(rest: &[u8]) -> Parsed<'_>
 // What stands behind `text`.
 fn parse_text(rest: &[u8]) -> Parsed<'_>
     ensures value { text_line rest.now ≡ said result }
+    ensures within { IsWithin (length rest.now) result }
 {
     match name(rest) {
         Some(name) => Parsed::Text(name),
@@ -157,6 +204,7 @@ fn parse_text(rest: &[u8]) -> Parsed<'_>
 // What stands behind `add`.
 fn parse_add(rest: &[u8]) -> Parsed<'_>
     ensures value { add_line (cut_at 32 rest.now) ≡ said result }
+    ensures within { IsWithin (length rest.now) result }
 {
     let Some((word, size)) = cut(rest, b' ') else {
         return Parsed::Bad;

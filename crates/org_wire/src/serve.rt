@@ -1,6 +1,7 @@
 //! The engine's answers as replies, and its background steps.
 ghost use Rattle.std.specs.Prelude.{◌≡◌};
-ghost use Rattle.org_wire.specs.Turns.{Serves};
+ghost use Rattle.org_engine.specs.Questions.{IsShort};
+ghost use Rattle.org_wire.specs.Turns.{Serves, ServesView};
 
 use crate::command::Command;
 use crate::reply::Reply;
@@ -26,10 +27,19 @@ pub(crate) fn serve<T: Text>(engine: &mut Engine<T>, command: Command) -> Reply
             Ok(text) => Reply::Shown(Bytes::new(text.into_bytes())),
             Err(fault) => Reply::Refused(fault),
         },
-        Command::Todo => match engine.query(View::Todo) {
-            Ok(text) => Reply::Shown(text),
-            Err(fault) => Reply::Refused(fault),
-        },
+        Command::Todo(words) => ask(engine, View::Todo(&words)),
+        Command::Match(text) => ask(engine, View::Match(text.as_str())),
+    }
+}
+
+// Asks for a view.
+fn ask<T: Text>(engine: &mut Engine<T>, view: View<'_>) -> Reply
+    requires short { IsShort view }
+    ensures value { ServesView view.entry engine.old.state result engine.new.state }
+{
+    match engine.query(view) {
+        Ok(text) => Reply::Shown(Bytes::new(text.into_bytes())),
+        Err(fault) => Reply::Refused(fault),
     }
 }
 

@@ -1,0 +1,18 @@
+-- Laws of rows.
+use Rattle.std.specs.Prelude.{◌≡◌, ◌<◌, ℕ, List, map}
+use Rattle.std.specs.List.{All}
+use Rattle.std.specs.List.Sorted.{IsNonDecreasingBy, IsPermutation}
+use Rattle.org_agenda.specs.Lists.{Ranked, in_order}
+use Rattle.org_agenda.specs.Order.{at_key}
+use Rattle.org_agenda.specs.declared.lists.TheConstants.{PRIORITIES}
+
+-- the same rows, by rising priorities; those of one priority stand as they came
+pub record IsArranged (came arranged : List Ranked) : Type 0 where
+  pub same : IsPermutation came arranged
+  pub rise : IsNonDecreasingBy (λ r. r.priority) arranged
+  pub stable : (priority : ℕ) → at_key (λ r. r.priority) priority arranged ≡ at_key (λ r. r.priority) priority came
+
+-- the rows of a list are those that came, so arranged, where each has one of the priorities
+abbrev pub RowsAreArranged : Type 0
+RowsAreArranged = (came : List Ranked) → All (λ r. r.priority < PRIORITIES) came →
+    (arranged : List Ranked) × (in_order came ≡ map (λ r. r.row) arranged) × IsArranged came arranged

@@ -1,0 +1,6 @@
+pub mod Headings
+pub mod Order
+pub mod Lists
+pub mod Gathered
+pub mod Chosen
+pub mod Laws

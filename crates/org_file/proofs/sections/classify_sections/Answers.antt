@@ -1,0 +1,24 @@
+-- Where memory is refused to a section, it and those before it were counted.
+use Rattle.std.proofs.Common.{ap, arith, length}
+use Rattle.std.proofs.lemmas.List.{length-map}
+use Rattle.org_class.specs.Sections.{bytes_in, sections}
+use Rattle.org_class.proofs.SettingLemmas.{one_counted}
+use Rattle.org_file.proofs.sections.classify_sections.Goals as goal
+
+pub returns-in_err-own-clause-few : goal.returns-in_err-own-clause-few
+returns-in_err-own-clause-few g c =
+    let t = g.T.Text.content c.args.text.now in
+    let count = length-map c.args.spans.now (bytes_in t) in
+    one_counted c.from_residual-in_err-own.result (sections t) c.loop-span.span-index _ _ _ (omega (arith, ap length c.as_slice-span-items.ensures.value, ap length c.requires.bytes, count)) c.classify.ensures.counts c.loop-span.invariant.counts
+
+pub returns-in_err-push_setting_lines-clause-few : goal.returns-in_err-push_setting_lines-clause-few
+returns-in_err-push_setting_lines-clause-few g c =
+    let t = g.T.Text.content c.args.text.now in
+    let count = length-map c.args.spans.now (bytes_in t) in
+    one_counted c.from_residual-in_err-push_setting_lines.result (sections t) c.loop-span.span-index _ _ _ (omega (arith, ap length c.as_slice-span-items.ensures.value, ap length c.requires.bytes, count)) c.classify.ensures.counts c.loop-span.invariant.counts
+
+pub returns-in_err-push-clause-few : goal.returns-in_err-push-clause-few
+returns-in_err-push-clause-few g c =
+    let t = g.T.Text.content c.args.text.now in
+    let count = length-map c.args.spans.now (bytes_in t) in
+    one_counted c.from_residual-in_err-push.result (sections t) c.loop-span.span-index _ _ _ (omega (arith, ap length c.as_slice-span-items.ensures.value, ap length c.requires.bytes, count)) c.classify.ensures.counts c.loop-span.invariant.counts

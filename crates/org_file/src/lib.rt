@@ -1,0 +1,10 @@
+//! One file as an engine has it.
+//!
+//! What a file says is read of its text by its own settings, wherever its setting lines stand: one outline of entries, one
+//! for each section, and the settings. A view is asked over what it inherits.
+#![tactic(auto)]
+
+mod outline;
+mod sections;
+
+pub use outline::FileOutline;

@@ -1,0 +1,74 @@
+//! What a file says.
+ghost use Rattle.std.specs.Prelude.{◌≡◌, length, IfOk, OnOk, OnErr, IsOkUnless};
+ghost use Rattle.org_base.specs.Codes.{memory_fault};
+ghost use Rattle.org_class.specs.Sections.{sections};
+ghost use Rattle.org_file.specs.Counts.{AtMost, worked};
+ghost use Rattle.org_file.specs.Outline.{outline_of, scope_in};
+
+use crate::sections::Sections;
+use org_base::{Code, Fault, Meter, Texts};
+use org_inherit::Inherit;
+use org_outline::{Entries, Outline};
+use org_settings::Settings;
+use org_text::Text;
+use std::alloc::Global;
+use std::marker::Model;
+
+/// What a file says: its outline, and the settings by which it was read.
+#[derive(Drop)]
+pub struct FileOutline {
+    outline: Outline,
+    settings: Settings,
+}
+
+impl Model for FileOutline {
+    ghost use Rattle.org_file.specs.Outline.{OutlineView};
+
+    ghost Value = { OutlineView };
+
+    ghost view = { λ f. record { entries = f.outline; settings = f.settings } };
+}
+
+impl FileOutline {
+    /// What a text says. Each section is classified once and read once, as the meter counts. Want of memory is the only
+    /// refusal; then some of the sections may have been counted.
+    pub fn read<T: Text>(alloc: Global, meter: &mut Meter, text: &T) -> Result<FileOutline, Fault>
+        ensures value { IfOk result (λ file. file ≡ outline_of (T.content text.now)) }
+        ensures counts { OnOk result (meter.new ≡ worked (length (sections (T.content text.now))) (length (sections (T.content text.now))) meter.old) }
+        ensures few { OnErr result (AtMost (length (sections (T.content text.now))) meter.old meter.new) }
+        ensures memory { IsOkUnless result memory_fault }
+    {
+        let sections = Sections::of(alloc, meter, text)?;
+        let entries = sections.entries(alloc, meter)?;
+        let outline = outline_of(alloc, entries)?;
+        Ok(FileOutline {
+            outline,
+            settings: sections.into_settings(),
+        })
+    }
+
+    /// What the outline says of headings, in a file of this name where the values of these names are inherited. Want of
+    /// memory is the only refusal.
+    pub fn inherit<'a>(
+        &'a self,
+        alloc: Global,
+        name: &'a str,
+        inherited: &'a Texts,
+    ) -> Result<Inherit<'a>, Fault>
+        ensures value { IfOk result (λ inherit. inherit ≡ scope_in self.now name.now inherited.now) }
+        ensures memory { IsOkUnless result memory_fault }
+    {
+        Inherit::new(alloc, &self.outline, &self.settings, name, inherited)
+    }
+}
+
+fn outline_of(alloc: Global, entries: Entries) -> Result<Outline, Fault>
+    ensures value { IfOk result (λ outline. outline ≡ entries) }
+    ensures memory { IsOkUnless result memory_fault }
+{
+    let mut outline = Outline::new(alloc);
+    match outline.replace(0..0, entries) {
+        Ok(()) => Ok(outline),
+        Err(_) => Err(Fault::Plain(Code::Memory)),
+    }
+}

@@ -1,0 +1,120 @@
+//! The sections of a text.
+ghost use Rattle.std.specs.Prelude.{◌≡◌, ◌+◌, ◌++◌, ◌≤◌, ℕ, map, length, IfOk, OnOk, OnErr, IsOkUnless};
+ghost use Rattle.std.specs.List.{All};
+ghost use Rattle.org_base.specs.Codes.{memory_fault};
+ghost use Rattle.org_class.specs.Classes.{setting_lines, text_classes};
+ghost use Rattle.org_class.specs.Sections.{bytes_in, sections};
+ghost use Rattle.org_class.specs.Ticks.{classified};
+ghost use Rattle.org_file.specs.Counts.{have_read};
+ghost use Rattle.org_file.specs.Outline.{file_entries, file_settings};
+
+use org_base::{Fault, Meter, Texts};
+use org_class::{Classes, SectionSpans, classify, push_setting_lines, sections};
+use org_entry::read_entry;
+use org_outline::Entries;
+use org_settings::Settings;
+use org_text::Text;
+use std::alloc::Global;
+use std::marker::Model;
+
+// The sections of a text, the classes of the lines of each, and the file's settings, wherever its setting lines stand.
+// Contracts see the text.
+#[derive(Drop)]
+pub(crate) struct Sections<'a, T: Text> {
+    text: &'a T,
+    spans: SectionSpans,
+    classes: Vec<Classes>,
+    settings: Settings,
+}
+
+impl<'a, T: Text> Model for Sections<'a, T> {
+    ghost use Rattle.std.specs.Prelude.{ℕ, List};
+    ghost use Rattle.org_file.specs.Classified.{AreSections};
+
+    ghost Value = { List ℕ };
+
+    ghost view = { λ s. T.content s.text.now };
+
+    ghost invariant = { λ s. AreSections (T.content s.text.now) s.spans s.classes.items s.settings };
+}
+
+impl<'a, T: Text> Sections<'a, T> {
+    // Classifies the sections of a text, each once as the meter counts. Want of memory is the only refusal; then some of the
+    // sections may have been counted.
+    pub(crate) fn of(
+        alloc: Global,
+        meter: &mut Meter,
+        text: &'a T,
+    ) -> Result<Sections<'a, T>, Fault>
+        ensures value { IfOk result (λ own. own ≡ T.content text.now) }
+        ensures counts { OnOk result (meter.new ≡ classified (length (sections (T.content text.now))) meter.old) }
+        ensures few { OnErr result ((n : ℕ) × (n ≤ length (sections (T.content text.now))) × (meter.new ≡ classified n meter.old)) }
+        ensures memory { IsOkUnless result memory_fault }
+    {
+        let spans = sections(alloc, text)?;
+        let mut lines = Texts::new(alloc);
+        let classes = classify_sections(alloc, meter, text, &spans, &mut lines)?;
+        let settings = Settings::of_lines(alloc, &lines)?;
+        Ok(Sections {
+            text,
+            spans,
+            classes,
+            settings,
+        })
+    }
+
+    // The entries of the sections, each read once as the meter counts. Want of memory is the only refusal; then some of the
+    // sections may have been counted.
+    pub(crate) fn entries(&self, alloc: Global, meter: &mut Meter) -> Result<Entries, Fault>
+        ensures value { IfOk result (λ entries. entries ≡ file_entries self.now) }
+        ensures counts { OnOk result (meter.new ≡ have_read (length (sections self.now)) meter.old) }
+        ensures few { OnErr result ((n : ℕ) × (n ≤ length (sections self.now)) × (meter.new ≡ have_read n meter.old)) }
+        ensures memory { IsOkUnless result memory_fault }
+    {
+        let mut entries = Entries::with_room(alloc, self.spans.count())?;
+        for (place, span) in self.spans.as_slice().iter().enumerate() {
+            let entry = read_entry(
+                alloc,
+                meter,
+                self.text,
+                *span,
+                &self.classes[place],
+                &self.settings,
+            )?;
+            entries.push(entry)?;
+        }
+        Ok(entries)
+    }
+
+    // The file's settings.
+    pub(crate) fn into_settings(self) -> Settings
+        ensures value { result ≡ file_settings self.entry }
+    {
+        self.settings
+    }
+}
+
+// The classes of the lines of each section. The setting lines go to the end of the texts.
+fn classify_sections<T: Text>(
+    alloc: Global,
+    meter: &mut Meter,
+    text: &T,
+    spans: &SectionSpans,
+    lines: &mut Texts,
+) -> Result<Vec<Classes>, Fault>
+    requires bytes { map (bytes_in (T.content text.now)) spans.now ≡ sections (T.content text.now) }
+    requires inside { All (λ s. s.at + s.len ≤ length (T.content text.now)) spans.now }
+    ensures value { IfOk result (λ classes. classes.items ≡ text_classes (T.content text.now)) }
+    ensures lines { OnOk result (lines.new ≡ lines.old ++ setting_lines (T.content text.now)) }
+    ensures counts { OnOk result (meter.new ≡ classified (length (sections (T.content text.now))) meter.old) }
+    ensures few { OnErr result ((n : ℕ) × (n ≤ length (sections (T.content text.now))) × (meter.new ≡ classified n meter.old)) }
+    ensures memory { IsOkUnless result memory_fault }
+{
+    let mut classes = Vec::with_capacity(alloc, spans.count())?;
+    for span in spans.as_slice() {
+        let own = classify(alloc, meter, text, *span)?;
+        push_setting_lines(alloc, lines, text, *span, &own)?;
+        classes.push(own)?;
+    }
+    Ok(classes)
+}

@@ -1,0 +1,11 @@
+//! The text of rows.
+//!
+//! A view's text is that of its rows, each with what its heading says in the outlines that the rows are over.
+#![tactic(auto)]
+
+mod column;
+mod head;
+mod list;
+
+pub use column::pad;
+pub use list::list_text;
