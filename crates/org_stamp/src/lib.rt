@@ -6,6 +6,7 @@
 #![tactic(auto)]
 
 mod inner;
+pub mod laws;
 mod line;
 mod mark;
 mod pair;

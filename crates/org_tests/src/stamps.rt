@@ -102,9 +102,17 @@ fn stamp_by_mistake() -> Option<&'static str> {
     None
 }
 
+// No day's name holds a line feed.
+fn feed_ends_a_name() -> bool {
+    read_stamp(b"<2024-02-28 a\nb>", 0).is_none()
+        && read_stamp(b"<2024-02-28 \n>", 0).is_none()
+        && read_stamp(b"[2024-02-28 a\n 9:00]", 0).is_none()
+}
+
 #[test]
 fn no_stamps(rt: HostRuntime) {
     assert_eq!(rt; stamp_by_mistake(), None);
+    assert!(rt; feed_ends_a_name());
 }
 
 // Lines with the places and lengths of their stamps.
