@@ -2,7 +2,7 @@
 //!
 //!     bench measure PROGRAM      the table: both programs in turn, the least of several runs
 //!     bench parts PROGRAM        parts of the engine on their own, by the program `org_measure`
-//!     bench plain                answers the commands `add`, `text` and `todo` of standard input
+//!     bench plain                answers the commands `add`, `text`, `todo` and some `match` of standard input
 //!     bench text BYTES           an Org file of that many bytes
 //!     bench cost FILE PROGRAM .. seconds and KiB of one run of a program over a file
 use std::collections::{HashMap, HashSet};
@@ -153,10 +153,10 @@ fn compare(program: &str, own: &str, stream: &str) -> io::Result<()> {
     Ok(())
 }
 
-fn write_stream(path: &str, text: &str, questions: usize) -> io::Result<()> {
+fn write_stream(path: &str, text: &str, question: &str, questions: usize) -> io::Result<()> {
     let mut file = File::create(path)?;
     write!(file, "add a.org {}\n{text}", text.len())?;
-    file.write_all("todo\n".repeat(questions).as_bytes())
+    file.write_all(format!("{question}\n").repeat(questions).as_bytes())
 }
 
 fn row(size: usize, what: &str, proved: Cost, plain: Cost) {
@@ -180,12 +180,12 @@ fn measure(program: &str, own: &str) -> io::Result<()> {
     let mut together = Vec::new();
     for size in SIZES {
         let text = text(size);
-        write_stream(&stream, &text, 0)?;
+        write_stream(&stream, &text, "todo", 0)?;
         let add = both(program, own, &stream)?;
-        write_stream(&stream, &text, 1)?;
+        write_stream(&stream, &text, "todo", 1)?;
         compare(program, own, &stream)?;
         let once = both(program, own, &stream)?;
-        write_stream(&stream, &text, QUESTIONS)?;
+        write_stream(&stream, &text, "todo", QUESTIONS)?;
         let often = both(program, own, &stream)?;
         let one = |often: Cost, add: Cost| Cost {
             seconds: (often.seconds - add.seconds) / QUESTIONS as f64,
@@ -219,11 +219,23 @@ fn measure(program: &str, own: &str) -> io::Result<()> {
     measure_text(program, own, &stream, "headings of one level", &headings_of_one_level())?;
     measure_text(program, own, &stream, "levels to 4,090 and back", &levels_up_and_down())?;
     measure_text(program, own, &stream, "headings of one tree", &one_tree())?;
+    let text = text(8 * MIB);
+    for question in ["match LEVEL>0", "match work", "match {^w}", "match Effort<2"] {
+        measure_question(program, own, &stream, question, &text, question)?;
+    }
+    let text = many_tags(100_000, 100_000);
+    for question in ["match x", "match {x}"] {
+        measure_question(program, own, &stream, &format!("{question}, many tags"), &text, question)?;
+    }
     std::fs::remove_dir_all(&folder)
 }
 
 fn measure_text(program: &str, own: &str, stream: &str, what: &str, text: &str) -> io::Result<()> {
-    write_stream(stream, text, 1)?;
+    measure_question(program, own, stream, what, text, "todo")
+}
+
+fn measure_question(program: &str, own: &str, stream: &str, what: &str, text: &str, question: &str) -> io::Result<()> {
+    write_stream(stream, text, question, 1)?;
     compare(program, own, stream)?;
     let (proved, plain) = both(program, own, stream)?;
     row(text.len(), what, proved, plain);
@@ -276,6 +288,12 @@ fn levels_up_and_down() -> String {
         out.push_str(&line);
     }
     out
+}
+
+// So many headings under one with so many tags.
+fn many_tags(headings: usize, tags: usize) -> String {
+    let tags: Vec<String> = (0..tags).map(|tag| format!("t{tag}")).collect();
+    format!("* TODO a :{}:\n{}", tags.join(":"), "** TODO b\n".repeat(headings))
 }
 
 // 8 MiB of ordinary headings, all under the first.
@@ -347,7 +365,11 @@ fn plain() -> io::Result<()> {
                 write!(output, "view {}\n{text}", text.len())?;
             }
             ["todo"] => {
-                let view = todo(&files);
+                let view = list(&files, Question::Open);
+                write!(output, "view {}\n{view}", view.len())?;
+            }
+            ["match", expression] => {
+                let view = list(&files, Question::of(expression));
                 write!(output, "view {}\n{view}", view.len())?;
             }
             _ => writeln!(output, "err 2 command")?,
@@ -356,39 +378,110 @@ fn plain() -> io::Result<()> {
     }
 }
 
-fn todo(files: &[(String, String)]) -> String {
+// Which headings a list shows: those of the TODO list, or those for which an expression of one term holds.
+#[derive(Clone, Copy)]
+enum Question<'a> {
+    Open,
+    Level,
+    Tag(&'a str),
+    TagFront(&'a str),
+    TagPart(&'a str),
+    Effort,
+}
+
+impl<'a> Question<'a> {
+    fn of(expression: &'a str) -> Question<'a> {
+        match expression.strip_prefix('{').and_then(|rest| rest.strip_suffix('}')) {
+            Some(pattern) => match pattern.strip_prefix('^') {
+                Some(front) => Question::TagFront(front),
+                None => Question::TagPart(pattern),
+            },
+            None if expression == "LEVEL>0" => Question::Level,
+            None if expression == "Effort<2" => Question::Effort,
+            None => Question::Tag(expression),
+        }
+    }
+
+    fn holds_of_tag(self, tag: &str) -> bool {
+        match self {
+            Question::Tag(wanted) => tag == wanted,
+            Question::TagFront(front) => tag.starts_with(front),
+            Question::TagPart(part) => tag.contains(part),
+            _ => false,
+        }
+    }
+}
+
+// A heading above others, whether it or one above it is hidden, and whether one of their tags is asked for.
+struct Above<'a> {
+    heading: Heading<'a>,
+    hides: bool,
+    is_tagged: bool,
+}
+
+fn list(files: &[(String, String)], question: Question) -> String {
     let mut rows: Vec<(u32, String)> = Vec::new();
     for (name, text) in files {
         let settings = settings(text);
         let category = settings.category.unwrap_or_else(|| stem(name));
         let label = format!("{category}:");
         let column = format!("  {label:<11} ");
-        let mut above: Vec<Heading> = Vec::new();
-        for heading in text.lines().filter_map(|line| heading(line, &settings)) {
-            while above.last().is_some_and(|ancestor| ancestor.level >= heading.level) {
+        let file_is_tagged = settings.file_tags.iter().any(|tag| question.holds_of_tag(tag));
+        let mut above: Vec<Above> = Vec::new();
+        let mut lines = text.lines().peekable();
+        while let Some(line) = lines.next() {
+            let Some(heading) = heading(line, &settings) else { continue };
+            while above.last().is_some_and(|ancestor| ancestor.heading.level >= heading.level) {
                 above.pop();
             }
-            above.push(heading);
-            rows.extend(row_of(&above, &settings, &column));
+            let hides = heading.hides || above.last().is_some_and(|ancestor| ancestor.hides);
+            let is_tagged = above.last().map_or(file_is_tagged, |ancestor| ancestor.is_tagged)
+                || heading.tags.iter().any(|tag| question.holds_of_tag(tag));
+            let is_shown = !hides
+                && match question {
+                    Question::Open => heading.keyword.is_some_and(|keyword| !settings.done[keyword]),
+                    Question::Level => heading.level > 0,
+                    Question::Effort => effort_below(&mut lines, 2.0),
+                    _ => is_tagged,
+                };
+            above.push(Above { heading, hides, is_tagged });
+            if is_shown {
+                rows.push(row_of(&above, &settings, &column));
+            }
         }
     }
     rows.sort_by_key(|row| row.0);
     rows.into_iter().map(|row| row.1).collect()
 }
 
-// The row of the last of these headings, each of which is an ancestor of those behind it; none where the list leaves it out.
-fn row_of(above: &[Heading], settings: &Settings, column: &str) -> Option<(u32, String)> {
-    let heading = above.last()?;
-    if heading.keyword.is_none_or(|keyword| settings.done[keyword]) || above.iter().any(|h| h.hides) {
-        return None;
+// Whether the effort of a heading, whose lines come next, is a smaller number; none counts as 0.
+fn effort_below<'a>(lines: &mut std::iter::Peekable<std::str::Lines<'a>>, most: f64) -> bool {
+    while lines.peek().is_some_and(|line| ["SCHEDULED:", "DEADLINE:", "CLOSED:"].iter().any(|word| line.starts_with(word))) {
+        lines.next();
     }
+    if lines.peek().is_none_or(|line| !line.trim().eq_ignore_ascii_case(":PROPERTIES:")) {
+        return 0.0 < most;
+    }
+    while let Some(line) = lines.next_if(|line| !line.trim().eq_ignore_ascii_case(":END:") && !is_heading(line)) {
+        if let Some(value) = line.trim().strip_prefix(":Effort:") {
+            let value = value.trim();
+            let end = value.find(|c: char| !c.is_ascii_digit() && c != '.').unwrap_or(value.len());
+            return value[..end].parse::<f64>().unwrap_or(0.0) < most;
+        }
+    }
+    0.0 < most
+}
+
+// The row of the last of these headings, each of which is an ancestor of those behind it.
+fn row_of(above: &[Above], settings: &Settings, column: &str) -> (u32, String) {
+    let heading = &above[above.len() - 1].heading;
     let mut seen = HashSet::new();
-    let named = settings.file_tags.iter().chain(above.iter().flat_map(|h| &h.tags));
+    let named = settings.file_tags.iter().chain(above.iter().flat_map(|ancestor| &ancestor.heading.tags));
     let tags: Vec<&str> = named.copied().filter(|tag| seen.insert(*tag)).collect();
     let shown = if tags.is_empty() { String::new() } else { format!(":{}:", tags.join(":")) };
     let parts = [heading.keyword.unwrap_or(""), heading.cookie, heading.title, &shown];
     let parts: Vec<&str> = parts.iter().copied().filter(|part| !part.is_empty()).collect();
-    Some((heading.priority, format!("{column}{}\n", parts.join(" "))))
+    (heading.priority, format!("{column}{}\n", parts.join(" ")))
 }
 
 // The last part of a file's name, without its extension.

@@ -1,7 +1,8 @@
 #!/bin/sh
-# Runs the worked streams of tests/rows over a program: NAME is standard input, NAME.args the arguments, one a line,
-# NAME.stdout what has to be written, NAME.status the exit status (0 where there is no such file), NAME.stderr what has
-# to stand on standard error (anything where there is no such file). Says which differ; the last line counts.
+# Runs the worked streams of tests/rows over a program: NAME is standard input, or NAME.make a script that writes it where
+# it is long; NAME.args the arguments, one a line, NAME.stdout what has to be written, NAME.status the exit status (0 where
+# there is no such file), NAME.stderr what has to stand on standard error (anything where there is no such file). Says
+# which differ; the last line counts.
 program=$(cd "$(dirname "$1")" && pwd)/$(basename "$1")
 if [ ! -x "$program" ]; then
     echo "rows: there is no program $1"
@@ -13,10 +14,16 @@ passed=0
 failed=0
 out=$(mktemp) || exit 2
 err=$(mktemp) || exit 2
-trap 'rm -f "$out" "$err"' EXIT
+made=$(mktemp) || exit 2
+trap 'rm -f "$out" "$err" "$made"' EXIT
 for expected in *.stdout; do
     name=${expected%.stdout}
-    if [ ! -f "$name" ] || [ ! -f "$name.args" ]; then
+    input=$name
+    if [ -f "$name.make" ]; then
+        sh "$name.make" > "$made"
+        input=$made
+    fi
+    if [ ! -f "$input" ] || [ ! -f "$name.args" ]; then
         echo "$name: its input or its arguments are missing"
         failed=$((failed + 1))
         continue
@@ -27,7 +34,7 @@ for expected in *.stdout; do
     done < "$name.args"
     status=0
     [ -f "$name.status" ] && status=$(cat "$name.status")
-    "$program" "$@" < "$name" > "$out" 2> "$err"
+    "$program" "$@" < "$input" > "$out" 2> "$err"
     got=$?
     if [ "$got" -ne "$status" ]; then
         echo "$name: status $got, wanted $status"
