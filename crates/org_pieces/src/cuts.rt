@@ -19,8 +19,7 @@ pub(crate) fn run_of(pieces: &Sequence<Piece>, at: usize) -> &[u8]
     if at >= pieces.size() as usize {
         return &[];
     }
-    let (i, before) = pieces.find(at as u32);
-    let piece = pieces.get(i);
+    let (piece, before) = pieces.item_at(at as u32);
     &piece.bytes()[at - before as usize..]
 }
 

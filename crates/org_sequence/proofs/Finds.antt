@@ -5,9 +5,9 @@ use Rattle.std.specs.List.{sum_by, count_by, position_or_len}
 use Rattle.std.proofs.lemmas.Bool.Decides.{nat_tests}
 use Rattle.std.proofs.Math.Nat.{zero-add}
 use Rattle.std.proofs.Math.Seq.{take-append-add, drop-append-add}
-use Rattle.std.proofs.lemmas.List.{drop-drop, drop-append-le, take-append-drop, nil_from_length}
+use Rattle.std.proofs.lemmas.List.{drop-drop, drop-append-le, get_or-append-add, take-append-drop, nil_from_length}
 use Rattle.std.proofs.lemmas.List.Sums.{sum_by-append, sum_by-cons, sum_by-take-drop}
-use Rattle.org_sequence.specs.Parts.{IsItemOf, IsFirstPassing}
+use Rattle.org_sequence.specs.Parts.{HoldsPlace, IsItemOf, IsFirstPassing}
 
 -- how many of a list pass a test, by its first item
 pub count_cons : {T : Type 0} (p : T → Bool) (x : T) (xs : List T) → count_by p (x ∷ xs) ≡ (if p x then 1 else 0) + count_by p xs
@@ -78,6 +78,14 @@ item_right f xs ls rs bs place k i before n s is b at size split item =
       begun = omega (arith, item.begun);
       ended = rw next (omega (arith, t (i + 1), item.ended));
     }
+
+-- the item that holds a place of the right side, wherever it stands
+pub holds_right : {T : Type 0} (f : T → ℕ) (xs ls rs bs : List T) (place k before s : ℕ) (x : T) → xs ≡ ls ++ rs → bs ≡ rs → s ≡ sum_by f ls → place ≡ s + k → HoldsPlace f bs k x before → HoldsPlace f xs place x (s + before)
+holds_right f xs ls rs bs place k before s x is b size split h = record {
+  index = length ls + h.index;
+  holds = item_right f xs ls rs bs place k h.index before (length ls) s is b refl size split h.holds;
+  item_is = h.item_is ∙ rw (is, b) (sym (get_or-append-add ls rs h.index x));
+}
 
 -- the items from a place of the right side on
 pub run_right : {T : Type 0} (xs ls rs bs ys : List T) (at k n : ℕ) → xs ≡ ls ++ rs → bs ≡ rs → at ≡ length ls + k → ys ≡ take n (drop k bs) → ys ≡ take n (drop at xs)

@@ -1,5 +1,5 @@
 -- Parts of a list of items.
-use Rattle.std.specs.Prelude.{◌≡◌, ℕ, Bool, ◌+◌, ◌<◌, ◌≤◌, List, [], length, take, drop, Option, Some, None}
+use Rattle.std.specs.Prelude.{◌≡◌, ℕ, Bool, ◌+◌, ◌<◌, ◌≤◌, List, [], length, take, drop, slice_index_or, Option, Some, None}
 use Rattle.std.specs.List.{sum_by, count_by, position_or_len}
 use Rattle.std.specs.declared.rc.Rc.{Rc}
 use Rattle.std.specs.Global.{Global}
@@ -16,6 +16,12 @@ module _ {T : Type 0} where
     pub before_is : before ≡ sum_by amount (take i items)
     pub begun : before ≤ place
     pub ended : place < sum_by amount (take (i + 1) items)
+
+  -- the item holds the place, wherever it stands
+  pub record HoldsPlace (amount : T → ℕ) (items : List T) (place : ℕ) (item : T) (before : ℕ) : Type 0 where
+    pub index : ℕ
+    pub holds : IsItemOf amount items place index before
+    pub item_is : item ≡ slice_index_or items index item
 
   -- the first item from a place on that passes, or none where none does
   abbrev pub IsFirstPassing : (T → Bool) → List T → ℕ → Option ℕ → Type 0

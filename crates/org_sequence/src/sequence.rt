@@ -2,7 +2,7 @@
 ghost use Rattle.std.specs.Prelude.{◌≡◌, ◌+◌, ◌^◌, ◌<◌, ◌≤◌, [], ◌∷◌, ◌++◌, length, take, drop};
 ghost use Rattle.std.specs.Prelude.{◌↔◌, slice_index_or, IsTrue, IfOk, OnOk, OnErr};
 ghost use Rattle.std.specs.List.{sum_by, count_by, splice};
-ghost use Rattle.org_sequence.specs.Parts.{items_of, IsItemOf, IsFirstPassing};
+ghost use Rattle.org_sequence.specs.Parts.{items_of, HoldsPlace, IsItemOf, IsFirstPassing};
 
 use crate::items::Items;
 use crate::join::{build, join_of};
@@ -137,6 +137,18 @@ impl<T: Measured> Sequence<T> {
         match &self.root {
             None => unreachable!(),
             Some(tree) => tree.find(Measure::Size, place),
+        }
+    }
+
+    /// The item that `find` names, lent, and the size of the items before it: in one search, where its place isn't
+    /// asked.
+    pub fn item_at(&self, place: u32) -> (&T, u32)
+        requires { place < sum_by T.size self.now }
+        ensures value { HoldsPlace T.size self.now place result.0.now result.1 }
+    {
+        match &self.root {
+            None => unreachable!(),
+            Some(tree) => tree.item_at(place),
         }
     }
 

@@ -1,7 +1,7 @@
 //! A balanced tree over leaves of items, seen as its items and its height.
 ghost use Rattle.std.specs.Prelude.{◌≡◌, ◌+◌, ◌^◌, ◌<◌, ◌≤◌, length, take, drop};
 ghost use Rattle.std.specs.List.{sum_by, count_by};
-ghost use Rattle.org_sequence.specs.Parts.{IsItemOf, IsFirstPassing};
+ghost use Rattle.org_sequence.specs.Parts.{HoldsPlace, IsItemOf, IsFirstPassing};
 ghost use Rattle.org_sequence.specs.Shape.{least};
 ghost use Rattle.org_sequence.specs.Sums.{AreSums, amount_in, bears};
 
@@ -134,6 +134,27 @@ impl<T: Measured> Tree<T> {
                     let (at, before) = right.find(measure, place - total);
                     (left.count() + at, total + before)
                 }
+            }
+        }
+    }
+
+    // The item that holds a place where sizes are counted, lent, and the size of the items before it.
+    pub(crate) fn item_at(&self, place: u32) -> (&T, u32)
+        requires { place < sum_by T.size self.now.0 }
+        ensures { HoldsPlace T.size self.now.0 place result.0.now result.1 }
+    {
+        match &self.node {
+            Node::Leaf(items, _) => {
+                let (at, before) = find_in(items, Measure::Size, place);
+                (&items[at as usize], before)
+            }
+            Node::Fork(left, right, _, _) => {
+                let size = left.sums().size;
+                if place < size {
+                    return left.item_at(place);
+                }
+                let (item, before) = right.item_at(place - size);
+                (item, size + before)
             }
         }
     }

@@ -150,6 +150,10 @@ fn has_places(sequence: &Sequence<Tally>, numbers: &[u32]) -> bool {
         if at >= sequence.len() || size >= sequence.size() || sequence.find(size) != (at, size) {
             return false;
         }
+        let (item, before) = sequence.item_at(size);
+        if item.0 != *n || before != size {
+            return false;
+        }
         if sequence.size_before(at) != size || sequence.lines_before(at) != lines {
             return false;
         }

@@ -11,12 +11,12 @@ returns-then-at-size-clause-run c = rw (run_len_past c.args.pieces.now c.args.at
 
 pub returns-clause-len : goal.returns-clause-len
 returns-clause-len c =
-    let k = c.args.at - c.find-i.result.1 in
+    let k = c.args.at - c.item_at-before.result.1 in
     let whole = take_all (length c.bytes.result.now - k) (drop k c.bytes.result.now) (omega (arith, length-drop k c.bytes.result.now)) in
-    (run_of_item c.args.pieces.now c.args.at c.find-i.result.0 c.find-i.result.1 c.get-piece.result.now _ c.find-i.ensures.value c.get-piece.ensures.value (whole ∙ ap (drop k) c.bytes.ensures.value)).0
+    (run_of_item c.args.pieces.now c.args.at c.item_at-before.ensures.value.index c.item_at-before.result.1 c.item_at-before.result.0.now _ c.item_at-before.ensures.value.holds c.item_at-before.ensures.value.item_is (whole ∙ ap (drop k) c.bytes.ensures.value)).0
 
 pub returns-clause-run : goal.returns-clause-run
 returns-clause-run c =
-    let k = c.args.at - c.find-i.result.1 in
+    let k = c.args.at - c.item_at-before.result.1 in
     let whole = take_all (length c.bytes.result.now - k) (drop k c.bytes.result.now) (omega (arith, length-drop k c.bytes.result.now)) in
-    (run_of_item c.args.pieces.now c.args.at c.find-i.result.0 c.find-i.result.1 c.get-piece.result.now _ c.find-i.ensures.value c.get-piece.ensures.value (whole ∙ ap (drop k) c.bytes.ensures.value)).1
+    (run_of_item c.args.pieces.now c.args.at c.item_at-before.ensures.value.index c.item_at-before.result.1 c.item_at-before.result.0.now _ c.item_at-before.ensures.value.holds c.item_at-before.ensures.value.item_is (whole ∙ ap (drop k) c.bytes.ensures.value)).1
