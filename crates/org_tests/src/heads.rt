@@ -111,8 +111,10 @@ fn has_parts_before_a_feed(
 // Each line is read with its line feed and without.
 fn is_row(alloc: Global, row: &str, settings: &Settings) -> Result<bool, Fault> {
     match row.split_once('=') {
-        Some((line, want)) => Ok(has_parts(alloc, line.as_bytes(), want, settings)?
-            && has_parts_before_a_feed(alloc, line, want, settings)?),
+        Some((line, want)) => Ok(
+            has_parts(alloc, line.as_bytes(), want, settings)?
+                && has_parts_before_a_feed(alloc, line, want, settings)?,
+        ),
         None => Ok(false),
     }
 }

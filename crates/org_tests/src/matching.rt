@@ -78,7 +78,12 @@ impl Facts for Heading<'_> {
     }
 }
 
-fn test(alloc: Global, expression: &Match, heading: &Heading<'_>, moment: Moment) -> Result<bool, Fault> {
+fn test(
+    alloc: Global,
+    expression: &Match,
+    heading: &Heading<'_>,
+    moment: Moment,
+) -> Result<bool, Fault> {
     expression.test(alloc, heading, moment)
 }
 
@@ -348,7 +353,12 @@ home 1h no
 work 2:00 yes
 boss 2:00 no";
 
-fn asks(alloc: Global, testing: &mut Testing<'_>, row: &'static str, moment: &Moment) -> Result<bool, Fault> {
+fn asks(
+    alloc: Global,
+    testing: &mut Testing<'_>,
+    row: &'static str,
+    moment: &Moment,
+) -> Result<bool, Fault> {
     let (tag, rest) = row.split_once(' ').unwrap_or(("", row));
     let (effort, want) = rest.split_once(' ').unwrap_or((rest, ""));
     let heading = Heading {
@@ -524,7 +534,10 @@ fn refusals(rt: HostRuntime) {
     assert_eq!(rt; wrong_refusal(rt.alloc()), None);
     assert_eq!(rt; refused_by_mistake(rt.alloc()), None);
     for text in ["{(}", "a={(}", "b|-{*}/!TODO"] {
-        assert_eq!(rt; refusal_of(rt.alloc(), text), Some(Fault::Plain(Code::Regexp)));
+        assert_eq!(rt;
+            refusal_of(rt.alloc(), text),
+            Some(Fault::Plain(Code::Regexp))
+        );
     }
 }
 

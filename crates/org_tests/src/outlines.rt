@@ -189,7 +189,9 @@ fn is_wanted(value: &Option<Bytes>, want: &str) -> bool {
     match value {
         None => want.is_empty(),
         Some(value) => {
-            let text = want.strip_prefix('[').and_then(|text| text.strip_suffix(']'));
+            let text = want
+                .strip_prefix('[')
+                .and_then(|text| text.strip_suffix(']'));
             text.map(|text| text.as_bytes()) == Some(value.as_slice())
         }
     }
@@ -207,7 +209,12 @@ fn value_is(inherit: &Inherit<'_>, place: usize, name: &str, want: &str) -> Resu
 fn is_value(inherit: &Inherit<'_>, row: &str) -> Result<bool, Fault> {
     let (place, rest) = row.split_once(' ').unwrap_or((row, ""));
     let (name, want) = rest.split_once('=').unwrap_or((rest, "none"));
-    value_is(inherit, place.parse::<usize>().unwrap_or(usize::MAX), name, want)
+    value_is(
+        inherit,
+        place.parse::<usize>().unwrap_or(usize::MAX),
+        name,
+        want,
+    )
 }
 
 fn wrong_value_of(

@@ -110,7 +110,14 @@ fn shows_in(
 
 fn shows(alloc: Global, stream: &str, step: usize, end: &str, want: &str) -> Result<bool, Fault> {
     let mut engine = new_engine(alloc)?;
-    Ok(shows_in(alloc, &mut engine, stream.as_bytes(), step, end, want.as_bytes()))
+    Ok(shows_in(
+        alloc,
+        &mut engine,
+        stream.as_bytes(),
+        step,
+        end,
+        want.as_bytes(),
+    ))
 }
 
 // Streams, how they end and what they show; a tilde stands between these, and a dollar sign between rows.
@@ -150,9 +157,11 @@ err 2 command
 fn is_stream(alloc: Global, row: &str) -> Result<bool, Fault> {
     let (stream, rest) = row.split_once('~').unwrap_or((row, ""));
     let (end, want) = rest.split_once('~').unwrap_or((rest, "none"));
-    Ok(shows(alloc, stream, 1, end, want)?
-        && shows(alloc, stream, 7, end, want)?
-        && shows(alloc, stream, 100_000, end, want)?)
+    Ok(
+        shows(alloc, stream, 1, end, want)?
+            && shows(alloc, stream, 7, end, want)?
+            && shows(alloc, stream, 100_000, end, want)?,
+    )
 }
 
 fn wrong_stream(alloc: Global) -> Result<Option<&'static str>, Fault> {
@@ -218,7 +227,14 @@ fn devices_that_fail(rt: HostRuntime) -> Result<(), Fail> {
 // Behind the last serial a change is refused.
 fn serials_end(alloc: Global) -> Result<bool, Fault> {
     let mut engine = spent_engine(alloc)?;
-    Ok(shows_in(alloc, &mut engine, b"add a.org 0\n", 100, "done", b"err 23 spent\n"))
+    Ok(shows_in(
+        alloc,
+        &mut engine,
+        b"add a.org 0\n",
+        100,
+        "done",
+        b"err 23 spent\n",
+    ))
 }
 
 // A fault that no command of these streams gives.
@@ -273,11 +289,13 @@ fn commands_of_an_input(rt: HostRuntime) -> Result<(), Fail> {
 fn counts_a_question(alloc: Global, engine: &mut Engine<Whole>) -> Result<bool, Fault> {
     engine.add("a.org", b"* TODO a\n* DONE b\n")?;
     let list = engine.query(View::Todo(&Texts::new(alloc)))?;
-    Ok(list.as_str() == "  a:          TODO a\n"
-        && engine.work() == Ok(false)
-        && engine.pending() == 0
-        && engine.meter().classified() == 2
-        && engine.meter().read() == 2)
+    Ok(
+        list.as_str() == "  a:          TODO a\n"
+            && engine.work() == Ok(false)
+            && engine.pending() == 0
+            && engine.meter().classified() == 2
+            && engine.meter().read() == 2,
+    )
 }
 
 fn engine_counts(alloc: Global) -> Result<bool, Fault> {

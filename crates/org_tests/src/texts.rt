@@ -148,7 +148,10 @@ fn has_lines<T: Text>(alloc: Global, text: &T) -> Result<bool, Fault> {
         return Ok(false);
     }
     let same = lines_of(alloc, text, whole)?.as_slice() == b"* a\n|\n|b\n|last|".as_slice();
-    Ok(same && starts_are(alloc, text, whole, &[0, 4, 5, 7])? && starts_are(alloc, text, part, &[2, 4])?)
+    Ok(
+        same && starts_are(alloc, text, whole, &[0, 4, 5, 7])?
+            && starts_are(alloc, text, part, &[2, 4])?,
+    )
 }
 
 fn whole_has_lines(alloc: Global) -> Result<bool, Fault> {
