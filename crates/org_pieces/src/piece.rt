@@ -8,7 +8,7 @@ use std::marker::Model;
 use std::rc::RcSlice;
 
 // Some bytes of a shared block, at least one.
-#[derive(Drop)]
+#[derive(Debug, Drop)]
 pub(crate) struct Piece {
     block: RcSlice<u8>,
     from: u32,

@@ -7,7 +7,7 @@ use crate::sequence::Sequence;
 use std::marker::Model;
 
 /// The items of a sequence that are left, seen as their list.
-#[derive(Drop)]
+#[derive(Debug, Drop)]
 pub struct Items<'a, T: Measured> {
     sequence: &'a Sequence<T>,
     // Items that lie together, and the place behind them.

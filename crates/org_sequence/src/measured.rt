@@ -42,14 +42,14 @@ pub trait Measured: Drop {
 }
 
 // One of the two measures of an item.
-#[derive(Clone, Copy)]
+#[derive(Clone, Copy, Debug)]
 pub(crate) enum Measure {
     Size,
     Lines,
 }
 
 // One of the two signs of an item.
-#[derive(Clone, Copy)]
+#[derive(Clone, Copy, Debug)]
 pub(crate) enum Sign {
     Mark,
     Flag,

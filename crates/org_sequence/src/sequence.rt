@@ -14,7 +14,7 @@ use std::alloc::{AllocError, Global};
 use std::marker::Model;
 
 /// Items in order, seen as the list of their values. Their sizes together are below 2^32.
-#[derive(Drop)]
+#[derive(Debug, Drop)]
 pub struct Sequence<T: Measured> {
     alloc: Global,
     root: Root<T>,

@@ -6,7 +6,7 @@ ghost use Rattle.org_sequence.specs.Sums.{AreCovered, AreSums, sums_together};
 use crate::measured::Measured;
 
 // How many items there are, their sizes and lines, and how many bear either sign.
-#[derive(Clone, Copy)]
+#[derive(Clone, Copy, Debug)]
 pub(crate) struct Sums {
     pub(crate) count: u32,
     pub(crate) size: u32,

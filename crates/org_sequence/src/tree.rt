@@ -15,13 +15,13 @@ use std::rc::Rc;
 pub(crate) const MAX_LEAF: usize = 32;
 
 #[cycle(tree)]
-#[derive(Drop)]
+#[derive(Debug, Drop)]
 pub(crate) struct Tree<T: Measured> {
     pub(crate) node: Node<T>,
 }
 
 #[cycle(tree)]
-#[derive(Drop)]
+#[derive(Debug, Drop)]
 pub(crate) enum Node<T: Measured> {
     // The items and their sums.
     Leaf(Vec<T>, Sums),

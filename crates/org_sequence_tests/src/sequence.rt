@@ -4,6 +4,7 @@ ghost use Rattle.std.specs.List.{sum_by};
 
 use org_sequence::{Measured, Sequence};
 use std::alloc::{AllocError, Global};
+use std::test::Fail;
 
 // A number as an item.
 #[derive(Drop)]
@@ -212,4 +213,63 @@ fn goes_with_a_list(alloc: Global, rounds: u32) -> bool {
 #[test]
 fn replaced_beside_a_list(rt: HostRuntime) {
     assert!(rt; goes_with_a_list(rt.alloc(), 400));
+}
+
+// The numbers from 0 up to a count.
+fn first_numbers(alloc: Global, count: u32) -> Result<Vec<u32>, AllocError> {
+    let mut numbers = Vec::new(alloc);
+    for n in 0..count {
+        numbers.push(n)?;
+    }
+    Ok(numbers)
+}
+
+fn sequence_of(alloc: Global, numbers: &[u32]) -> Result<Sequence<Tally>, AllocError> {
+    let items = tallies(alloc, numbers)?;
+    match total(&items) {
+        Some(_) => Sequence::of(alloc, &items),
+        None => Ok(Sequence::new(alloc)),
+    }
+}
+
+// Sets the first item, pushes one and appends another sequence, as far as there is room.
+fn puts(sequence: &mut Sequence<Tally>, other: &Sequence<Tally>) -> Result<(), AllocError> {
+    if !sequence.is_empty() && sequence.size() < 1_000_000 {
+        sequence.set(0, Tally(7))?;
+    }
+    if sequence.size() < 1_000_000 {
+        sequence.push(Tally(100))?;
+    }
+    if sequence.size() < 1_000_000 && other.size() < 1_000_000 {
+        sequence.append(other)?;
+    }
+    Ok(())
+}
+
+// The numbers from 0 to 99 with 7 in the place of the first, 100, and those from 0 to 99.
+fn is_put_together(sequence: &Sequence<Tally>) -> bool {
+    for at in 1..sequence.len() {
+        if sequence.get(at).0 != (if at < 101 { at } else { at - 101 }) {
+            return false;
+        }
+    }
+    sequence.len() == 201 && sequence.run_at(0)[0].0 == 7
+}
+
+fn shares_and_puts(alloc: Global, sequence: &mut Sequence<Tally>) -> Result<bool, AllocError> {
+    let shared = sequence.share()?;
+    puts(sequence, &shared)?;
+    Ok(is_put_together(sequence) && has_items(&shared, &first_numbers(alloc, 100)?))
+}
+
+fn goes_apart(alloc: Global) -> Result<bool, AllocError> {
+    let numbers = first_numbers(alloc, 100)?;
+    let mut sequence = sequence_of(alloc, &numbers)?;
+    shares_and_puts(alloc, &mut sequence)
+}
+
+#[test]
+fn put_together_apart_from_the_shared(rt: HostRuntime) -> Result<(), Fail> {
+    assert!(rt; goes_apart(rt.alloc())?);
+    Ok(())
 }
