@@ -6,7 +6,6 @@ use Rattle.org_base.specs.Codes.{memory_fault}
 use Rattle.org_base.specs.declared.fault.Fault.{Fault}
 use Rattle.org_inherit.specs.Scope.{Scope}
 use Rattle.org_layout.specs.Lines.{list_lines}
-use Rattle.org_match.specs.Patterns.{regexp_fault}
 use Rattle.org_match.specs.Refusal.{IsRefusal}
 use Rattle.std.specs.Prelude.{chars}
 use Rattle.org_engine.specs.Outlines.{scopes_of}

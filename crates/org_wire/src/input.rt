@@ -3,8 +3,8 @@ ghost use Rattle.std.specs.Prelude.{◌≡◌, [], ◌++◌, true, IfOk, IfSome,
 ghost use Rattle.org_base.specs.Codes.{memory_fault};
 
 use crate::command::{Command, Next};
-use crate::expression::Expression;
 use crate::counted::Counted;
+use crate::expression::Expression;
 use crate::line::LineBuffer;
 use crate::names::words_in;
 use crate::parse::{Parsed, parse_line};

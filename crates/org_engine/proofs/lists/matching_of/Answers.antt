@@ -1,7 +1,7 @@
 use Rattle.std.proofs.Common.{◌∙◌, ap, sym, subst}
 use Rattle.std.proofs.lemmas.Result.{IfOk-weaker}
 use Rattle.org_agenda.specs.Headings.{AllHaveHeads}
-use Rattle.org_agenda.specs.Lists.{Matching, list_rows, todo_listing}
+use Rattle.org_agenda.specs.Lists.{Matching, list_rows}
 use Rattle.org_engine.proofs.HeadLemmas.{have_heads}
 use Rattle.org_engine.proofs.ListLemmas.{view_is}
 use Rattle.org_engine.proofs.lists.matching_of.Goals as goal

@@ -1,8 +1,7 @@
-use Rattle.std.proofs.Common.{◌≡◌, ap, refl, subst, sym}
-use Rattle.std.specs.Prelude.{string_bytes}
+use Rattle.std.proofs.Common.{ap, refl, subst, sym}
 use Rattle.std.proofs.lemmas.Result.{IfErr-weaker, IfOk-weaker}
 use Rattle.org_engine.specs.Questions.{Asks}
-use Rattle.org_engine.specs.Step.{MatchList, Outcome, Question, Shown, TodoList, Unread}
+use Rattle.org_engine.specs.Step.{MatchList, Question, Shown, TodoList, Unread}
 use Rattle.org_engine.specs.World.{State}
 use Rattle.org_engine.specs.declared.question.View.{View}
 use Rattle.org_engine.proofs.engine.Engine.query.Goals as goal
