@@ -1,12 +1,11 @@
 -- Whether some tag of a heading passes a test: one of its own, or one of its parent's, or of the file where it has none.
-use Rattle.std.proofs.Common.{◌≡◌, ◌∙◌, ℕ, zero, suc, ◌+◌, ◌-◌, ◌<◌, ◌≤◌, Bool, true, false, ◌||◌, ◌++◌, Option, Some, None, List, [], ◌∷◌, length, fold, get_or, map, reverse, refl, sym, ap, ap₂, subst, inl, inr, arith, length-append}
+use Rattle.std.proofs.Common.{◌≡◌, ◌∙◌, ℕ, ◌+◌, ◌-◌, ◌<◌, Bool, true, false, ◌||◌, ◌++◌, Option, Some, None, List, [], ◌∷◌, length, fold, get_or, reverse, refl, sym, ap, ap₂, inl, inr, arith, length-append}
 use Rattle.std.specs.Prelude.{bytes_eq}
 use Rattle.std.specs.List.{list_any, flat_map}
 use Rattle.std.proofs.lemmas.Bool.{cases_Bool, cases_lt}
 use Rattle.std.proofs.lemmas.List.{reverse-append, get_or_append_left, get_or-append_right}
 use Rattle.std.proofs.lemmas.List.Folds.{list_any-append}
 use Rattle.std.proofs.lemmas.Slice.Eq.{bytes_eq-Decides}
-use Rattle.org_entry.specs.declared.entry.Entry.{Entry}
 use Rattle.org_expression.specs.Grammar.{Item}
 use Rattle.org_inherit.specs.Scope.{Scope}
 use Rattle.org_inherit.specs.Tags.{with_tag, own_tags_at, all_tags, lineage}

@@ -55,11 +55,7 @@ impl<'a> Model for Choice<'a> {
 
 impl<'a> Choice<'a> {
     // What has to be known of the tags of a file's headings.
-    pub(crate) fn known(
-        &mut self,
-        alloc: Global,
-        inherit: &Inherit<'_>,
-    ) -> Result<Verdicts, Fault>
+    pub(crate) fn known(&mut self, alloc: Global, inherit: &Inherit<'_>) -> Result<Verdicts, Fault>
         ensures value { IfOk result (λ known. AreKnown self.old inherit.now known) }
         ensures same { self.new ≡ self.old }
         ensures memory { IsOkUnless result memory_fault }

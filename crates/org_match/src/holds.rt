@@ -29,8 +29,8 @@ impl<'a> Model for Testing<'a> {
     ghost use Rattle.org_expression.specs.Grammar.{Expr};
     ghost use Rattle.org_match.specs.Holds.{tag_items};
     ghost use Rattle.std.specs.List.{list_any};
-ghost use Rattle.org_match.specs.Asked.{ask_tags, either, meets, tag_verdicts};
-ghost use Rattle.org_match.specs.Holds.{tag_items};
+    ghost use Rattle.org_match.specs.Asked.{ask_tags, either, meets, tag_verdicts};
+    ghost use Rattle.org_match.specs.Holds.{tag_items};
 
     ghost Value = { Expr };
 

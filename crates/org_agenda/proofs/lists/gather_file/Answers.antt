@@ -1,4 +1,4 @@
-use Rattle.std.proofs.Common.{◌≡◌, ◌∙◌, ◌<◌, ◌≤◌, ap, arith, length, refl}
+use Rattle.std.proofs.Common.{◌≡◌, ◌∙◌, ◌<◌, ◌≤◌, ap, arith, length}
 use Rattle.std.specs.Prelude.{Some, slice_get}
 use Rattle.org_agenda.specs.Gathered.{gathered}
 use Rattle.org_agenda.specs.Lists.{Listing, head_rows, rows_from}

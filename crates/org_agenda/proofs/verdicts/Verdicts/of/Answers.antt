@@ -1,6 +1,5 @@
-use Rattle.std.proofs.Common.{◌≡◌, ◌∙◌, ◌++◌, ◌∷◌, [], ap, arith, false, length, refl, sym}
+use Rattle.std.proofs.Common.{◌∙◌, ◌++◌, ◌∷◌, [], ap, arith, false, length}
 use Rattle.org_expression.specs.Grammar.{Expr}
-use Rattle.org_inherit.specs.Scope.{Scope}
 use Rattle.org_inherit.specs.Tags.{own_tags_at}
 use Rattle.org_match.specs.Asked.{ask_tags, either, tag_verdicts}
 use Rattle.org_match.specs.Holds.{tag_items}
