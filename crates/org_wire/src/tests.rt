@@ -139,7 +139,7 @@ fn refusals(rt: HostRuntime) -> Result<(), Fail> {
     assert_eq!(rt; end, End::Done);
     assert_eq!(rt;
         writer.into_inner().as_slice(),
-        b"err 2 command\nerr 2 command\nerr 2 command\nerr 3 long\nerr 4 unknown\nerr 2 command\nok 1\nerr 5 taken\nerr 6 utf8\n".as_slice()
+        b"err 2 command\nerr 2 command\nerr 2 command\nerr 3 long\nerr 4 unknown\nview 0\nok 1\nerr 5 taken\nerr 6 utf8\n".as_slice()
     );
     Ok(())
 }
