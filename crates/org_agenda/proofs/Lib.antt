@@ -1,3 +1,4 @@
 pub mod GatherLemmas
 pub mod ListLemmas
 pub mod OrderLemmas
+pub mod TagLemmas

@@ -2,5 +2,6 @@ pub mod Headings
 pub mod Order
 pub mod Lists
 pub mod Gathered
+pub mod Verdicts
 pub mod Chosen
 pub mod Laws

@@ -9,6 +9,7 @@ mod facts;
 pub mod laws;
 mod lists;
 mod row;
+mod verdicts;
 mod wanted;
 
 pub use facts::HeadingFacts;

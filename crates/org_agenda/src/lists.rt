@@ -4,6 +4,7 @@ ghost use Rattle.org_base.specs.Codes.{memory_fault};
 ghost use Rattle.org_agenda.specs.Gathered.{gathered};
 ghost use Rattle.org_agenda.specs.Headings.{AllHaveHeads, HaveHeads};
 ghost use Rattle.org_agenda.specs.Lists.{file_rows, head_rows, list_rows, row_at, rows_from, todo_listing, Matching};
+ghost use Rattle.org_agenda.specs.Verdicts.{AreKnown, IsKnown};
 ghost use Rattle.org_head.specs.Head.{head_of};
 ghost use Rattle.org_entry.specs.Entry.{heading_line};
 ghost use Rattle.org_entry.specs.declared.entry.Entry.{Entry as AnyEntry};
@@ -11,6 +12,7 @@ ghost use Rattle.org_entry.specs.declared.entry.Entry.{Entry as AnyEntry};
 use crate::buckets::Buckets;
 use crate::facts::HeadingFacts;
 use crate::row::{Row, RowKind};
+use crate::verdicts::Verdicts;
 use crate::wanted::{Choice, Question, Wanted};
 use org_base::{Fault, Texts};
 use org_cal::Moment;
@@ -112,8 +114,9 @@ fn gather_file(
     ensures same { choice.new ≡ choice.old }
     ensures memory { IsOkUnless result memory_fault }
 {
+    let known = choice.known(alloc, inherit)?;
     for place in 0..inherit.outline().count() {
-        gather_entry(alloc, buckets, choice, file, inherit, place)?;
+        gather_entry(alloc, buckets, choice, &known, file, inherit, place)?;
     }
     Ok(())
 }
@@ -123,10 +126,12 @@ fn gather_entry(
     alloc: Global,
     buckets: &mut Buckets,
     choice: &mut Choice<'_>,
+    known: &Verdicts,
     file: usize,
     inherit: &Inherit<'_>,
     place: usize,
 ) -> Result<(), Fault>
+    requires known { AreKnown choice.old inherit.now known.now }
     requires heads { HaveHeads inherit.now.settings inherit.now.entries }
     requires within { place < length inherit.now.entries }
     requires room { length buckets.old ≡ PRIORITIES }
@@ -138,7 +143,7 @@ fn gather_entry(
     match &entry.head {
         Some(head) => {
             let facts = HeadingFacts::new(inherit, place, entry, head);
-            gather_heading(alloc, buckets, choice, file, &facts)
+            gather_heading(alloc, buckets, choice, known.get(place), file, &facts)
         }
         None => Ok(()),
     }
@@ -149,16 +154,18 @@ fn gather_heading(
     alloc: Global,
     buckets: &mut Buckets,
     choice: &mut Choice<'_>,
+    known: &[bool],
     file: usize,
     facts: &HeadingFacts<'_, '_>,
 ) -> Result<(), Fault>
+    requires known { IsKnown choice.old facts.now.inherit.now facts.now.place known.now }
     requires head { facts.now.head.now ≡ head_of facts.now.inherit.now.settings (heading_line facts.now.entry.now) }
     requires room { length buckets.old ≡ PRIORITIES }
     ensures ok { OnOk result (buckets.new ≡ gathered buckets.old (head_rows choice.old facts.now.inherit.now file facts.now.place facts.now.entry.now (Some facts.now.head.now))) }
     ensures same { choice.new ≡ choice.old }
     ensures memory { IsOkUnless result memory_fault }
 {
-    if facts.inherit.hidden(facts.place) || !choice.shows(alloc, facts)? {
+    if facts.inherit.hidden(facts.place) || !choice.shows(alloc, facts, known)? {
         return Ok(());
     }
     let settings = facts.inherit.settings();

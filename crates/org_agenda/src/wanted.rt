@@ -5,10 +5,16 @@ ghost use Rattle.std.specs.Option.{option_map};
 ghost use Rattle.org_base.specs.Codes.{memory_fault};
 ghost use Rattle.org_agenda.specs.Headings.{has_open_keyword, heading_holds};
 ghost use Rattle.org_agenda.specs.Lists.{is_listed, is_named};
+ghost use Rattle.org_agenda.specs.Verdicts.{AreKnown, IsKnown};
+ghost use Rattle.org_inherit.specs.Tags.{all_tags};
+ghost use Rattle.org_match.specs.Asked.{tag_verdicts};
+ghost use Rattle.org_match.specs.Holds.{tag_items};
 
 use crate::facts::{HeadingFacts, is_finished};
+use crate::verdicts::Verdicts;
 use org_base::{Fault, Texts};
 use org_cal::Moment;
+use org_inherit::Inherit;
 use org_match::Testing;
 use org_settings::Settings;
 use std::alloc::Global;
@@ -48,12 +54,26 @@ impl<'a> Model for Choice<'a> {
 }
 
 impl<'a> Choice<'a> {
+    // What has to be known of the tags of a file's headings.
+    pub(crate) fn known(&mut self, alloc: Global, inherit: &Inherit<'_>) -> Result<Verdicts, Fault>
+        ensures value { IfOk result (λ known. AreKnown self.old inherit.now known) }
+        ensures same { self.new ≡ self.old }
+        ensures memory { IsOkUnless result memory_fault }
+    {
+        match &mut self.wanted {
+            Wanted::Open | Wanted::Named(_) => Ok(Verdicts::new(alloc, Vec::new(alloc))),
+            Wanted::Matching(question) => Verdicts::of(alloc, &mut question.testing, inherit),
+        }
+    }
+
     // Whether the list shows the heading, unless it is hidden.
     pub(crate) fn shows(
         &mut self,
         alloc: Global,
         facts: &HeadingFacts<'_, '_>,
+        known: &[bool],
     ) -> Result<bool, Fault>
+        requires known { IsKnown self.old facts.now.inherit.now facts.now.place known.now }
         ensures value { IfOk result (λ yes. yes ≡ is_listed self.old facts.now.inherit.now facts.now.place facts.now.entry.now facts.now.head.now) }
         ensures same { self.new ≡ self.old }
         ensures memory { IsOkUnless result memory_fault }
@@ -61,7 +81,7 @@ impl<'a> Choice<'a> {
         match &mut self.wanted {
             Wanted::Open => Ok(has_open_keyword(facts.inherit.settings(), facts.word())),
             Wanted::Named(words) => Ok(is_named(words, facts.word())),
-            Wanted::Matching(question) => matches(alloc, question, facts),
+            Wanted::Matching(question) => matches(alloc, question, facts, known),
         }
     }
 }
@@ -70,12 +90,16 @@ fn matches(
     alloc: Global,
     question: &mut Question<'_>,
     facts: &HeadingFacts<'_, '_>,
+    known: &[bool],
 ) -> Result<bool, Fault>
+    requires known { known.now ≡ tag_verdicts (all_tags facts.now.inherit.now facts.now.place) (tag_items question.old.testing) }
     ensures value { IfOk result (λ yes. yes ≡ heading_holds question.old.testing question.old.moment facts.now.inherit.now facts.now.place facts.now.entry.now facts.now.head.now) }
     ensures same { question.new ≡ question.old }
     ensures memory { IsOkUnless result memory_fault }
 {
-    question.testing.test(alloc, facts, &question.moment)
+    question
+        .testing
+        .test_with(alloc, facts, &question.moment, known)
 }
 
 fn has_open_keyword(settings: &Settings, keyword: Option<&[u8]>) -> bool

@@ -5,6 +5,7 @@
 
 mod column;
 mod head;
+pub mod laws;
 mod list;
 
 pub use column::pad;

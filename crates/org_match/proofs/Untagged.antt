@@ -1,28 +1,39 @@
--- Items that ask of no tag hold whatever the tags are.
-use Rattle.std.proofs.Common.{◌≡◌, ℕ, Bool, true, false, List, Option, refl, ap, sym, ◌∙◌}
-use Rattle.org_cal.specs.declared.moment.Moment.{Moment}
+-- The verdicts of items that ask of no tag are the same whatever the tags are.
+use Rattle.std.proofs.Common.{◌≡◌, ◌∙◌, ℕ, Bool, true, false, ◌||◌, List, [], ◌∷◌, refl, ap, ap₂, sym}
+use Rattle.std.specs.List.{list_any}
 use Rattle.org_expression.specs.Grammar.{Term, Tag, Found, Compare, Item, item}
-use Rattle.org_match.specs.Asked.{asks_tags, ask_tags, item_asks_tags}
-use Rattle.org_match.specs.Holds.{signed, item_holds, items_hold, tag_term_holds}
-use Rattle.org_match.proofs.Parts.{left_all, same_left}
+use Rattle.org_match.specs.Asked.{ask_tags, asks_tags, either, item_asks_tags, meets, tag_verdicts, term_meets}
 
-module _ (s t : List (List ℕ)) (value : List ℕ → Option (List ℕ)) (moment : Moment) where
-  same_term : (x : Term) → asks_tags x ≡ false → tag_term_holds s value moment x ≡ tag_term_holds t value moment x
-  same_term (Tag name) none = absurd cc
-  same_term (Found pattern) none = absurd cc
-  same_term (Compare name op v) none = refl
+or_left : (a b : Bool) → (a || b) ≡ false → a ≡ false
+or_left true b e = e
+or_left false b e = refl
 
-  same_item : (i : Item) → item_asks_tags i ≡ false → item_holds (tag_term_holds s value moment) i ≡ item_holds (tag_term_holds t value moment) i
-  same_item (item link sign term) none = ap (signed sign) (same_term term none)
+or_right : (a b : Bool) → (a || b) ≡ false → b ≡ false
+or_right true b e = absurd cc
+or_right false b e = e
 
-  same_items : (is : List Item) → ask_tags is ≡ false → items_hold (tag_term_holds s value moment) is ≡ items_hold (tag_term_holds t value moment) is
-  same_items is none =
-      sym (left_all (tag_term_holds s value moment) is)
-      ∙ same_left (item_holds (tag_term_holds s value moment)) (item_holds (tag_term_holds t value moment)) item_asks_tags same_item true is none
-      ∙ left_all (tag_term_holds t value moment) is
+none_met : (tags : List (List ℕ)) (term : Term) → asks_tags term ≡ false → list_any (term_meets term) tags ≡ false
+none_met [] term none = refl
+none_met (t ∷ ts) (Tag name) none = absurd cc
+none_met (t ∷ ts) (Found pattern) none = absurd cc
+none_met (t ∷ ts) (Compare name op v) none = none_met ts (Compare name op v) none
 
-  -- the tags need be right only where they are asked for
-  pub items_alike : (asked : Bool) (is : List Item) → asked ≡ ask_tags is → (asked ≡ true → s ≡ t) →
-      items_hold (tag_term_holds s value moment) is ≡ items_hold (tag_term_holds t value moment) is
-  items_alike true is so same = ap (λ tags. items_hold (tag_term_holds tags value moment) is) (same refl)
-  items_alike false is so same = same_items is (sym so)
+-- no tag is what an item asks for that asks of none
+pub unmet : (tags : List (List ℕ)) (i : Item) → item_asks_tags i ≡ false → list_any (meets i) tags ≡ false
+unmet tags (item link sign term) none = none_met tags term none
+
+same_one : (s t : List (List ℕ)) (i : Item) → item_asks_tags i ≡ false → list_any (meets i) s ≡ list_any (meets i) t
+same_one s t (item link sign term) none = none_met s term none ∙ sym (none_met t term none)
+
+same_all : (s t : List (List ℕ)) (is : List Item) → ask_tags is ≡ false → tag_verdicts s is ≡ tag_verdicts t is
+same_all s t [] none = refl
+same_all s t (i ∷ is) none = ap₂ (λ v vs. v ∷ vs) (same_one s t i (or_left (item_asks_tags i) (ask_tags is) none)) (same_all s t is (or_right (item_asks_tags i) (ask_tags is) none))
+
+pub either_none : (vs : List Bool) → either [] vs ≡ vs
+either_none [] = refl
+either_none (v ∷ vs) = ap (λ ws. v ∷ ws) (either_none vs)
+
+-- the tags need be right only where they are asked for
+pub verdicts_alike : (s t : List (List ℕ)) (asked : Bool) (is : List Item) → asked ≡ ask_tags is → (asked ≡ true → s ≡ t) → tag_verdicts s is ≡ tag_verdicts t is
+verdicts_alike s t true is so same = ap (λ tags. tag_verdicts tags is) (same refl)
+verdicts_alike s t false is so same = same_all s t is (sym so)

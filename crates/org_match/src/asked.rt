@@ -2,6 +2,7 @@
 ghost use Rattle.std.specs.Prelude.{◌≡◌, IfOk, IsOkUnless, bytes_eq};
 ghost use Rattle.std.specs.List.{list_any};
 ghost use Rattle.org_base.specs.Codes.{memory_fault};
+ghost use Rattle.org_match.specs.Asked.{meets};
 ghost use Rattle.org_match.specs.Built.{built_item_of};
 ghost use Rattle.org_match.specs.Holds as spec;
 ghost use Rattle.org_match.specs.Patterns.{found};
@@ -58,27 +59,39 @@ impl<'a> Asked<'a> {
         self.item.link == Link::Or
     }
 
-    /// Whether the term holds of a heading with these tags, or doesn't behind a minus. A missing property counts as an
-    /// empty text. Want of memory is its only refusal.
-    pub fn holds<F: Facts>(
-        &mut self,
-        alloc: Global,
-        facts: &F,
-        tags: &Texts,
-        moment: Moment,
-    ) -> Result<bool, Fault>
-        ensures value { IfOk result (λ yes. yes ≡ spec.item_holds (spec.tag_term_holds tags.now (F.value facts.now) moment) self.old) }
+    /// Whether one of the tags is what the term asks for. A comparison asks for none.
+    pub fn meets_one(&mut self, tags: &Texts) -> bool
+        ensures value { result ≡ list_any (meets self.old) tags.now }
         ensures same { self.new ≡ self.old }
-        ensures memory { IsOkUnless result memory_fault }
     {
-        let item = self.item;
-        let holds = match &item.term {
+        match &self.item.term {
             BuiltTerm::Tag(name) => has_tag(tags, name.as_str().as_bytes()),
             BuiltTerm::Found(_) => match &mut self.searcher {
                 Some(searcher) => finds_tag(tags, searcher),
                 // A pattern has a searcher, so this is never reached.
                 None => false,
             },
+            BuiltTerm::Compare(_, _, _) => false,
+        }
+    }
+
+    /// Whether the term holds of a heading, or doesn't behind a minus, where it is known whether one of its tags is what
+    /// the term asks for. A missing property counts as an empty text. Want of memory is its only refusal.
+    pub fn holds<F: Facts>(
+        &mut self,
+        alloc: Global,
+        facts: &F,
+        is_met: bool,
+        moment: Moment,
+    ) -> Result<bool, Fault>
+        requires met { is_met ≡ list_any (meets self.old) (F.tags facts.now) }
+        ensures value { IfOk result (λ yes. yes ≡ spec.item_holds (spec.tag_term_holds (F.tags facts.now) (F.value facts.now) moment) self.old) }
+        ensures same { self.new ≡ self.old }
+        ensures memory { IsOkUnless result memory_fault }
+    {
+        let item = self.item;
+        let holds = match &item.term {
+            BuiltTerm::Tag(_) | BuiltTerm::Found(_) => is_met,
             BuiltTerm::Compare(name, op, value) => match facts.value(
                 alloc,
                 name.as_str().as_bytes(),

@@ -2,7 +2,9 @@
 ghost use Rattle.std.specs.Prelude.{◌≡◌, ◌&&◌, true, IfOk, IsOkUnless, map};
 ghost use Rattle.org_base.specs.Codes.{memory_fault};
 ghost use Rattle.org_match.specs.Holds as spec;
-ghost use Rattle.org_match.specs.Asked.{ask_tags};
+ghost use Rattle.std.specs.List.{list_any};
+ghost use Rattle.org_match.specs.Asked.{ask_tags, either, meets, tag_verdicts};
+ghost use Rattle.org_match.specs.Holds.{tag_items};
 ghost use Rattle.org_match.specs.Built.{built_item_of, built_term_of};
 
 use crate::asked::{Asked, signed};
@@ -11,7 +13,7 @@ use crate::facts::Facts;
 use org_base::{Fault, Texts};
 use org_cal::Moment;
 use org_expression::{Kind, Link};
-use std::alloc::Global;
+use std::alloc::{AllocError, Global};
 use std::marker::Model;
 
 /// An expression with what searches for its patterns, made once to be asked of many headings.
@@ -26,7 +28,9 @@ impl<'a> Model for Testing<'a> {
     ghost use Rattle.std.specs.Prelude.{◌≡◌};
     ghost use Rattle.org_expression.specs.Grammar.{Expr};
     ghost use Rattle.org_match.specs.Holds.{tag_items};
-    ghost use Rattle.org_match.specs.Asked.{ask_tags};
+    ghost use Rattle.std.specs.List.{list_any};
+    ghost use Rattle.org_match.specs.Asked.{ask_tags, either, meets, tag_verdicts};
+    ghost use Rattle.org_match.specs.Holds.{tag_items};
 
     ghost Value = { Expr };
 
@@ -53,6 +57,27 @@ impl<'a> Testing<'a> {
         })
     }
 
+    /// Whether the expression asks of a heading's tags.
+    pub fn asks_tags(&self) -> bool
+        ensures value { result ≡ ask_tags (tag_items self.now) }
+    {
+        self.asks_tags
+    }
+
+    /// For each term before the slash whether one of the tags is what it asks for, or the verdict before says so; there may
+    /// be no verdicts before. So the verdicts of a heading are those of its own tags and those of its parent.
+    pub fn verdicts(
+        &mut self,
+        alloc: Global,
+        before: &[bool],
+        tags: &Texts,
+    ) -> Result<Vec<bool>, AllocError>
+        ensures value { IfOk result (λ verdicts. verdicts.items ≡ either before.now (tag_verdicts tags.now (tag_items self.old))) }
+        ensures same { self.new ≡ self.old }
+    {
+        verdicts_of(alloc, before, tags, self.asked.as_mut_slice())
+    }
+
     /// Whether the expression holds of a heading at a moment, as [`Match::test`]. Want of memory is its only refusal, and
     /// leaves the expression as it was.
     pub fn test<F: Facts>(
@@ -65,6 +90,24 @@ impl<'a> Testing<'a> {
         ensures memory { IsOkUnless result memory_fault }
         ensures same { self.new ≡ self.old }
     {
+        let tags = tags_if(alloc, facts, self.asks_tags)?;
+        let verdicts = self.verdicts(alloc, &[], &tags)?;
+        self.test_with(alloc, facts, moment, verdicts.as_slice())
+    }
+
+    /// The same, where the verdicts of all tags of the heading are known. The heading's tags aren't asked for.
+    pub fn test_with<F: Facts>(
+        &mut self,
+        alloc: Global,
+        facts: &F,
+        moment: &Moment,
+        verdicts: &[bool],
+    ) -> Result<bool, Fault>
+        requires known { verdicts.now ≡ tag_verdicts (F.tags facts.now) (tag_items self.old) }
+        ensures value { IfOk result (λ yes. yes ≡ spec.holds (F.tags facts.now) (F.value facts.now) (F.keyword facts.now) (F.finished facts.now) moment.now self.old) }
+        ensures memory { IsOkUnless result memory_fault }
+        ensures same { self.new ≡ self.old }
+    {
         let expression = self.expression;
         let is_open = facts.keyword().is_some() && !facts.is_finished();
         if expression.kind == Kind::Open && !is_open {
@@ -73,13 +116,7 @@ impl<'a> Testing<'a> {
         if expression.kind != Kind::Tags && !todo_holds(facts, expression.todo.as_slice()) {
             return Ok(false);
         }
-        by_tags(
-            alloc,
-            facts,
-            moment,
-            self.asks_tags,
-            self.asked.as_mut_slice(),
-        )
+        tags_hold(alloc, facts, moment, verdicts, self.asked.as_mut_slice())
     }
 }
 
@@ -119,21 +156,22 @@ fn ask_tags(items: &[BuiltItem]) -> bool
     false
 }
 
-/// Whether all terms of some part between bars hold. The heading's tags are made once, and only where a term asks of them.
-fn by_tags<F: Facts>(
+/// The verdicts of items on tags, each together with the one before it where there is one.
+fn verdicts_of(
     alloc: Global,
-    facts: &F,
-    moment: &Moment,
-    asks_tags: bool,
+    before: &[bool],
+    tags: &Texts,
     items: &mut [Asked<'_>],
-) -> Result<bool, Fault>
-    requires asked { asks_tags ≡ ask_tags items.old }
-    ensures value { IfOk result (λ yes. yes ≡ spec.items_hold (spec.tag_term_holds (F.tags facts.now) (F.value facts.now) moment.now) items.old) }
-    ensures memory { IsOkUnless result memory_fault }
+) -> Result<Vec<bool>, AllocError>
+    ensures value { IfOk result (λ verdicts. verdicts.items ≡ either before.now (tag_verdicts tags.now items.old)) }
     ensures same { items.new ≡ items.old }
 {
-    let tags = tags_if(alloc, facts, asks_tags)?;
-    tags_hold(alloc, facts, &tags, moment, items)
+    let mut verdicts = Vec::with_capacity(alloc, items.len())?;
+    for (place, item) in items.iter_mut().enumerate() {
+        let is_met = (place < before.len() && before[place]) || item.meets_one(tags);
+        verdicts.push(is_met)?;
+    }
+    Ok(verdicts)
 }
 
 /// The tags of a heading, if they are asked for.
@@ -152,23 +190,24 @@ fn tags_if<F: Facts>(alloc: Global, facts: &F, asked: bool) -> Result<Texts, Fau
 fn tags_hold<F: Facts>(
     alloc: Global,
     facts: &F,
-    tags: &Texts,
     moment: &Moment,
+    verdicts: &[bool],
     items: &mut [Asked<'_>],
 ) -> Result<bool, Fault>
-    ensures value { IfOk result (λ yes. yes ≡ spec.items_hold (spec.tag_term_holds tags.now (F.value facts.now) moment.now) items.old) }
+    requires known { verdicts.now ≡ tag_verdicts (F.tags facts.now) items.old }
+    ensures value { IfOk result (λ yes. yes ≡ spec.items_hold (spec.tag_term_holds (F.tags facts.now) (F.value facts.now) moment.now) items.old) }
     ensures memory { IsOkUnless result memory_fault }
     ensures same { items.new ≡ items.old }
 {
     let mut all = true;
-    for item in items.iter_mut() {
+    for (place, item) in items.iter_mut().enumerate() {
         if item.begins_part() {
             if all {
                 return Ok(true);
             }
             all = true;
         }
-        all = holds_too(alloc, facts, tags, moment, all, item)?;
+        all = holds_too(alloc, facts, verdicts[place], moment, all, item)?;
     }
     Ok(all)
 }
@@ -177,19 +216,20 @@ fn tags_hold<F: Facts>(
 fn holds_too<F: Facts>(
     alloc: Global,
     facts: &F,
-    tags: &Texts,
+    is_met: bool,
     moment: &Moment,
     all: bool,
     item: &mut Asked<'_>,
 ) -> Result<bool, Fault>
-    ensures value { IfOk result (λ yes. yes ≡ (all && spec.item_holds (spec.tag_term_holds tags.now (F.value facts.now) moment.now) item.old)) }
+    requires met { is_met ≡ list_any (meets item.old) (F.tags facts.now) }
+    ensures value { IfOk result (λ yes. yes ≡ (all && spec.item_holds (spec.tag_term_holds (F.tags facts.now) (F.value facts.now) moment.now) item.old)) }
     ensures memory { IsOkUnless result memory_fault }
     ensures same { item.new ≡ item.old }
 {
     if !all {
         return Ok(false);
     }
-    item.holds(alloc, facts, tags, *moment)
+    item.holds(alloc, facts, is_met, *moment)
 }
 
 /// Whether all keywords of some part between bars are the heading's, or aren't behind a minus.

@@ -1,6 +1,5 @@
 -- The engine's answers, as those that a command wants.
-use Rattle.std.proofs.Common.{◌≡◌, ◌≢◌, ◌∙◌, ap, sym}
-use Rattle.org_base.specs.Codes.{memory_fault}
+use Rattle.std.proofs.Common.{◌≡◌, ◌∙◌, ap, sym}
 use Rattle.org_base.specs.declared.fault.Fault.{Fault}
 use Rattle.org_engine.specs.Questions.{Asks}
 use Rattle.org_engine.specs.Step as step

@@ -1,13 +1,20 @@
-use Rattle.std.proofs.Common.{◌≡◌, ◌∙◌, ◌<◌, ◌≤◌, ap, arith, length, refl}
+use Rattle.std.proofs.Common.{◌≡◌, ◌∙◌, ◌<◌, ◌≤◌, ap, arith, length}
 use Rattle.std.specs.Prelude.{Some, slice_get}
-use Rattle.org_agenda.specs.Lists.{head_rows}
+use Rattle.org_agenda.specs.Gathered.{gathered}
+use Rattle.org_agenda.specs.Lists.{Listing, head_rows, rows_from}
 use Rattle.org_agenda.proofs.GatherLemmas.{length-gathered}
 use Rattle.org_agenda.proofs.ListLemmas.{entry_more, entries_whole, there_is}
 use Rattle.org_entry.specs.declared.entry.Entry.{Entry}
 use Rattle.org_agenda.proofs.lists.gather_file.Goals as goal
 
 pub loop-place-init : goal.loop-place-init
-loop-place-init c = record { rows = refl; room = c.requires.room; same = refl }
+loop-place-init c =
+    let same = c.in_ok-known.ensures.same in
+    record {
+      rows = ap (λ (l : Listing). gathered c.args.buckets.now (rows_from l c.args.inherit.now c.args.file 0 c.args.inherit.now.entries)) same;
+      room = c.requires.room;
+      same = same;
+    }
 
 pub loop-place-preserved : goal.loop-place-preserved
 loop-place-preserved c =
