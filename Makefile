@@ -41,9 +41,9 @@ changed:
 test:
 	@sh tests/gate.sh
 
-# The worked streams alone, over the program as it was last built.
-rows: $(PROGRAM)
-	@sh tests/rows.sh $(PROGRAM)
+# The worked streams alone, over the programs as they were last built.
+rows: $(PROGRAM) $(PARTS)
+	@sh tests/rows.sh $(PROGRAM) $(PARTS)
 
 bench: $(PROGRAM) $(PARTS)
 	@sh bench/run.sh $(PROGRAM) $(PARTS)

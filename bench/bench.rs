@@ -4,7 +4,12 @@
 //!     bench parts PROGRAM        parts of the engine on their own, by the program `org_measure`
 //!     bench plain                answers the commands `add`, `text`, `todo` and some `match` of standard input
 //!     bench text BYTES           an Org file of that many bytes
+//!     bench KIND PLACE COUNT     the lines of the text of standard input after so many edits: KIND is `vector` or `rope`
+//!     bench list ITEMS COUNT     how many items a tree of so many has after so many of them were replaced
 //!     bench cost FILE PROGRAM .. seconds and KiB of one run of a program over a file
+mod rope;
+
+use rope::Rope;
 use std::collections::{HashMap, HashSet};
 use std::fs::File;
 use std::io::{self, BufRead, BufReader, Read, Write};
@@ -25,6 +30,11 @@ fn main() -> io::Result<()> {
         Some("plain") => plain(),
         Some("text") => io::stdout().write_all(text(args[2].parse().unwrap()).as_bytes()),
         Some("cost") => print_cost(&args[2], &args[3..]),
+        Some("list") => {
+            println!("{}", rope::size_after(args[2].parse().unwrap(), args[3].parse().unwrap()));
+            Ok(())
+        }
+        Some(kind @ ("vector" | "rope")) => edits(kind, &args[2], args[3].parse().unwrap()),
         _ => panic!("bench measure PROGRAM | parts PROGRAM | plain | text BYTES | cost FILE PROGRAM .."),
     }
 }
@@ -336,7 +346,69 @@ fn parts(program: &str, own: &str) -> io::Result<()> {
             near.seconds, far.seconds
         );
     }
+    edit_parts(program, own, &path)?;
     std::fs::remove_file(&path)
+}
+
+// Edits of one byte and their lines, in both kinds of text and in plain Rust; then lists. The least of several runs, with
+// that of a run without edits taken off.
+fn edit_parts(program: &str, own: &str, path: &str) -> io::Result<()> {
+    const EDITS: u64 = 20_000;
+    let count = EDITS.to_string();
+    println!("{EDITS} edits of one byte, each in microseconds, and the peak memory; then the lines of what came out, in seconds");
+    for bytes in [80_000, 800_000, 8_000_000] {
+        std::fs::write(path, text(bytes))?;
+        for place in ["typed", "random"] {
+            print!("{:>6} KB {place:<7}", bytes / 1000);
+            for (name, command, kind) in
+                [("pieces", program, "pieces"), ("whole", program, "whole"), ("vector", own, "vector"), ("rope", own, "rope")]
+            {
+                let none = part(own, command, &[kind, place, "0"], path)?;
+                let all = part(own, command, &[kind, place, &count], path)?;
+                let each = (all.seconds - none.seconds) / EDITS as f64 * 1e6;
+                print!("   {name} {each:>8.3} {:>5.1} MiB {:>7.4} s", all.kib as f64 / 1024.0, none.seconds);
+            }
+            println!();
+        }
+    }
+    std::fs::write(path, "")?;
+    for items in ["65000", "1300000"] {
+        for (name, command, kind) in [("sequence", program, "sequence"), ("tree of Rc", own, "list")] {
+            let none = part(own, command, &[kind, items, "0"], path)?;
+            let all = part(own, command, &[kind, items, &count], path)?;
+            let each = (all.seconds - none.seconds) / EDITS as f64 * 1e6;
+            let room = none.kib as f64 * 1024.0 / items.parse::<f64>().unwrap();
+            println!("{items:>8} items, {name:<10} made in {:.4} s, {room:.0} bytes an item, one replaced in {each:.3} microseconds", none.seconds);
+        }
+    }
+    Ok(())
+}
+
+// The lines of the text of standard input after so many edits, each of which puts one byte in.
+fn edits(kind: &str, place: &str, count: u64) -> io::Result<()> {
+    let mut text = Vec::new();
+    io::stdin().read_to_end(&mut text)?;
+    let middle = text.len() / 2;
+    let mut seed = 1;
+    let mut at = |edit: u64, len: usize| {
+        let random = rope::next(&mut seed) as usize;
+        if place == "typed" { middle + edit as usize } else { random % (len + 1) }
+    };
+    let lines = if kind == "rope" {
+        let mut rope = Rope::of(&text);
+        for edit in 0..count {
+            rope.insert(at(edit, rope.len()), b"x");
+        }
+        rope.lines()
+    } else {
+        for edit in 0..count {
+            let place = at(edit, text.len());
+            text.splice(place..place, *b"x");
+        }
+        text.split_inclusive(|byte| *byte == b'\n').count()
+    };
+    println!("{lines}");
+    Ok(())
 }
 
 // The same work in plain Rust: files in a list, everything read anew at each question.

@@ -20,8 +20,8 @@ if [ "$ci" -ne 0 ] && [ "$failed" -eq 0 ]; then
     failed=1
 fi
 
-echo "gate: the worked streams over the program that was just built"
-sh tests/rows.sh crates/orgviews/out/orgviews > "$work/rows"
+echo "gate: the worked streams over the program that was just built, and over texts in one string"
+sh tests/rows.sh crates/orgviews/out/orgviews crates/org_measure/out/org_measure > "$work/rows"
 rows=$?
 cat "$work/rows"
 row_passed=$(sed -n 's/^rows: \([0-9]*\) passed.*/\1/p' "$work/rows")

@@ -1,5 +1,6 @@
 #!/bin/sh
-# Runs the worked streams of tests/rows over a program: NAME is standard input, or NAME.make a script that writes it where
+# Runs the worked streams of tests/rows over a program, and over a second one, where it is named, those that name nothing
+# but a moment: that keeps each text in one string, as the first keeps it in pieces. NAME is standard input, or NAME.make a script that writes it where
 # it is long; NAME.args the arguments, one a line, NAME.stdout what has to be written, NAME.status the exit status (0 where
 # there is no such file), NAME.stderr what has to stand on standard error (anything where there is no such file). Says
 # which differ; the last line counts.
@@ -8,6 +9,15 @@ if [ ! -x "$program" ]; then
     echo "rows: there is no program $1"
     echo "rows: 0 passed, 1 failed"
     exit 1
+fi
+strings=""
+if [ -n "$2" ]; then
+    strings=$(cd "$(dirname "$2")" && pwd)/$(basename "$2")
+    if [ ! -x "$strings" ]; then
+        echo "rows: there is no program $2"
+        echo "rows: 0 passed, 1 failed"
+        exit 1
+    fi
 fi
 cd "$(dirname "$0")/rows" || exit 2
 passed=0
@@ -49,6 +59,17 @@ for expected in *.stdout; do
         failed=$((failed + 1))
     else
         passed=$((passed + 1))
+    fi
+    if [ -z "$strings" ] || [ "$#" -ne 2 ] || [ "$1" != --at ] || [ "$status" -eq 2 ]; then
+        continue
+    fi
+    "$strings" stream "${2% *}" "${2#* }" < "$input" > "$out" 2> "$err"
+    if cmp -s "$out" "$expected"; then
+        passed=$((passed + 1))
+    else
+        echo "$name: standard output differs over texts in one string"
+        diff "$expected" "$out" | head -n 6
+        failed=$((failed + 1))
     fi
 done
 echo "rows: $passed passed, $failed failed"

@@ -1,5 +1,5 @@
 //! An iterator over the lines of a part of a text.
-ghost use Rattle.std.specs.Prelude.{map, ◌≡◌, ◌≢◌, ◌+◌, ◌-◌, ◌^◌, ◌<◌, ◌≤◌, ◌↔◌, ℕ, [], ◌∷◌, length, slice_index, IfOk, IfErr, IsTrue, MatchOption, MatchResult, IsOk, IsOkUnless};
+ghost use Rattle.std.specs.Prelude.{map, ◌≡◌, ◌≢◌, ◌+◌, ◌-◌, ◌^◌, ◌<◌, ◌≤◌, ◌↔◌, ℕ, [], ◌∷◌, length, slice_index, IfOk, IfErr, IfSome, IsTrue, MatchOption, MatchResult, IsOk, IsOkUnless};
 ghost use Rattle.std.specs.List.{slice_range, concat, All};
 ghost use Rattle.std.specs.Str.{IsUtf8, IsCharBoundary};
 ghost use Rattle.std.specs.Cow.{cow_slice_items, IsBorrowedSlice};
@@ -7,6 +7,7 @@ ghost use Rattle.std.specs.Iterator.{at_most};
 ghost use Rattle.org_base.specs.declared.code.Code.TheVariants.{Memory};
 ghost use Rattle.org_base.specs.declared.fault.Fault.TheVariants.{Plain};
 ghost use Rattle.org_lines.specs.Cuts.{lines, cuts, starts};
+ghost use Rattle.org_lines.specs.Runs.{EndsIn, HasLongLine, IsFirstLine, IsRun, behind};
 
 use memchr::memchr;
 use org_base::{Fault, Span};
@@ -31,18 +32,25 @@ pub struct Lines<'a, T: Text> {
     alloc: Global,
     text: &'a T,
     left: Span,
+    // What the text lends of the lines that are left: the text is asked for a run once, and not for each line of it.
+    run: &'a [u8],
 }
 
 impl<'a, T: Text> Model for Lines<'a, T> {
     ghost use Rattle.std.specs.Prelude.{List, ◌+◌, ◌≤◌, ◌<◌, ◌^◌, length};
     ghost use Rattle.std.specs.List.{slice_range};
     ghost use Rattle.org_lines.specs.Cuts.{Cut, cuts, lines};
+    ghost use Rattle.org_lines.specs.Runs.{IsRun};
 
     ghost Value = { List Cut };
 
     ghost view = { λ s. cuts (T.run_len s.text.now) s.left.at (lines (slice_range (T.content s.text.now) s.left.at (s.left.at + s.left.len))) };
 
-    ghost invariant = { λ s. (s.left.at + s.left.len ≤ length (T.content s.text.now)) × (s.left.at + s.left.len < 2 ^ 32) };
+    ghost invariant = { λ s. record {
+      within : s.left.at + s.left.len ≤ length (T.content s.text.now);
+      fits : s.left.at + s.left.len < 2 ^ 32;
+      run : IsRun (T.run_len s.text.now) (T.content s.text.now) s.left s.run.now;
+    } };
 }
 
 impl<'a, T: Text> Lines<'a, T> {
@@ -60,6 +68,7 @@ impl<'a, T: Text> Lines<'a, T> {
             alloc,
             text,
             left: span,
+            run: run_at(text, span),
         }
     }
 }
@@ -77,26 +86,99 @@ impl<'a, T: Text> Iterator for Lines<'a, T> {
         if self.left.len == 0 {
             return None;
         }
-        let at = self.left.at as usize;
-        let end = at + self.left.len as usize;
-        let len = first_len(self.text, at, end);
-        let span = Span {
-            at: self.left.at,
-            len: len as u32,
-        };
-        match bytes_at(self.alloc, self.text, at, len) {
+        match first_line(self.alloc, self.text, self.left, self.run) {
             Ok(bytes) => {
-                self.left = Span {
-                    at: span.at + span.len,
-                    len: self.left.len - span.len,
+                let span = Span {
+                    at: self.left.at,
+                    len: bytes.as_slice().len() as u32,
                 };
+                self.run = run_behind(self.text, self.left, self.run, span.len);
+                self.left = behind(self.left, span.len);
                 Some(Ok(Line { span, bytes }))
             }
             Err(fault) => {
                 self.left.len = 0;
+                self.run = &[];
                 Some(Err(fault))
             }
         }
+    }
+}
+
+// What the text lends of a span, from its beginning on.
+fn run_at<T: Text>(text: &T, span: Span) -> &[u8]
+    requires within { span.at + span.len ≤ length (T.content text.now) }
+    ensures { IsRun (T.run_len text.now) (T.content text.now) span result.now }
+{
+    let piece = text.piece_at(span.at as usize);
+    &piece[..piece.len().min(span.len as usize)]
+}
+
+// What is left of a span behind its first bytes.
+fn behind(span: Span, len: u32) -> Span
+    requires within { len ≤ span.len }
+    requires fits { span.at + span.len < 2 ^ 32 }
+    ensures { result ≡ behind span len }
+{
+    Span {
+        at: span.at + len,
+        len: span.len - len,
+    }
+}
+
+// The run of what is left of a span behind its first bytes: the rest of its own run, or the next one.
+fn run_behind<'a, T: Text>(text: &'a T, span: Span, run: &'a [u8], len: u32) -> &'a [u8]
+    requires len { len ≤ span.len }
+    requires within { span.at + span.len ≤ length (T.content text.now) }
+    requires fits { span.at + span.len < 2 ^ 32 }
+    requires run { IsRun (T.run_len text.now) (T.content text.now) span run.now }
+    ensures { IsRun (T.run_len text.now) (T.content text.now) (behind span len) result.now }
+{
+    let len_here = len as usize;
+    if len_here < run.len() {
+        &run[len_here..]
+    } else {
+        run_at(text, behind(span, len))
+    }
+}
+
+// The first line of what is left, lent where it lies in the run.
+fn first_line<'a, T: Text>(
+    alloc: Global,
+    text: &'a T,
+    left: Span,
+    run: &'a [u8],
+) -> Result<CowSlice<'a, u8>, Fault>
+    requires some { 0 < left.len }
+    requires within { left.at + left.len ≤ length (T.content text.now) }
+    requires fits { left.at + left.len < 2 ^ 32 }
+    requires run { IsRun (T.run_len text.now) (T.content text.now) left run.now }
+    ensures line { IfOk result (λ line. IsFirstLine (T.content text.now) left (cow_slice_items line)) }
+    ensures lent { IfOk result (λ line. IsBorrowedSlice line ↔ (length (cow_slice_items line) ≤ T.run_len text.now left.at)) }
+    ensures refused { IfErr result (λ _. HasLongLine (T.run_len text.now) (T.content text.now) left) }
+    ensures memory { IsOkUnless result (Plain Memory) }
+{
+    if let Some(len) = len_in(run, left.len as usize) {
+        return Ok(CowSlice::Borrowed(&run[..len]));
+    }
+    let at = left.at as usize;
+    let len = first_len(text, at, at + left.len as usize);
+    bytes_at(alloc, text, at, len)
+}
+
+// The length of the first line of what is left, where it ends in the run.
+fn len_in(run: &[u8], left: usize) -> Option<usize>
+    requires some { 0 < left }
+    ensures { IfSome result (λ len. EndsIn run.now left len) }
+{
+    // An empty line needs no search.
+    if !run.is_empty() && run[0] == b'\n' {
+        return Some(1);
+    }
+    match memchr(b'\n', run) {
+        Some(place) => Some(place + 1),
+        None if run.len() == left => Some(left),
+        None => None,
     }
 }
 

@@ -4,16 +4,32 @@
 //!     org_measure occurrences UNIT near     of a million questions whether a stamp of 0001-01-01 that repeats by one
 //!     org_measure occurrences UNIT far      unit (h, d, w, m, y) occurs on a day, how many are answered yes: on the first
 //!                                           thousand days of the calendar in turn, or on the last thousand
+//!     org_measure KIND PLACE COUNT < TEXT   how many lines an ASCII text has after so many edits, each of which puts one
+//!                                           byte in: KIND is `whole` or `pieces`, PLACE `random`, or `typed`, one byte
+//!                                           behind the other from the middle on
+//!     org_measure sequence ITEMS COUNT      the size of a sequence of so many items, of which so many were replaced
+//!     org_measure stream DATE TIME          the replies to the commands of standard input, over texts in one string each
 #![tactic(auto)]
+
+mod sequences;
+mod streams;
+mod texts;
 
 ghost use Rattle.std.specs.Prelude.{◌≡◌, length};
 ghost use Rattle.org_stamp.specs.Line.{stamps_of};
 
+use crate::sequences::size_after;
+use crate::streams::answer;
+use crate::texts::{Place, lines_after};
+use org_base::Fault;
 use org_cal::Day;
+use org_pieces::Pieces;
 use org_repeat::occurs_on;
 use org_stamp::{Stamp, read_stamp, stamps_in};
+use org_text::Whole;
+use std::alloc::Global;
 use std::env;
-use std::io::Read;
+use std::io::{Input, Read};
 use std::process::ExitCode;
 
 /// How many questions are asked.
@@ -29,7 +45,10 @@ const FIRST_FAR: u64 = 3_651_060;
 #[derive(Clone, Copy)]
 enum Part<'a> {
     Stamps,
-    Occurrences(&'a str, bool),
+    Occurrences { unit: &'a str, is_far: bool },
+    Edits { is_whole: bool, place: Place, count: u64 },
+    Sequence { items: u32, count: u64 },
+    Stream { date: &'a str, time: &'a str },
 }
 
 fn main(rt: HostRuntime) -> ExitCode {
@@ -40,21 +59,38 @@ fn main(rt: HostRuntime) -> ExitCode {
         return ExitCode::from(2);
     };
     let Some(part) = asked(words.as_slice()) else {
-        let _ = eprintln!(rt; "org_measure: stamps, or occurrences, a unit, and near or far");
+        let _ = eprintln!(rt; "org_measure: no such part, see the head of its source");
         return ExitCode::from(2);
     };
+    if measure(&rt, part).is_none() {
+        return ExitCode::from(3);
+    }
+    ExitCode::from(0)
+}
+
+// Does a part of the work, and prints what came out; None where it can't be done.
+fn measure<R: AllocGlobal + Input + Print>(rt: &R, part: Part<'_>) -> Option<()> {
     let count = match part {
-        Part::Stamps => {
-            let mut text = Vec::new(rt.alloc());
-            if rt.reader().read_to_end(&mut text).is_err() {
-                return ExitCode::from(3);
-            }
-            count_stamps(text.as_slice()) as u64
-        }
-        Part::Occurrences(unit, is_far) => count_occurrences(unit, is_far),
+        Part::Stamps => count_stamps(read_all(rt)?.as_slice()) as u64,
+        Part::Occurrences { unit, is_far } => count_occurrences(unit, is_far),
+        Part::Edits {
+            is_whole,
+            place,
+            count,
+        } => count_lines(rt.alloc(), &read_all(rt)?, is_whole, place, count)?,
+        Part::Sequence { items, count } => size_after(rt.alloc(), items, count).ok()?,
+        Part::Stream { date, time } => return answer(rt, date, time),
     };
     let _ = println!(rt; "{count}");
-    ExitCode::from(0)
+    Some(())
+}
+
+fn read_all<R: AllocGlobal + Input>(rt: &R) -> Option<Vec<u8>> {
+    let mut bytes = Vec::new(rt.alloc());
+    match rt.reader().read_to_end(&mut bytes) {
+        Ok(_) => Some(bytes),
+        Err(_) => None,
+    }
 }
 
 // What the program's words say.
@@ -62,10 +98,62 @@ fn asked(words: &[String]) -> Option<Part<'_>> {
     if words.len() == 2 && words[1].as_str() == "stamps" {
         return Some(Part::Stamps);
     }
-    if words.len() != 4 || words[1].as_str() != "occurrences" {
+    if words.len() != 4 {
         return None;
     }
-    Some(Part::Occurrences(words[2].as_str(), words[3].as_str() == "far"))
+    let (second, third) = (words[2].as_str(), words[3].as_str());
+    match words[1].as_str() {
+        "occurrences" => Some(Part::Occurrences {
+            unit: second,
+            is_far: third == "far",
+        }),
+        "sequence" => Some(Part::Sequence {
+            items: second.parse().ok()?,
+            count: third.parse().ok()?,
+        }),
+        "stream" => Some(Part::Stream {
+            date: second,
+            time: third,
+        }),
+        kind => Some(Part::Edits {
+            is_whole: kind == "whole",
+            place: place_of(second)?,
+            count: third.parse().ok()?,
+        }),
+    }
+}
+
+fn place_of(word: &str) -> Option<Place> {
+    match word {
+        "random" => Some(Place::Random),
+        "typed" => Some(Place::Typed),
+        _ => None,
+    }
+}
+
+fn count_lines(
+    alloc: Global,
+    text: &[u8],
+    is_whole: bool,
+    place: Place,
+    count: u64,
+) -> Option<u64> {
+    let text = str::from_utf8(text).ok()?;
+    lines_of(alloc, text, is_whole, place, count).ok()
+}
+
+fn lines_of(
+    alloc: Global,
+    text: &str,
+    is_whole: bool,
+    place: Place,
+    count: u64,
+) -> Result<u64, Fault> {
+    if is_whole {
+        lines_after::<Whole>(alloc, text, place, count)
+    } else {
+        lines_after::<Pieces>(alloc, text, place, count)
+    }
 }
 
 // How many timestamps stand in the text, taken as one line.

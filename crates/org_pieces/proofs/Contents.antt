@@ -89,6 +89,26 @@ pub run_len_within : (ps : List (List ℕ)) (at : ℕ) → at < length (concat p
 run_len_within [] at lt = absurd (omega arith)
 run_len_within (p ∷ ps) at lt = grind (arith, nat_tests, run_len_within ps (at - length p), length-append p (concat ps))
 
+run_here : (p : List ℕ) (ps : List (List ℕ)) (at : ℕ) → at < length p → run_len (p ∷ ps) at ≡ length p - at
+run_here p ps at lt = grind (arith, nat_tests)
+
+run_behind : (p : List ℕ) (ps : List (List ℕ)) (at : ℕ) → length p ≤ at → run_len (p ∷ ps) at ≡ run_len ps (at - length p)
+run_behind p ps at le = grind (arith, nat_tests)
+
+-- from each place inside a run it goes on to its end
+pub run_goes_on : (ps : List (List ℕ)) (at k : ℕ) → k < run_len ps at → run_len ps (at + k) ≡ run_len ps at - k
+run_goes_on [] at k lt = absurd (omega arith)
+run_goes_on (p ∷ ps) at k lt = elim (cases_lt at (length p)) [
+  | inl here ↦
+      let whole = run_here p ps at here in
+      let rest = run_here p ps (at + k) (omega arith) in
+      omega arith
+  | inr past ↦
+      let whole = run_behind p ps at past in
+      let place : at + k - length p ≡ at - length p + k = omega arith in
+      run_behind p ps (at + k) (omega arith) ∙ (ap (run_len ps) place ∙ (run_goes_on ps (at - length p) k (omega arith) ∙ ap (λ n. n - k) (sym whole)))
+]
+
 -- the byte at a place is the first of the run there
 pub run_first : (ps : List (List ℕ)) (at : ℕ) → slice_index (take (run_len ps at) (drop at (concat ps))) 0 ≡ slice_index (concat ps) at
 run_first ps at =

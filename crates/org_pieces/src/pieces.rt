@@ -79,7 +79,7 @@ impl Text for Pieces {
         Ok(String::from_utf8(bytes).unwrap())
     }
 
-    #[tactic(auto, using(crate::proofs::Contents::run_len_within, crate::proofs::Contents::run_len_past))]
+    #[tactic(auto, using(crate::proofs::Contents::run_goes_on, crate::proofs::Contents::run_len_within, crate::proofs::Contents::run_len_past))]
     fn piece_at(&self, at: usize) -> &[u8] {
         run_of(&self.pieces, at)
     }

@@ -1,5 +1,5 @@
 //! A text in one string, and the lines of texts that lend many bytes or few.
-ghost use Rattle.std.specs.Prelude.{ℕ, ◌+◌, ◌≤◌, ◌<◌, length, min};
+ghost use Rattle.std.specs.Prelude.{ℕ, ◌+◌, ◌-◌, ◌≤◌, ◌<◌, length, min, nat_lt, if◌then◌else◌};
 
 use org_base::{Code, Fault, Span};
 use org_lines::{Line, Lines, line_starts};
@@ -70,22 +70,21 @@ fn the_limit(rt: HostRuntime) -> Result<(), Fail> {
     Ok(())
 }
 
-// A text that lends two bytes at a time.
+// A text that lends what lies before a cut apart from what lies behind it.
 #[derive(Drop)]
 struct Pieced {
     whole: Whole,
-    most: usize,
-    ghost some: { 0 < most },
+    cut: usize,
 }
 
 impl Text for Pieced {
     ghost content = { λ p. ⟦<Whole as Text>⟧.content p.whole };
 
-    ghost run_len = { λ p at. min p.most (⟦<Whole as Text>⟧.run_len p.whole at) };
+    ghost run_len = { λ p at. if nat_lt at p.cut then min (p.cut - at) (⟦<Whole as Text>⟧.run_len p.whole at) else ⟦<Whole as Text>⟧.run_len p.whole at };
 
     fn of(alloc: Global, text: &str) -> Result<Pieced, Fault> {
         match Whole::of(alloc, text) {
-            Ok(whole) => Ok(Pieced { whole, most: 2 }),
+            Ok(whole) => Ok(Pieced { whole, cut: 2 }),
             Err(fault) => Err(fault),
         }
     }
@@ -102,7 +101,7 @@ impl Text for Pieced {
         match self.whole.share() {
             Ok(whole) => Ok(Pieced {
                 whole,
-                most: self.most,
+                cut: self.cut,
             }),
             Err(fault) => Err(fault),
         }
@@ -114,7 +113,11 @@ impl Text for Pieced {
 
     fn piece_at(&self, at: usize) -> &[u8] {
         let piece = self.whole.piece_at(at);
-        &piece[..piece.len().min(self.most)]
+        if at < self.cut {
+            &piece[..piece.len().min(self.cut - at)]
+        } else {
+            piece
+        }
     }
 }
 
@@ -160,8 +163,14 @@ fn whole_has_lines(alloc: Global) -> Result<bool, Fault> {
 }
 
 fn pieces_have_lines(alloc: Global) -> Result<bool, Fault> {
-    let text = Pieced::of(alloc, "* a\n\nb\nlast")?;
-    has_lines(alloc, &text)
+    let mut text = Pieced::of(alloc, "* a\n\nb\nlast")?;
+    for cut in 0..12 {
+        text.cut = cut;
+        if !has_lines(alloc, &text)? {
+            return Ok(false);
+        }
+    }
+    Ok(true)
 }
 
 #[test]

@@ -9,7 +9,7 @@ use crate::arguments::{command, moment};
 use crate::exit::{BAD_ARGUMENTS, BAD_FILE, exit_of};
 use crate::load::load;
 use org_engine::Engine;
-use org_text::Whole;
+use org_pieces::Pieces;
 use org_wire::{Counted, End, run};
 use std::io::Input;
 use std::process::ExitCode;
@@ -43,7 +43,7 @@ fn start<R: AllocGlobal + Files + Input + Print + Eprint>(rt: &R, words: &[Strin
         let _ = eprintln!(rt; "orgviews: date");
         return BAD_ARGUMENTS;
     };
-    let mut engine: Engine<Whole> = Engine::new(rt.alloc(), moment, 0);
+    let mut engine: Engine<Pieces> = Engine::new(rt.alloc(), moment, 0);
     if let Some(paths) = matches.get_strs("FILE") {
         for path in paths {
             if !is_loaded(rt, &mut engine, path) {
@@ -58,7 +58,7 @@ fn start<R: AllocGlobal + Files + Input + Print + Eprint>(rt: &R, words: &[Strin
 // Loads a file, or says why it can't be loaded.
 fn is_loaded<R: AllocGlobal + Files + Eprint>(
     rt: &R,
-    engine: &mut Engine<Whole>,
+    engine: &mut Engine<Pieces>,
     path: &str,
 ) -> bool {
     match load(rt, rt.alloc(), engine, path) {
@@ -74,7 +74,7 @@ fn is_loaded<R: AllocGlobal + Files + Eprint>(
 // Answers the commands of standard input, and gives the exit status.
 fn serve<R: AllocGlobal + Input + Print + Eprint>(
     rt: &R,
-    engine: &mut Engine<Whole>,
+    engine: &mut Engine<Pieces>,
     idle: u64,
 ) -> u8 {
     let mut reader = Counted::new(rt.reader());
