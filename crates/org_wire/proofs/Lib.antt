@@ -4,3 +4,4 @@ pub mod WroteLemmas
 pub mod PayloadLemmas
 pub mod RunLemmas
 pub mod ServeLemmas
+pub mod NumberLemmas

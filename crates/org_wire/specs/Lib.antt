@@ -1,6 +1,7 @@
 pub mod Devices
 pub mod Lines
 pub mod Stream
+pub mod Laws
 pub mod Replies
 pub mod Run
 pub mod Input

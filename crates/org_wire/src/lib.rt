@@ -9,6 +9,7 @@ mod counted;
 mod digits;
 mod expression;
 mod input;
+pub mod laws;
 mod line;
 mod names;
 mod next;
