@@ -2,6 +2,8 @@ pub mod Headings
 pub mod Order
 pub mod Lists
 pub mod Gathered
+pub mod Days
+pub mod Sources
 pub mod Verdicts
 pub mod Chosen
 pub mod Laws

@@ -4,9 +4,12 @@
 #![tactic(auto)]
 
 mod column;
+mod day;
 mod head;
 pub mod laws;
+mod line;
 mod list;
 
 pub use column::pad;
+pub use day::agenda_text;
 pub use list::list_text;

@@ -1,0 +1,72 @@
+//! The agenda of some days.
+ghost use Rattle.std.specs.Prelude.{◌≡◌, ◌+◌, ◌<◌, ◌≤◌, IfOk, IsOkUnless};
+ghost use Rattle.org_base.specs.Codes.{memory_fault};
+ghost use Rattle.org_agenda.specs.Days.{day_rows};
+
+use crate::days::day_rows;
+use crate::row::Row;
+use crate::source::Source;
+use org_base::Fault;
+use org_cal::Day;
+use std::alloc::Global;
+use std::marker::Model;
+
+/// The agenda of some days in a row: contracts see the stamps that it looks at, the day that is today, the first day and
+/// how many days there are.
+#[derive(Drop)]
+pub struct Agenda {
+    sources: Vec<Source>,
+    today: Day,
+    first: Day,
+    count: u32,
+}
+
+impl Model for Agenda {
+    ghost use Rattle.std.specs.Prelude.{◌+◌, ◌≤◌};
+    ghost use Rattle.org_agenda.specs.Days.{AgendaView};
+
+    ghost Value = { AgendaView };
+
+    ghost view = { λ a. record { sources = a.sources.items; today = a.today; first = a.first; count = a.count } };
+
+    ghost invariant = { λ a. a.first + a.count ≤ 3_652_060 };
+}
+
+impl Agenda {
+    /// The agenda of so many days from a first one on, none of them past 9999-12-31, over these stamps. It takes no memory.
+    pub fn new(sources: Vec<Source>, today: Day, first: Day, count: u32) -> Agenda
+        requires within { first + count ≤ 3_652_060 }
+        ensures value { result ≡ record { sources = sources.items; today = today; first = first; count = count } }
+    {
+        Agenda {
+            sources,
+            today,
+            first,
+            count,
+        }
+    }
+
+    /// How many days there are.
+    pub fn count(&self) -> u32
+        ensures value { result ≡ self.now.count }
+    {
+        self.count
+    }
+
+    /// The day so many days after the first.
+    pub fn day(&self, ahead: u32) -> Day
+        requires within { ahead < self.now.count }
+        ensures value { result ≡ self.now.first + ahead }
+    {
+        Day::of_number(self.first.number() as u64 + ahead as u64).unwrap()
+    }
+
+    /// The rows of the day so many days after the first, as [`day_rows`] has them. Want of memory is the only refusal.
+    pub fn rows(&self, alloc: Global, ahead: u32) -> Result<Vec<Row>, Fault>
+        requires within { ahead < self.now.count }
+        ensures value { IfOk result (λ rows. rows.items ≡ day_rows self.now.sources self.now.today (self.now.first + ahead)) }
+        ensures memory { IsOkUnless result memory_fault }
+    {
+        day_rows(alloc, self.sources.as_slice(), self.today, self.day(ahead))
+    }
+}

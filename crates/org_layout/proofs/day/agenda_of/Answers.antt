@@ -1,0 +1,11 @@
+use Rattle.std.proofs.Common.{◌++◌, ◌+◌, ap, refl, sym, ◌∙◌}
+use Rattle.org_layout.proofs.More.{days_more}
+use Rattle.org_layout.specs.Days.{day_lines}
+use Rattle.org_layout.proofs.day.agenda_of.Goals as goal
+
+pub loop-ahead-preserved : goal.loop-ahead-preserved
+loop-ahead-preserved c =
+    let agenda = c.args.agenda.now in
+    let text = day_lines c.args.inherits.now agenda.sources agenda.today in
+    c.in_ok-push_day.ensures.ok ∙ ap (λ z. z ++ text (agenda.first + c.loop-ahead.ahead)) c.loop-ahead.invariant
+    ∙ sym (days_more text agenda.first c.loop-ahead.ahead (agenda.first + c.loop-ahead.ahead) refl)
