@@ -6,6 +6,7 @@
 
 mod buckets;
 mod facts;
+mod holds;
 pub mod laws;
 mod lists;
 mod row;
@@ -13,5 +14,6 @@ mod verdicts;
 mod wanted;
 
 pub use facts::HeadingFacts;
+pub use holds::holds_of;
 pub use lists::{PRIORITIES, match_rows, todo_rows};
 pub use row::{Row, RowKind};
