@@ -7,6 +7,8 @@ mod column;
 mod head;
 pub mod laws;
 mod list;
+mod table;
 
 pub use column::pad;
 pub use list::list_text;
+pub use table::table_text;
