@@ -1,4 +1,5 @@
 pub mod GatherLemmas
+pub mod HoldLemmas
 pub mod ListLemmas
 pub mod OrderLemmas
 pub mod TagLemmas

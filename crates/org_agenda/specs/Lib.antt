@@ -1,4 +1,5 @@
 pub mod Headings
+pub mod Holding
 pub mod Order
 pub mod Lists
 pub mod Gathered

@@ -84,6 +84,13 @@ impl<'a> Inherit<'a> {
         self.settings
     }
 
+    /// The file's name.
+    pub fn file(&self) -> &[u8]
+        ensures value { result.now ≡ self.now.file }
+    {
+        self.file.as_bytes()
+    }
+
     /// Whether the entry or an ancestor of it has the word `COMMENT` or the own tag `ARCHIVE` (Org manual 9.6, "Comment
     /// Lines", "Internal Archiving"). The file's tags hide nothing.
     #[tactic(auto, using(crate::proofs::LineageLemmas::hidden_within, crate::proofs::LineageLemmas::hidden_at))]

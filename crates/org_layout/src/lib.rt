@@ -9,7 +9,9 @@ mod head;
 pub mod laws;
 mod line;
 mod list;
+mod table;
 
 pub use column::pad;
 pub use day::agenda_text;
 pub use list::list_text;
+pub use table::table_text;

@@ -1,0 +1,6 @@
+use Rattle.std.proofs.Common.{◌≡◌, ◌++◌, drop}
+use Rattle.org_clocktable.specs.Table.{files_rows}
+use Rattle.org_clocktable.proofs.rows.push_files.Given as goal
+
+abbrev pub invariant-loop-place : goal.invariant-loop-place
+invariant-loop-place l = l.rows.items ++ files_rows (l.period.first, l.period.last) l.most l.place (drop l.place l.files) ≡ l.fn.rows.items ++ files_rows (l.period.first, l.period.last) l.most 0 l.files

@@ -1,0 +1,35 @@
+-- The rows of a clock table (Org manual 9.6, The clock table; which lines are shown: profile).
+use Rattle.std.specs.Prelude.{ℕ, ◌+◌, nat_lt, nat_le, ◌&&◌, if◌then◌else◌, List, [], ◌∷◌, ◌++◌, Option, None, Some}
+use Rattle.org_entry.specs.declared.entry.Entry.{Entry}
+use Rattle.org_clocktable.specs.Counted.{Counted, file_sum, heading_sum, total}
+use Rattle.org_clocktable.specs.declared.row.Of.TheVariants.{All, File, Heading}
+use Rattle.org_clocktable.specs.declared.row.TableRow.{TableRow}
+use Rattle.org_outline.specs.Levels.{level_of}
+use Rattle.org_sum.specs.Measures.{clock_minutes, effort_minutes}
+
+-- the line of the entry at a place with these sums, if it is a heading of at most this level with clocks in the days
+abbrev pub level_rows : ℕ → ℕ → ℕ → ℕ → ℕ → Option ℕ → List TableRow
+level_rows most file i clock effort None = []
+level_rows most file i clock effort (Some level) =
+    if nat_le level most && nat_lt 0 clock then record { of = Heading file i level; clock = clock; effort = effort } ∷ [] else []
+
+-- those of entries, the first of which stands at a place
+abbrev pub rows_from : ℕ × ℕ → ℕ → ℕ → Counted → ℕ → List Entry → List TableRow
+rows_from days most file counted i [] = []
+rows_from days most file counted i (e ∷ es) =
+    level_rows most file i (heading_sum (clock_minutes days) counted i) (heading_sum effort_minutes counted i) (level_of e) ++ rows_from days most file counted (i + 1) es
+
+-- the lines of a file, if it has clocks in the days
+abbrev pub file_rows : ℕ × ℕ → ℕ → ℕ → Counted → List TableRow
+file_rows days most file counted =
+    if nat_lt 0 (file_sum (clock_minutes days) counted)
+    then record { of = File file; clock = file_sum (clock_minutes days) counted; effort = file_sum effort_minutes counted } ∷ rows_from days most file counted 0 counted.entries else []
+
+-- those of files, the first of which stands at a place
+abbrev pub files_rows : ℕ × ℕ → ℕ → ℕ → List Counted → List TableRow
+files_rows days most file [] = []
+files_rows days most file (c ∷ cs) = file_rows days most file c ++ files_rows days most (file + 1) cs
+
+-- the lines of the days from a first to a last: the total, then files and headings in their order
+unfoldable pub step_rows : ℕ × ℕ → ℕ → List Counted → List TableRow
+step_rows days most files = record { of = All; clock = total (clock_minutes days) files; effort = total effort_minutes files } ∷ files_rows days most 0 files

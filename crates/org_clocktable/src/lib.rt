@@ -1,0 +1,14 @@
+//! Clock tables: their options and their rows.
+#![tactic(auto)]
+
+mod asked;
+mod counted;
+mod options;
+mod row;
+mod rows;
+mod spec;
+
+pub use counted::{CountedFile, counted_files};
+pub use row::{Of, TableRow};
+pub use rows::step_rows;
+pub use spec::TableSpec;

@@ -1,0 +1,183 @@
+//! The text of a clock table.
+ghost use Rattle.std.specs.Prelude.{◌≡◌, ◌<◌, ◌++◌, length, replicate, slice_index_or, string_bytes, IfOk, OnOk, OnErr, IsOkUnless};
+ghost use Rattle.org_base.specs.Codes.{memory_fault};
+ghost use Rattle.org_layout.specs.Tables.{effort_column, file_name, file_title, name_text, step_line, step_lines, sum_column, table_line, table_lines, title_at, title_of};
+
+use crate::column::{pad, push_bytes};
+use org_base::Fault;
+use org_cal::{Period, push_date, push_two};
+use org_clocktable::{Of, TableRow};
+use org_entry::Entry;
+use org_inherit::{Inherit, Inherits};
+use std::alloc::Global;
+
+/// Appends a step of a clock table: a line with its first and last day, and a line for each row: the clock sum in a column of
+/// 9, the effort sum in another if it is asked for, and `*`, the name of a file, or the title of a heading behind two spaces
+/// for each level. Sums are hours, a colon and two digits of minutes. Of a file or heading that isn't there neither name nor
+/// title is shown. Want of memory is the only refusal, and leaves `out` as it was.
+pub fn table_text(
+    alloc: Global,
+    out: &mut String,
+    inherits: &Inherits<'_>,
+    with_effort: bool,
+    period: &Period,
+    rows: &[TableRow],
+) -> Result<(), Fault>
+    ensures ok { OnOk result (string_bytes out.new ≡ string_bytes out.old ++ step_lines with_effort inherits.now (period.now.first, period.now.last) rows.now) }
+    ensures err { OnErr result (string_bytes out.new ≡ string_bytes out.old) }
+    ensures memory { IsOkUnless result memory_fault }
+{
+    let text = table_of(alloc, inherits, with_effort, period, rows)?;
+    out.push_str(text.as_str())?;
+    Ok(())
+}
+
+fn table_of(
+    alloc: Global,
+    inherits: &Inherits<'_>,
+    with_effort: bool,
+    period: &Period,
+    rows: &[TableRow],
+) -> Result<String, Fault>
+    ensures value { IfOk result (λ text. string_bytes text ≡ step_lines with_effort inherits.now (period.now.first, period.now.last) rows.now) }
+    ensures memory { IsOkUnless result memory_fault }
+{
+    let mut text = String::new(alloc);
+    push_step(&mut text, period)?;
+    for place in 0..rows.len() {
+        let row = row_at(rows, place);
+        push_row(alloc, &mut text, inherits, with_effort, row.of, row.clock, row.effort)?;
+    }
+    Ok(text)
+}
+
+fn row_at(rows: &[TableRow], place: usize) -> TableRow
+    requires within { place < length rows.now }
+    ensures value { result ≡ slice_index_or rows.now place result }
+{
+    rows[place]
+}
+
+#[tactic(auto, unfolding(crate::specs::Tables::step_line))]
+fn push_step(out: &mut String, period: &Period) -> Result<(), Fault>
+    ensures ok { OnOk result (string_bytes out.new ≡ string_bytes out.old ++ step_line (period.now.first, period.now.last)) }
+    ensures memory { IsOkUnless result memory_fault }
+{
+    push_date(out, period.first)?;
+    out.push_str(" ")?;
+    push_date(out, period.last)?;
+    out.push_str("\n")?;
+    Ok(())
+}
+
+#[tactic(auto, unfolding(crate::specs::Tables::table_line))]
+fn push_row(
+    alloc: Global,
+    out: &mut String,
+    inherits: &Inherits<'_>,
+    with_effort: bool,
+    of: Of,
+    clock: u64,
+    effort: u64,
+) -> Result<(), Fault>
+    ensures ok { OnOk result (string_bytes out.new ≡ string_bytes out.old ++ table_line with_effort inherits.now of clock effort) }
+    ensures memory { IsOkUnless result memory_fault }
+{
+    push_sum(alloc, out, clock)?;
+    push_effort(alloc, out, with_effort, effort)?;
+    push_name(out, inherits, of)?;
+    out.push_str("\n")?;
+    Ok(())
+}
+
+fn push_effort(alloc: Global, out: &mut String, with_effort: bool, effort: u64) -> Result<(), Fault>
+    ensures ok { OnOk result (string_bytes out.new ≡ string_bytes out.old ++ effort_column with_effort effort) }
+    ensures memory { IsOkUnless result memory_fault }
+{
+    if with_effort {
+        push_sum(alloc, out, effort)
+    } else {
+        Ok(())
+    }
+}
+
+#[tactic(auto, unfolding(crate::specs::Tables::sum_column))]
+fn push_sum(alloc: Global, out: &mut String, minutes: u64) -> Result<(), Fault>
+    ensures ok { OnOk result (string_bytes out.new ≡ string_bytes out.old ++ sum_column minutes) }
+    ensures memory { IsOkUnless result memory_fault }
+{
+    let hours = minutes / 60;
+    let mut text = String::new(alloc);
+    write!(text, "{hours}:")?;
+    push_two(&mut text, (minutes % 60) as u8)?;
+    pad(out, text.as_str(), 9)
+}
+
+#[tactic(auto, unfolding(crate::specs::Tables::name_text))]
+fn push_name(
+    out: &mut String,
+    inherits: &Inherits<'_>,
+    of: Of,
+) -> Result<(), Fault>
+    ensures ok { OnOk result (string_bytes out.new ≡ string_bytes out.old ++ name_text inherits.now of) }
+    ensures memory { IsOkUnless result memory_fault }
+{
+    match of {
+        Of::All => out.push_str("*")?,
+        Of::File(file) => push_bytes(out, file_name(inherits, file))?,
+        Of::Heading(file, place, level) => {
+            push_spaces(out, 2 * level as u64)?;
+            push_bytes(out, file_title(inherits, file, place))?;
+        }
+    }
+    Ok(())
+}
+
+fn push_spaces(out: &mut String, count: u64) -> Result<(), Fault>
+    ensures ok { OnOk result (string_bytes out.new ≡ string_bytes out.old ++ replicate count 32) }
+    ensures memory { IsOkUnless result memory_fault }
+{
+    for _space in 0..count {
+        out.push(' ')?;
+    }
+    Ok(())
+}
+
+// The name of a file, by its place; nothing past the end.
+fn file_name<'a>(inherits: &'a Inherits<'_>, file: usize) -> &'a [u8]
+    ensures value { result.now ≡ file_name inherits.now file }
+{
+    if file >= inherits.count() {
+        return &[];
+    }
+    inherits.get(file).file()
+}
+
+// The title of the heading of an entry of a file, by their places; nothing past the end.
+fn file_title<'a>(inherits: &'a Inherits<'_>, file: usize, place: usize) -> &'a [u8]
+    ensures value { result.now ≡ file_title inherits.now file place }
+{
+    if file >= inherits.count() {
+        return &[];
+    }
+    title_at(inherits.get(file), place)
+}
+
+fn title_at<'a>(inherit: &'a Inherit<'_>, place: usize) -> &'a [u8]
+    ensures value { result.now ≡ title_at inherit.now place }
+{
+    let outline = inherit.outline();
+    if place >= outline.count() {
+        return &[];
+    }
+    title_of(outline.entry(place))
+}
+
+fn title_of(entry: &Entry) -> &[u8]
+    ensures value { result.now ≡ title_of entry.now.text entry.now.head }
+{
+    match &entry.head {
+        Some(head) => entry.part(head.title),
+        None => &[],
+    }
+}

@@ -1,0 +1,4 @@
+pub mod Sums
+pub mod Measures
+pub mod Texts
+pub mod Laws
