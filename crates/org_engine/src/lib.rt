@@ -4,6 +4,7 @@
 //! of one definition, `step`. What a file says, which rows a view has and how they look stand in the crates below.
 #![tactic(auto)]
 
+mod agenda;
 mod engine;
 mod kept;
 mod lists;
@@ -11,5 +12,6 @@ mod outlines;
 mod question;
 mod world;
 
+pub use agenda::MOST_DAYS;
 pub use engine::{Engine, LAST_SERIAL, MOST_FILES};
 pub use question::View;

@@ -19,6 +19,8 @@ said (parsed.Match text) = Plainly (command.Match text.now)
 said (parsed.Drop name) = Plainly (command.Drop name.now)
 said (parsed.Inherit names) = Plainly (command.Inherit (words_in 32 (option_map (λ words. words.now) names)))
 said (parsed.Text name) = Plainly (command.Text name.now)
+said (parsed.Agenda date days) = Plainly (command.Agenda date.now days)
+said (parsed.At moment) = Plainly (command.At moment)
 said (parsed.Frame name size) = Frame name.now size
 
 -- an expression is no longer than so many bytes
@@ -29,4 +31,6 @@ IsWithin most (parsed.Todo words) = Unit {0}
 IsWithin most (parsed.Drop name) = Unit {0}
 IsWithin most (parsed.Inherit names) = Unit {0}
 IsWithin most (parsed.Text name) = Unit {0}
+IsWithin most (parsed.Agenda date days) = Unit {0}
+IsWithin most (parsed.At moment) = Unit {0}
 IsWithin most (parsed.Frame name size) = Unit {0}

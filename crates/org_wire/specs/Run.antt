@@ -4,19 +4,26 @@ use Rattle.std.specs.Option.{option_to_list}
 use Rattle.std.specs.Io.KnownBytes.{Appends}
 use Rattle.org_base.specs.Codes.{code_of, memory_fault}
 use Rattle.org_base.specs.declared.code.Code.TheVariants.{Device}
+use Rattle.org_cal.specs.Faults.{date_fault}
+use Rattle.org_cal.specs.declared.moment.Moment.{Moment}
 use Rattle.org_engine.specs.World.{State}
-use Rattle.org_engine.specs.Questions.{AsksMatch}
+use Rattle.org_engine.specs.Questions.{AsksMatch, asked_agenda}
 use Rattle.org_engine.specs.Step as step
 use Rattle.org_wire.specs.Replies.{reply_bytes, fault_bytes}
 use Rattle.org_wire.specs.Stream.{reading_of, IsReplaceable}
 use Rattle.org_wire.specs.declared.command.Command.{Command}
-use Rattle.org_wire.specs.declared.command.Command.TheVariants.{Add, Drop, Inherit, Match, Text, Todo}
+use Rattle.org_wire.specs.declared.command.Command.TheVariants.{Add, Agenda, At, Drop, Inherit, Match, Text, Todo}
 use Rattle.org_wire.specs.declared.command.Next.{Next}
 use Rattle.org_wire.specs.declared.command.Next.TheVariants.{Given, Refused, Last, Ended}
 use Rattle.org_wire.specs.declared.reply.Reply.{Reply}
 use Rattle.org_wire.specs.declared.reply.Reply.TheVariants as reply
 use Rattle.org_wire.specs.declared.whole.End.{End}
 use Rattle.org_wire.specs.declared.whole.End.TheVariants.{Done, Stopped}
+
+-- the command of another moment; where none is spelled, one that is refused
+abbrev pub moment_command : Option Moment → step.Command
+moment_command None = step.Ask (step.Unread date_fault)
+moment_command (Some moment) = step.At moment
 
 -- the engine's command; a match list's is that of the question which its expression stands for
 abbrev pub Means : Command → step.Command → Type 0
@@ -26,6 +33,8 @@ Means (Inherit names) said = said ≡ step.Inherit names
 Means (Text name) said = said ≡ step.TextOf name
 Means (Todo words) said = said ≡ step.Ask (step.TodoList words)
 Means (Match text) said = (question : step.Question) × AsksMatch text question × (said ≡ step.Ask question)
+Means (Agenda date days) said = said ≡ step.Ask (asked_agenda date days)
+Means (At moment) said = said ≡ moment_command moment
 
 -- the engine's reply, as it is written
 abbrev pub shown : step.Reply → Reply

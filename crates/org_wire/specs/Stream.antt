@@ -6,11 +6,13 @@ use Rattle.org_base.specs.FileName.{is_file_name}
 use Rattle.org_base.specs.declared.code.Code.TheVariants.{Memory, Long, Size, Cut, Device}
 use Rattle.org_base.specs.declared.code.Code.TheVariants as code
 use Rattle.org_base.specs.declared.fault.Fault.TheVariants.{Plain}
+use Rattle.org_cal.specs.Texts.{date_of, time_of}
+use Rattle.org_cal.specs.declared.moment.Moment.{Moment}
 use Rattle.org_text.specs.Replace.{max_bytes}
 use Rattle.org_wire.specs.Lines.{cut_at, longest}
 use Rattle.org_wire.specs.Lines as lines
 use Rattle.org_wire.specs.declared.command.Command.{Command}
-use Rattle.org_wire.specs.declared.command.Command.TheVariants.{Add, Drop, Inherit, Match, Text, Todo}
+use Rattle.org_wire.specs.declared.command.Command.TheVariants.{Add, Agenda, At, Drop, Inherit, Match, Text, Todo}
 use Rattle.org_wire.specs.declared.command.Next.{Next}
 use Rattle.org_wire.specs.declared.command.Next.TheVariants.{Given, Refused, Last, Ended}
 
@@ -83,6 +85,32 @@ abbrev pub add_line : Option lines.Cut → Line
 add_line None = Bad
 add_line (Some cut) = if is_name cut.before then sized_frame cut.before (number_of cut.after) else Bad
 
+-- one word that isn't empty
+abbrev pub is_one_word : List ℕ → Bool
+is_one_word text = not (length text == 0) && is_word text && is_utf8 text
+
+-- a date, and days where they are a number
+abbrev pub dated_line : List ℕ → Option ℕ → Line
+dated_line date None = Bad
+dated_line date (Some days) = Plainly (Agenda date days)
+
+-- `agenda DATE DAYS`, from its date on
+abbrev pub agenda_line : Option lines.Cut → Line
+agenda_line None = Bad
+agenda_line (Some cut) = if is_one_word cut.before then dated_line cut.before (number_of cut.after) else Bad
+
+-- the moment of a day and a time, where both are read
+abbrev pub moment_of : Option ℕ → Option ℕ → Option Moment
+moment_of None time = None
+moment_of (Some day) None = None
+moment_of (Some day) (Some time) = Some (record { day = day; minute = time })
+
+-- `at DATE TIME`, from its date on
+abbrev pub at_line : Option lines.Cut → Line
+at_line None = Bad
+at_line (Some cut) =
+    if is_one_word cut.before && is_one_word cut.after then Plainly (At (moment_of (date_of cut.before) (time_of cut.after))) else Bad
+
 -- a line of several words, cut behind its first
 abbrev pub words_line : Option lines.Cut → Line
 words_line None = Bad
@@ -91,6 +119,8 @@ words_line (Some cut) = if bytes_eq cut.before (codes "todo") then todo_line cut
     else if bytes_eq cut.before (codes "text") then text_line cut.after
     else if bytes_eq cut.before (codes "drop") then drop_line cut.after
     else if bytes_eq cut.before (codes "inherit") then inherit_line cut.after
+    else if bytes_eq cut.before (codes "agenda") then agenda_line (cut_at 32 cut.after)
+    else if bytes_eq cut.before (codes "at") then at_line (cut_at 32 cut.after)
     else if bytes_eq cut.before (codes "add") then add_line (cut_at 32 cut.after)
     else Bad
 

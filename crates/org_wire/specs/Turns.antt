@@ -25,6 +25,10 @@ pub record Serves (command : Command) (old : State) (answer : Reply) (new : Stat
   pub done : (answer ≡ out_of_memory → ⊥) → AnswersSo (Given command) old answer new
   pub memory : answer ≡ out_of_memory → new ≡ old
 
+-- the engine's answer to a command that needs no memory
+abbrev pub ServesSurely : step.Command → State → Reply → State → Type 0
+ServesSurely said old answer new = (answer ≡ shown (step.step said old).reply) × (new ≡ (step.step said old).after)
+
 -- the engine's answer to a view, or want of memory with nothing changed
 pub record ServesView (view : View) (old : State) (answer : Reply) (new : State) : Type 0 where
   pub done : (answer ≡ out_of_memory → ⊥) → (question : step.Question) × Asks view question × (answer ≡ shown (step.step (step.Ask question) old).reply) × (new ≡ (step.step (step.Ask question) old).after)

@@ -2,6 +2,7 @@
 
 use crate::expression::Expression;
 use org_base::{Bytes, Fault, Name, Texts};
+use org_cal::Moment;
 
 /// A command, one variant for each line that is one.
 #[derive(Drop)]
@@ -18,6 +19,10 @@ pub enum Command {
     Todo(Texts),
     /// `match EXPR`: asks for the match list of an expression, which is the rest of the line and may be empty.
     Match(Expression),
+    /// `agenda DATE DAYS`: asks for the agenda of so many days from a date on.
+    Agenda(Name, u64),
+    /// `at DATE TIME`: asks for views at another moment from now on; None where these spell none.
+    At(Option<Moment>),
 }
 
 /// What comes next on a stream.

@@ -289,6 +289,11 @@ impl<'a, R: Read> Input<'a, R> {
                 Ok(name) => Next::Given(Command::Text(name)),
                 Err(_) => Next::Refused(Fault::Plain(Code::Memory)),
             },
+            Parsed::Agenda(date, days) => match Name::new(self.alloc, date) {
+                Ok(date) => Next::Given(Command::Agenda(date, days)),
+                Err(_) => Next::Refused(Fault::Plain(Code::Memory)),
+            },
+            Parsed::At(moment) => Next::Given(Command::At(moment)),
             Parsed::Frame(name, size) => {
                 let name = Name::new(self.alloc, name).ok();
                 self.read_frame(name, size)

@@ -1,11 +1,13 @@
 //! What a line says, read without memory.
 ghost use Rattle.std.specs.Prelude.{◌≡◌, ◌≤◌, None, Some, IfSome, IfNone, MatchOption, length, true, false};
 ghost use Rattle.org_wire.specs.Lines.{cut_at};
-ghost use Rattle.org_wire.specs.Stream.{number_of, is_name, is_word, are_words, line_of, drop_line, inherit_line, match_line, text_line, todo_line, add_line};
+ghost use Rattle.org_wire.specs.Stream.{number_of, is_name, is_word, are_words, line_of, drop_line, inherit_line, match_line, text_line, todo_line, add_line, agenda_line, at_line, is_one_word, moment_of};
 ghost use Rattle.org_wire.specs.Parsed.{IsWithin, said};
+ghost use Rattle.org_cal.specs.Texts.{date_of, time_of};
 ghost use Rattle.std.specs.Str.{is_utf8};
 
 use org_base::is_file_name;
+use org_cal::Moment;
 
 /// The largest number that a word can be.
 const MOST_NUMBER: u64 = 1_000_000_000_000_000_000;
@@ -23,6 +25,10 @@ pub(crate) enum Parsed<'a> {
     /// The names to inherit, with one space between them; None without a name.
     Inherit(Option<&'a [u8]>),
     Text(&'a str),
+    /// A date and a number of days.
+    Agenda(&'a str, u64),
+    /// A moment, if the words spell one.
+    At(Option<Moment>),
     /// A file to add, and how long its text is.
     Frame(&'a str, u64),
 }
@@ -138,6 +144,12 @@ pub(crate) fn parse_line(line: &[u8]) -> Parsed<'_>
     if word == b"inherit".as_slice() {
         return parse_inherit(rest);
     }
+    if word == b"agenda".as_slice() {
+        return parse_agenda(rest);
+    }
+    if word == b"at".as_slice() {
+        return parse_at(rest);
+    }
     if word == b"add".as_slice() {
         return parse_add(rest);
     }
@@ -215,5 +227,60 @@ fn parse_add(rest: &[u8]) -> Parsed<'_>
     match number(size) {
         Some(size) => Parsed::Frame(name, size),
         None => Parsed::Bad,
+    }
+}
+
+// What stands behind `agenda`.
+fn parse_agenda(rest: &[u8]) -> Parsed<'_>
+    ensures value { agenda_line (cut_at 32 rest.now) ≡ said result }
+    ensures within { IsWithin (length rest.now) result }
+{
+    let Some((word, days)) = cut(rest, b' ') else {
+        return Parsed::Bad;
+    };
+    let Some(date) = one_word(word) else {
+        return Parsed::Bad;
+    };
+    match number(days) {
+        Some(days) => Parsed::Agenda(date, days),
+        None => Parsed::Bad,
+    }
+}
+
+// What stands behind `at`.
+fn parse_at(rest: &[u8]) -> Parsed<'_>
+    ensures value { at_line (cut_at 32 rest.now) ≡ said result }
+    ensures within { IsWithin (length rest.now) result }
+{
+    let Some((date, time)) = cut(rest, b' ') else {
+        return Parsed::Bad;
+    };
+    if one_word(date).is_none() || one_word(time).is_none() {
+        return Parsed::Bad;
+    }
+    Parsed::At(moment(date, time))
+}
+
+// The text, if it is one word that isn't empty.
+fn one_word(text: &[u8]) -> Option<&str>
+    ensures none { IfNone result (is_one_word text.now ≡ false) }
+    ensures some { IfSome result (λ word. (is_one_word text.now ≡ true) × (word.now ≡ text.now)) }
+{
+    if text.is_empty() || !is_word(text) {
+        return None;
+    }
+    match str::from_utf8(text) {
+        Ok(word) => Some(word),
+        Err(_) => None,
+    }
+}
+
+// The moment that two words spell, if they do.
+fn moment(date: &[u8], time: &[u8]) -> Option<Moment>
+    ensures value { result ≡ moment_of (date_of date.now) (time_of time.now) }
+{
+    match Moment::read(date, time) {
+        Ok(moment) => Some(moment),
+        Err(_) => None,
     }
 }

@@ -1,11 +1,13 @@
 //! The engine's answers as replies, and its background steps.
 ghost use Rattle.std.specs.Prelude.{◌≡◌};
 ghost use Rattle.org_engine.specs.Questions.{IsShort};
-ghost use Rattle.org_wire.specs.Turns.{Serves, ServesView};
+ghost use Rattle.org_wire.specs.Run.{moment_command};
+ghost use Rattle.org_wire.specs.Turns.{Serves, ServesSurely, ServesView};
 
 use crate::command::Command;
 use crate::reply::Reply;
-use org_base::Bytes;
+use org_base::{Bytes, Code, Fault};
+use org_cal::Moment;
 use org_engine::{Engine, View};
 use org_text::Text;
 
@@ -29,6 +31,8 @@ pub(crate) fn serve<T: Text>(engine: &mut Engine<T>, command: Command) -> Reply
         },
         Command::Todo(words) => ask(engine, View::Todo(&words)),
         Command::Match(text) => ask(engine, View::Match(text.as_str())),
+        Command::Agenda(date, days) => ask(engine, View::Agenda(date.as_str(), days)),
+        Command::At(moment) => set_moment(engine, moment),
     }
 }
 
@@ -40,6 +44,16 @@ fn ask<T: Text>(engine: &mut Engine<T>, view: View<'_>) -> Reply
     match engine.query(view) {
         Ok(text) => Reply::Shown(Bytes::new(text.into_bytes())),
         Err(fault) => Reply::Refused(fault),
+    }
+}
+
+// Asks for views at another moment from now on.
+fn set_moment<T: Text>(engine: &mut Engine<T>, moment: Option<Moment>) -> Reply
+    ensures value { ServesSurely (moment_command moment) engine.old.state result engine.new.state }
+{
+    match moment {
+        Some(moment) => Reply::Serial(engine.set_moment(moment)),
+        None => Reply::Refused(Fault::Plain(Code::Date)),
     }
 }
 

@@ -1,10 +1,10 @@
 use Rattle.std.proofs.Common.{◌∙◌, ℕ, ap, refl, subst}
 use Rattle.std.specs.Prelude.{Vec, string_bytes}
 use Rattle.std.specs.Global.{Global}
-use Rattle.org_engine.specs.Questions.{AsksMatch}
+use Rattle.org_engine.specs.Questions.{AsksMatch, asked_agenda}
 use Rattle.org_engine.specs.Step as step
 use Rattle.org_wire.specs.declared.reply.Reply.TheVariants as reply
-use Rattle.org_wire.proofs.ServeLemmas.{refuses, serves, shows}
+use Rattle.org_wire.proofs.ServeLemmas.{refuses, serves, serves_surely, shows}
 use Rattle.org_wire.proofs.serve.serve.Goals as goal
 
 pub returns-in-Ok : goal.returns-in-Ok
@@ -47,7 +47,15 @@ returns-in-Todo g c = record {
   value = rw c.in-Todo.is (shows _ _ _ _ c.ask.result (λ question asks. ap step.Ask asks) c.ask.ensures.value);
 }
 
-pub returns : goal.returns
-returns g c = record {
+pub returns-in-Match : goal.returns-in-Match
+returns-in-Match g c = record {
   value = rw c.in-Match.is (shows _ _ _ _ c.ask-in-Match.result (λ question asks. (question, subst (λ t. AsksMatch t question) c.as_str-in-Match.ensures.value asks, refl)) c.ask-in-Match.ensures.value);
 }
+
+pub returns-in-Agenda : goal.returns-in-Agenda
+returns-in-Agenda g c = record {
+  value = rw c.in-Agenda.is (shows _ _ _ _ c.ask-in-Agenda.result (λ question asks. ap step.Ask asks ∙ ap (λ t. step.Ask (asked_agenda t c.in-Agenda.days)) c.as_str-in-Agenda.ensures.value) c.ask-in-Agenda.ensures.value);
+}
+
+pub returns : goal.returns
+returns g c = record { value = rw c.in-At.is (serves_surely c.in-At.moment _ _ _ c.set_moment.ensures.value) }

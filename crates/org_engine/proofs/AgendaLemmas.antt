@@ -1,0 +1,62 @@
+-- What an agenda over the files of a world shows.
+use Rattle.std.proofs.Common.{◌≡◌, ◌∙◌, ℕ, zero, suc, ◌+◌, ◌<◌, ◌≤◌, List, ◌++◌, arith, map, refl, ap, ap₂}
+use Rattle.std.specs.Prelude.{Option, None, Some}
+use Rattle.std.proofs.lemmas.Bool.{lt-leb, le-leb}
+use Rattle.std.specs.List.{concat, range_with_len}
+use Rattle.org_agenda.specs.Days.{AgendaView, day_rows}
+use Rattle.org_agenda.specs.Sources.{sources_of}
+use Rattle.org_agenda.specs.declared.source.Source.{Source}
+use Rattle.org_inherit.specs.Scope.{Scope}
+use Rattle.org_layout.specs.Days.{agenda_lines, day_line, day_lines, row_lines}
+use Rattle.org_engine.specs.Outlines.{scopes_of}
+use Rattle.org_cal.specs.Faults.{date_fault}
+use Rattle.org_cal.specs.Texts.{date_of}
+use Rattle.org_engine.specs.declared.agenda.TheConstants.{MOST_DAYS}
+use Rattle.org_engine.specs.Questions.{asked_agenda, asked_days, asked_from, days_fault}
+use Rattle.org_engine.specs.Step.{DayAgenda, Unread}
+use Rattle.org_engine.specs.Views.{agenda_view, days_over}
+use Rattle.org_engine.specs.World.{WorldView}
+
+same_texts : (f g : ℕ → List ℕ) (first n : ℕ) → ((day : ℕ) → first ≤ day → day < first + n → f day ≡ g day) → concat (map f (range_with_len first n)) ≡ concat (map g (range_with_len first n))
+same_texts f g first zero same = refl
+same_texts f g first (suc n) same =
+    ap₂ (λ a b. a ++ b) (same first (omega arith) (omega arith)) (same_texts f g (first + 1) n (λ day late early. same day (omega (arith, late)) (omega (arith, early))))
+
+same_day : (scopes : List Scope) (some all : List Source) (today day : ℕ) → day_rows some today day ≡ day_rows all today day → day_lines scopes some today day ≡ day_lines scopes all today day
+unfolding day_lines
+same_day scopes some all today day same = λ i. day_line day ++ row_lines scopes (same i)
+
+-- stamps that give the rows of all stamps on each day of a period
+pub same_days : (scopes : List Scope) (some all : List Source) (today first count last : ℕ) → all ≡ sources_of 0 scopes → last + 1 ≡ first + count → ((day : ℕ) → first ≤ day → day ≤ last → day_rows some today day ≡ day_rows all today day) →
+    (agenda : AgendaView) → agenda ≡ record { sources = some; today = today; first = first; count = count } → agenda_lines scopes agenda ≡ days_over scopes today first count
+same_days scopes some all today first count last are end same agenda is =
+    (λ i. agenda_lines scopes (is i))
+    ∙ same_texts (day_lines scopes some today) (day_lines scopes all today) first count (λ day late early. same_day scopes some all today day (same day late (omega (arith, early, end))))
+    ∙ (λ i. agenda_lines scopes (record { sources = are i; today = today; first = first; count = count }))
+
+pub view_is : (first count : ℕ) (world : WorldView) (scopes : List Scope) (text : List ℕ) → scopes ≡ scopes_of world → text ≡ days_over scopes world.moment.day first count → text ≡ agenda_view first count world
+unfolding agenda_view
+view_is first count world scopes text over is = is ∙ (λ i. days_over (over i) world.moment.day first count)
+
+module _ (date : List ℕ) (days : ℕ) where
+  -- the calendar has no such day
+  pub no_date : date_of date ≡ None → asked_agenda date days ≡ Unread date_fault
+  unfolding asked_agenda
+  no_date none = ap (λ (d : Option ℕ). asked_from d days) none
+
+module _ (date : List ℕ) (days first : ℕ) (there : date_of date ≡ Some first) where
+  from_there : asked_agenda date days ≡ asked_days first days
+  unfolding asked_agenda
+  from_there = ap (λ (d : Option ℕ). asked_from d days) there
+
+  pub no_days : days < 1 → asked_agenda date days ≡ Unread days_fault
+  no_days none = from_there ∙ rw (lt-leb 1 days none) refl
+
+  pub many_days : 1 ≤ days → MOST_DAYS < days → asked_agenda date days ≡ Unread days_fault
+  many_days some many = from_there ∙ rw (le-leb 1 days some, lt-leb days MOST_DAYS many) refl
+
+  pub past_days : 1 ≤ days → days ≤ MOST_DAYS → 3_652_060 < first + days → asked_agenda date days ≡ Unread days_fault
+  past_days some few past = from_there ∙ rw (le-leb 1 days some, le-leb days MOST_DAYS few, lt-leb (first + days) 3_652_060 past) refl
+
+  pub these_days : 1 ≤ days → days ≤ MOST_DAYS → first + days ≤ 3_652_060 → asked_agenda date days ≡ DayAgenda first days
+  these_days some few within = from_there ∙ rw (le-leb 1 days some, le-leb days MOST_DAYS few, le-leb (first + days) 3_652_060 within) refl

@@ -1,0 +1,128 @@
+//! Agendas over the files of a world.
+ghost use Rattle.std.specs.Prelude.{◌≡◌, ◌≢◌, ◌+◌, ◌≤◌, ℕ, string_bytes, IfErr, IfOk, OnOk, OnErr, IsOkUnless};
+ghost use Rattle.org_base.specs.Codes.{memory_fault};
+ghost use Rattle.org_agenda.specs.Headings.{AllHaveHeads};
+ghost use Rattle.org_file.specs.Counts.{AtMost, worked};
+ghost use Rattle.org_layout.specs.Days.{agenda_lines};
+ghost use Rattle.org_engine.specs.Outlines.{outlines_of};
+ghost use Rattle.org_engine.specs.Questions.{asked_agenda};
+ghost use Rattle.org_engine.specs.Sections.{section_count};
+ghost use Rattle.org_engine.specs.Step.{DayAgenda, Unread};
+ghost use Rattle.org_engine.specs.Views.{agenda_view, days_over};
+
+use crate::outlines::{inherits_of, read_world};
+use crate::world::World;
+use org_agenda::{Agenda, AllStamps, Stamps, sources_of};
+use org_base::{Code, Fault, Meter};
+use org_cal::Day;
+use org_file::FileOutline;
+use org_inherit::Inherits;
+use org_layout::agenda_text;
+use org_text::Text;
+use std::alloc::Global;
+
+/// The most days that an agenda has.
+pub const MOST_DAYS: u32 = 366;
+
+/// The text of the agenda of so many days from a date on. `Date` exactly where the calendar has no such day, `Days` exactly
+/// where it has and the days are none, more than [`MOST_DAYS`], or end past 9999-12-31, both before anything is looked at;
+/// else want of memory is the only refusal. Sections are classified and read as for a list.
+pub(crate) fn dated_text<T: Text>(
+    alloc: Global,
+    meter: &mut Meter,
+    world: &World<T>,
+    date: &str,
+    days: u64,
+) -> Result<String, Fault>
+    ensures value { IfOk result (λ text. (first : ℕ) × (count : ℕ) × (asked_agenda date.now days ≡ DayAgenda first count)
+        × (string_bytes text ≡ agenda_view first count world.now)) }
+    ensures refused { IfErr result (λ fault. fault ≢ memory_fault → asked_agenda date.now days ≡ Unread fault) }
+    ensures counts { OnOk result (meter.new ≡ worked (section_count world.now.files) (section_count world.now.files) meter.old) }
+    ensures few { OnErr result (AtMost (section_count world.now.files) meter.old meter.new) }
+{
+    let (first, count) = read_days(date, days)?;
+    days_text(alloc, meter, world, first, count)
+}
+
+// The first day and how many there are.
+fn read_days(date: &str, days: u64) -> Result<(Day, u32), Fault>
+    ensures value { IfOk result (λ asked. asked_agenda date.now days ≡ DayAgenda asked.0 asked.1) }
+    ensures within { IfOk result (λ asked. (1 ≤ asked.1) × (asked.0 + asked.1 ≤ 3_652_060)) }
+    ensures refused { IfErr result (λ fault. asked_agenda date.now days ≡ Unread fault) }
+{
+    let Some(first) = Day::spelled(date.as_bytes()) else {
+        return Err(Fault::Plain(Code::Date));
+    };
+    if days < 1 || days > MOST_DAYS as u64 {
+        return Err(Fault::Plain(Code::Days));
+    }
+    let count = days as u32;
+    if first.number() + count > 3_652_060 {
+        return Err(Fault::Plain(Code::Days));
+    }
+    Ok((first, count))
+}
+
+fn days_text<T: Text>(
+    alloc: Global,
+    meter: &mut Meter,
+    world: &World<T>,
+    first: Day,
+    count: u32,
+) -> Result<String, Fault>
+    requires within { (1 ≤ count) × (first + count ≤ 3_652_060) }
+    ensures value { IfOk result (λ text. string_bytes text ≡ agenda_view first count world.now) }
+    ensures counts { OnOk result (meter.new ≡ worked (section_count world.now.files) (section_count world.now.files) meter.old) }
+    ensures few { OnErr result (AtMost (section_count world.now.files) meter.old meter.new) }
+    ensures memory { IsOkUnless result memory_fault }
+{
+    let outlines = read_world(alloc, meter, world)?;
+    days_of(alloc, world, outlines.as_slice(), first, count)
+}
+
+fn days_of<T: Text>(
+    alloc: Global,
+    world: &World<T>,
+    outlines: &[FileOutline],
+    first: Day,
+    count: u32,
+) -> Result<String, Fault>
+    requires read { outlines.now ≡ outlines_of world.now }
+    requires within { (1 ≤ count) × (first + count ≤ 3_652_060) }
+    ensures value { IfOk result (λ text. string_bytes text ≡ agenda_view first count world.now) }
+    ensures memory { IsOkUnless result memory_fault }
+{
+    let inherits = inherits_of(alloc, world, outlines)?;
+    let agenda = agenda_of(alloc, &inherits, world.moment().day, first, count)?;
+    let mut text = String::new(alloc);
+    agenda_text(alloc, &mut text, &inherits, &agenda)?;
+    Ok(text)
+}
+
+// The agenda of these days over all stamps.
+fn agenda_of(
+    alloc: Global,
+    inherits: &Inherits<'_>,
+    today: Day,
+    first: Day,
+    count: u32,
+) -> Result<Agenda, Fault>
+    requires heads { AllHaveHeads inherits.now }
+    requires within { (1 ≤ count) × (first + count ≤ 3_652_060) }
+    ensures value { IfOk result (λ agenda. agenda_lines inherits.now agenda ≡ days_over inherits.now today first count) }
+    ensures memory { IsOkUnless result memory_fault }
+{
+    let sources = sources_of(alloc, inherits)?;
+    let stamps = AllStamps {
+        sources: sources.as_slice(),
+    };
+    let near = stamps.near(alloc, first, last_of(first, count), today)?;
+    Ok(Agenda::new(near, today, first, count))
+}
+
+fn last_of(first: Day, count: u32) -> Day
+    requires within { (1 ≤ count) × (first + count ≤ 3_652_060) }
+    ensures value { result + 1 ≡ first + count }
+{
+    Day::of_number(first.number() as u64 + count as u64 - 1).unwrap()
+}
