@@ -1,9 +1,9 @@
 -- A number and its decimal text.
-use Rattle.std.proofs.Common.{◌≡◌, ◌∙◌, ◌↔◌, ℕ, zero, suc, ◌+◌, ◌-◌, ◌*◌, ◌^◌, ◌<◌, ◌≤◌, Bool, true, false, ◌&&◌, ◌==◌, nat_le, if◌then◌else◌, Option, Some, None, List, [], ◌∷◌, length, get_or, refl, sym, ap, subst, inl, inr, arith}
+use Rattle.std.proofs.Common.{◌≡◌, ◌∙◌, ℕ, zero, suc, ◌+◌, ◌-◌, ◌*◌, ◌^◌, ◌<◌, ◌≤◌, Bool, true, false, ◌&&◌, ◌==◌, nat_le, Some, None, List, [], ◌∷◌, length, get_or, refl, sym, ap, inl, inr, arith}
 use Rattle.std.specs.Prelude.{decimal}
 use Rattle.std.specs.Str.Parse.{digits_value}
-use Rattle.core.specs.Str.Parse.{AllDigits, digits_value_after}
-use Rattle.core.specs.Char.{digit_value}
+use Rattle.std.specs.Str.Parse.{AllDigits, digits_value_after}
+use Rattle.std.specs.Char.{digit_value}
 use Rattle.std.proofs.lemmas.Bool.{cases_Bool}
 use Rattle.std.proofs.lemmas.Bool.Decides.{nat_tests}
 use Rattle.std.proofs.lemmas.Fmt.{decimal-digits_value, decimal_digit, decimal_nonempty, digits_decimal, digits_value-decimal, first_decimal}
@@ -36,12 +36,12 @@ digits_read m n (d ∷ ds) e = elim (cases_Bool (goes_on m d)) [
   | inl yes' ↦
       let is : (48 ≤ d) × (d ≤ 57) × (10 * m + (d - 48) ≤ most_number) = grind (arith, nat_tests, yes') in
       let r = digits_read (10 * m + (d - 48)) n ds (rw yes' at e) in
-      let own : digit_value d ≡ d - 48 = digit_value_digit d (is.0, is.1.0) in
+      let own = digit_value_digit d (is.0, is.1) in
       let next : m * 10 + digit_value d ≡ 10 * m + (d - 48) = omega arith in
       record {
         digits = (omega arith, r.digits);
         value = ap (λ k. digits_value_after 10 k ds) next ∙ r.value;
-        most = λ _. r.most is.1.1;
+        most = λ _. r.most is.2;
       }
   | inr no' ↦ let none : None ≡ Some n = rw no' at e in absurd cc
 ]
@@ -54,7 +54,7 @@ read_digits : (m : ℕ) (ds : List ℕ) → AllDigits 10 ds → digits_value_aft
 read_digits m [] digits le = refl
 read_digits m (d ∷ ds) digits le =
     let is = digit_from_value d digits.0 in
-    let own : digit_value d ≡ d - 48 = digit_value_digit d is in
+    let own = digit_value_digit d is in
     let next : m * 10 + digit_value d ≡ 10 * m + (d - 48) = omega arith in
     let more = le_value_after (m * 10 + digit_value d) ds in
     let yes' : goes_on m d ≡ true = grind (arith, nat_tests, is, next, more, le) in
