@@ -4,7 +4,8 @@
 //!     bench parts PROGRAM        parts of the engine on their own, by the program `org_measure`
 //!     bench plain                answers the commands `add`, `text`, `todo` and some `match` of standard input
 //!     bench text BYTES           an Org file of that many bytes
-//!     bench KIND PLACE COUNT     the lines of the text of standard input after so many edits: KIND is `vector` or `rope`
+//!     bench KIND PLACE COUNT READS  the lines of the text of standard input after so many edits, read so many times: KIND
+//!                                is `vector` or `rope`
 //!     bench list ITEMS COUNT     how many items a tree of so many has after so many of them were replaced
 //!     bench cost FILE PROGRAM .. seconds and KiB of one run of a program over a file
 mod rope;
@@ -12,6 +13,7 @@ mod rope;
 use rope::Rope;
 use std::collections::{HashMap, HashSet};
 use std::fs::File;
+use std::hint::black_box;
 use std::io::{self, BufRead, BufReader, Read, Write};
 use std::os::unix::process::ExitStatusExt;
 use std::process::{Child, Command, Stdio};
@@ -34,7 +36,7 @@ fn main() -> io::Result<()> {
             println!("{}", rope::size_after(args[2].parse().unwrap(), args[3].parse().unwrap()));
             Ok(())
         }
-        Some(kind @ ("vector" | "rope")) => edits(kind, &args[2], args[3].parse().unwrap()),
+        Some(kind @ ("vector" | "rope")) => edits(kind, &args[2], args[3].parse().unwrap(), args[4].parse().unwrap()),
         _ => panic!("bench measure PROGRAM | parts PROGRAM | plain | text BYTES | cost FILE PROGRAM .."),
     }
 }
@@ -350,23 +352,24 @@ fn parts(program: &str, own: &str) -> io::Result<()> {
     std::fs::remove_file(&path)
 }
 
-// Edits of one byte and their lines, in both kinds of text and in plain Rust; then lists. The least of several runs, with
-// that of a run without edits taken off.
+// Edits of one byte in both kinds of text and in plain Rust, and lines of what came out; then lists. The least of several
+// runs, with that of a run that does the rest alone taken off.
 fn edit_parts(program: &str, own: &str, path: &str) -> io::Result<()> {
     const EDITS: u64 = 20_000;
-    let count = EDITS.to_string();
-    println!("{EDITS} edits of one byte, each in microseconds, and the peak memory; then the lines of what came out, in seconds");
+    const READS: u64 = 20;
+    let (edits, reads) = (EDITS.to_string(), READS.to_string());
+    println!("{EDITS} edits of one byte: microseconds for each, milliseconds for the lines afterwards, and the peak memory");
     for bytes in [80_000, 800_000, 8_000_000] {
         std::fs::write(path, text(bytes))?;
         for place in ["typed", "random"] {
             print!("{:>6} KB {place:<7}", bytes / 1000);
-            for (name, command, kind) in
-                [("pieces", program, "pieces"), ("whole", program, "whole"), ("vector", own, "vector"), ("rope", own, "rope")]
-            {
-                let none = part(own, command, &[kind, place, "0"], path)?;
-                let all = part(own, command, &[kind, place, &count], path)?;
-                let each = (all.seconds - none.seconds) / EDITS as f64 * 1e6;
-                print!("   {name} {each:>8.3} {:>5.1} MiB {:>7.4} s", all.kib as f64 / 1024.0, none.seconds);
+            for (command, kind) in [(program, "pieces"), (program, "whole"), (own, "vector"), (own, "rope")] {
+                let none = part(own, command, &[kind, place, "0", "0"], path)?;
+                let edited = part(own, command, &[kind, place, &edits, "0"], path)?;
+                let read = part(own, command, &[kind, place, &edits, &reads], path)?;
+                let each = (edited.seconds - none.seconds) / EDITS as f64 * 1e6;
+                let lines = (read.seconds - edited.seconds) / READS as f64 * 1e3;
+                print!("   {kind} {each:>8.3} {lines:>6.2} {:>5.1} MiB", edited.kib as f64 / 1024.0);
             }
             println!();
         }
@@ -375,7 +378,7 @@ fn edit_parts(program: &str, own: &str, path: &str) -> io::Result<()> {
     for items in ["65000", "1300000"] {
         for (name, command, kind) in [("sequence", program, "sequence"), ("tree of Rc", own, "list")] {
             let none = part(own, command, &[kind, items, "0"], path)?;
-            let all = part(own, command, &[kind, items, &count], path)?;
+            let all = part(own, command, &[kind, items, &edits], path)?;
             let each = (all.seconds - none.seconds) / EDITS as f64 * 1e6;
             let room = none.kib as f64 * 1024.0 / items.parse::<f64>().unwrap();
             println!("{items:>8} items, {name:<10} made in {:.4} s, {room:.0} bytes an item, one replaced in {each:.3} microseconds", none.seconds);
@@ -384,8 +387,8 @@ fn edit_parts(program: &str, own: &str, path: &str) -> io::Result<()> {
     Ok(())
 }
 
-// The lines of the text of standard input after so many edits, each of which puts one byte in.
-fn edits(kind: &str, place: &str, count: u64) -> io::Result<()> {
+// The lines of the text of standard input after so many edits, each of which puts one byte in, read so many times.
+fn edits(kind: &str, place: &str, count: u64, reads: u64) -> io::Result<()> {
     let mut text = Vec::new();
     io::stdin().read_to_end(&mut text)?;
     let middle = text.len() / 2;
@@ -394,19 +397,24 @@ fn edits(kind: &str, place: &str, count: u64) -> io::Result<()> {
         let random = rope::next(&mut seed) as usize;
         if place == "typed" { middle + edit as usize } else { random % (len + 1) }
     };
-    let lines = if kind == "rope" {
+    let mut lines = 0;
+    if kind == "rope" {
         let mut rope = Rope::of(&text);
         for edit in 0..count {
             rope.insert(at(edit, rope.len()), b"x");
         }
-        rope.lines()
+        for _read in 0..reads {
+            lines = black_box(&rope).lines();
+        }
     } else {
         for edit in 0..count {
             let place = at(edit, text.len());
             text.splice(place..place, *b"x");
         }
-        text.split_inclusive(|byte| *byte == b'\n').count()
-    };
+        for _read in 0..reads {
+            lines = black_box(&text).split_inclusive(|byte| *byte == b'\n').count();
+        }
+    }
     println!("{lines}");
     Ok(())
 }

@@ -4,9 +4,10 @@
 //!     org_measure occurrences UNIT near     of a million questions whether a stamp of 0001-01-01 that repeats by one
 //!     org_measure occurrences UNIT far      unit (h, d, w, m, y) occurs on a day, how many are answered yes: on the first
 //!                                           thousand days of the calendar in turn, or on the last thousand
-//!     org_measure KIND PLACE COUNT < TEXT   how many lines an ASCII text has after so many edits, each of which puts one
-//!                                           byte in: KIND is `whole` or `pieces`, PLACE `random`, or `typed`, one byte
-//!                                           behind the other from the middle on
+//!     org_measure KIND PLACE COUNT READS < TEXT
+//!                                           how many lines an ASCII text has after so many edits, each of which puts one
+//!                                           byte in, read so many times: KIND is `whole` or `pieces`, PLACE `random`, or
+//!                                           `typed`, one byte behind the other from the middle on
 //!     org_measure sequence ITEMS COUNT      the size of a sequence of so many items, of which so many were replaced
 //!     org_measure stream DATE TIME          the replies to the commands of standard input, over texts in one string each
 #![tactic(auto)]
@@ -20,7 +21,7 @@ ghost use Rattle.org_stamp.specs.Line.{stamps_of};
 
 use crate::sequences::size_after;
 use crate::streams::answer;
-use crate::texts::{Place, lines_after};
+use crate::texts::{Place, Work, lines_after};
 use org_base::Fault;
 use org_cal::Day;
 use org_pieces::Pieces;
@@ -46,7 +47,7 @@ const FIRST_FAR: u64 = 3_651_060;
 enum Part<'a> {
     Stamps,
     Occurrences { unit: &'a str, is_far: bool },
-    Edits { is_whole: bool, place: Place, count: u64 },
+    Edits { is_whole: bool, work: Work },
     Sequence { items: u32, count: u64 },
     Stream { date: &'a str, time: &'a str },
 }
@@ -73,11 +74,9 @@ fn measure<R: AllocGlobal + Input + Print>(rt: &R, part: Part<'_>) -> Option<()>
     let count = match part {
         Part::Stamps => count_stamps(read_all(rt)?.as_slice()) as u64,
         Part::Occurrences { unit, is_far } => count_occurrences(unit, is_far),
-        Part::Edits {
-            is_whole,
-            place,
-            count,
-        } => count_lines(rt.alloc(), &read_all(rt)?, is_whole, place, count)?,
+        Part::Edits { is_whole, work } => {
+            count_lines(rt.alloc(), &read_all(rt)?, is_whole, work)?
+        }
         Part::Sequence { items, count } => size_after(rt.alloc(), items, count).ok()?,
         Part::Stream { date, time } => return answer(rt, date, time),
     };
@@ -98,6 +97,9 @@ fn asked(words: &[String]) -> Option<Part<'_>> {
     if words.len() == 2 && words[1].as_str() == "stamps" {
         return Some(Part::Stamps);
     }
+    if words.len() == 5 {
+        return edits_asked(words);
+    }
     if words.len() != 4 {
         return None;
     }
@@ -115,12 +117,21 @@ fn asked(words: &[String]) -> Option<Part<'_>> {
             date: second,
             time: third,
         }),
-        kind => Some(Part::Edits {
-            is_whole: kind == "whole",
-            place: place_of(second)?,
-            count: third.parse().ok()?,
-        }),
+        _ => None,
     }
+}
+
+fn edits_asked(words: &[String]) -> Option<Part<'_>>
+    requires { length words.now ≡ 5 }
+{
+    Some(Part::Edits {
+        is_whole: words[1].as_str() == "whole",
+        work: Work {
+            place: place_of(words[2].as_str())?,
+            edits: words[3].as_str().parse().ok()?,
+            reads: words[4].as_str().parse().ok()?,
+        },
+    })
 }
 
 fn place_of(word: &str) -> Option<Place> {
@@ -131,28 +142,16 @@ fn place_of(word: &str) -> Option<Place> {
     }
 }
 
-fn count_lines(
-    alloc: Global,
-    text: &[u8],
-    is_whole: bool,
-    place: Place,
-    count: u64,
-) -> Option<u64> {
+fn count_lines(alloc: Global, text: &[u8], is_whole: bool, work: Work) -> Option<u64> {
     let text = str::from_utf8(text).ok()?;
-    lines_of(alloc, text, is_whole, place, count).ok()
+    lines_of(alloc, text, is_whole, work).ok()
 }
 
-fn lines_of(
-    alloc: Global,
-    text: &str,
-    is_whole: bool,
-    place: Place,
-    count: u64,
-) -> Result<u64, Fault> {
+fn lines_of(alloc: Global, text: &str, is_whole: bool, work: Work) -> Result<u64, Fault> {
     if is_whole {
-        lines_after::<Whole>(alloc, text, place, count)
+        lines_after::<Whole>(alloc, text, work)
     } else {
-        lines_after::<Pieces>(alloc, text, place, count)
+        lines_after::<Pieces>(alloc, text, work)
     }
 }
 

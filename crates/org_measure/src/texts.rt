@@ -14,16 +14,23 @@ pub enum Place {
     Typed,
 }
 
-/// How many lines an ASCII text has after so many edits, each of which puts one byte in.
-pub fn lines_after<T: Text>(
-    alloc: Global,
-    text: &str,
-    place: Place,
-    edits: u64,
-) -> Result<u64, Fault> {
+/// Work on a text: so many edits, each of which puts one byte in, and then its lines, read so many times.
+#[derive(Clone, Copy)]
+pub struct Work {
+    pub place: Place,
+    pub edits: u64,
+    pub reads: u64,
+}
+
+/// How many lines an ASCII text has after the edits; 0 where they are never read.
+pub fn lines_after<T: Text>(alloc: Global, text: &str, work: Work) -> Result<u64, Fault> {
     let mut text = T::of(alloc, text)?;
-    edit(&mut text, place, edits)?;
-    count_lines(alloc, &text)
+    edit(&mut text, work.place, work.edits)?;
+    let mut count = 0;
+    for _read in 0..work.reads {
+        count = count_lines(alloc, &text)?;
+    }
+    Ok(count)
 }
 
 fn edit<T: Text>(text: &mut T, place: Place, edits: u64) -> Result<(), Fault> {

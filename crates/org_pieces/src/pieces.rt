@@ -76,7 +76,8 @@ impl Text for Pieces {
         for piece in self.pieces.iter() {
             bytes.extend_from_slice(piece.bytes())?;
         }
-        Ok(String::from_utf8(bytes).unwrap())
+        // The invariant says that they are UTF-8: looking again takes a third of a copy's time.
+        Ok(unsafe { String::from_utf8_unchecked(bytes) })
     }
 
     #[tactic(auto, using(crate::proofs::Contents::run_goes_on, crate::proofs::Contents::run_len_within, crate::proofs::Contents::run_len_past))]
