@@ -5,3 +5,4 @@ pub mod TagLemmas
 pub mod StampLemmas
 pub mod SourceLemmas
 pub mod NearLemmas
+pub mod SpreadLemmas
