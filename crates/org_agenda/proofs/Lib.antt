@@ -6,3 +6,4 @@ pub mod StampLemmas
 pub mod SourceLemmas
 pub mod NearLemmas
 pub mod SpreadLemmas
+pub mod DayLemmas

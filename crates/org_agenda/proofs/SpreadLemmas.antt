@@ -37,7 +37,7 @@ and_no : (a : Bool) → (a && false) ≡ false
 and_no true = refl
 and_no false = refl
 
-none_shown : (kind : RowKind) (s : Source) (t d : ℕ) → is_shown kind s t d ≡ false → kind_rows kind s t d ≡ []
+pub none_shown : (kind : RowKind) (s : Source) (t d : ℕ) → is_shown kind s t d ≡ false → kind_rows kind s t d ≡ []
 none_shown kind s t d miss = rw miss refl
 
 no_range : (s : Stamp) (last : Option (ℕ × Option ℕ)) (d : ℕ) → occurs_in s last d ≡ false → is_in_range s last d ≡ false
