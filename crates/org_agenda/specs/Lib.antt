@@ -5,6 +5,7 @@ pub mod Lists
 pub mod Gathered
 pub mod Days
 pub mod Sources
+pub mod Spread
 pub mod Verdicts
 pub mod Chosen
 pub mod Laws

@@ -117,7 +117,7 @@ fn agenda_of(
         sources: sources.as_slice(),
     };
     let near = stamps.near(alloc, first, last_of(first, count), today)?;
-    Ok(Agenda::new(near, today, first, count))
+    Agenda::new(alloc, near, today, first, count)
 }
 
 fn last_of(first: Day, count: u32) -> Day

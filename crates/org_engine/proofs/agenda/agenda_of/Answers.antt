@@ -1,8 +1,9 @@
 use Rattle.std.proofs.Common.{◌∙◌}
+use Rattle.std.proofs.lemmas.Result.{IfOk-weaker}
 use Rattle.org_engine.proofs.AgendaLemmas.{same_days}
 use Rattle.org_engine.proofs.agenda.agenda_of.Goals as goal
 
 pub returns-clause-value : goal.returns-clause-value
 returns-clause-value c =
-    same_days c.args.inherits.now c.in_ok-near.near.items c.as_slice.result.now c.args.today c.args.first c.args.count c.last_of.result
-    (c.as_slice.ensures.value ∙ c.in_ok-sources.ensures.value) c.last_of.ensures.value c.in_ok-near.ensures.rows c.new.result c.new.ensures.value
+    IfOk-weaker c.new.result _ _ (λ agenda is. same_days c.args.inherits.now c.in_ok-near.near.items c.as_slice.result.now c.args.today c.args.first c.args.count c.last_of.result
+    (c.as_slice.ensures.value ∙ c.in_ok-sources.ensures.value) c.last_of.ensures.value c.in_ok-near.ensures.rows agenda is) c.new.ensures.value

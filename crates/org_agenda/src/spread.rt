@@ -1,0 +1,164 @@
+//! Stamps by the days on which they may give rows.
+ghost use Rattle.std.specs.Prelude.{◌≡◌, ℕ, ◌+◌, ◌<◌, ◌≤◌, Some, true, false, IfOk, OnOk, length, slice_get};
+ghost use Rattle.org_agenda.specs.Days.{is_due, occurs_delayed, occurs_later};
+ghost use Rattle.org_agenda.specs.declared.spread.TheConstants.{NEVER};
+ghost use Rattle.org_agenda.specs.Spread.{AreSpread, GiveMore, GivesNone};
+ghost use Rattle.org_cal.specs.Days.{IsDay};
+ghost use Rattle.org_repeat.specs.Decided.{occurs};
+
+use crate::places::Places;
+use crate::shows::days;
+use crate::source::{Role, Source};
+use org_cal::Day;
+use org_repeat::first_on;
+use org_stamp::{Delay, Stamp};
+use std::alloc::{AllocError, Global};
+
+// A number past each day's.
+const NEVER: u32 = 3_652_060;
+
+// The places of the stamps, given to those of so many days on which they may give rows.
+pub(crate) fn spread(
+    alloc: Global,
+    sources: &[Source],
+    today: Day,
+    first: Day,
+    count: u32,
+) -> Result<Places, AllocError>
+    requires { first + count ≤ 3_652_060 }
+    ensures value { IfOk result (λ places. AreSpread sources.now today first places sources.now) }
+    ensures count { IfOk result (λ places. length places ≡ count) }
+{
+    let mut places = Places::new(alloc, count as usize)?;
+    for (place, source) in sources.iter().enumerate() {
+        give(&mut places, sources, place, source, today, first)?;
+    }
+    Ok(places)
+}
+
+// Gives the place of a stamp to the days on which it may give a row.
+fn give(
+    places: &mut Places,
+    sources: &[Source],
+    place: usize,
+    source: &Source,
+    today: Day,
+    first: Day,
+) -> Result<(), AllocError>
+    requires is { slice_get sources.now place ≡ Some source.now }
+    requires within { first + length places.old ≤ 3_652_060 }
+    ensures ok { OnOk result (GiveMore sources.now today first places.old places.new source.now) }
+    ensures count { OnOk result (length places.new ≡ length places.old) }
+{
+    let mut next = first.number();
+    for _turn in 0..places.count() {
+        let day = next_shown(source, today, next);
+        let ahead = (day - first.number()) as usize;
+        if ahead >= places.count() {
+            return Ok(());
+        }
+        places.add(ahead, place)?;
+        next = day + 1;
+    }
+    Ok(())
+}
+
+// The first day, from one on, on which the stamp may give a row.
+fn next_shown(source: &Source, today: Day, from: u32) -> u32
+    requires { (1 ≤ from) × (from ≤ NEVER) }
+    ensures late { from ≤ result }
+    ensures none { GivesNone source.now today from result }
+{
+    let stamp = &source.stamp;
+    match source.role {
+        Role::Plain => next_on(stamp, from),
+        Role::Scheduled => earlier(
+            next_delayed(stamp, stamp.delay, from),
+            next_due(source, today, from),
+        ),
+        Role::Deadline => earlier(next_on(stamp, from), next_due(source, today, from)),
+    }
+}
+
+fn earlier(a: u32, b: u32) -> u32
+    ensures first { result ≤ a }
+    ensures second { result ≤ b }
+    ensures late { (from : ℕ) → from ≤ a → from ≤ b → from ≤ result }
+{
+    if a < b { a } else { b }
+}
+
+// The first day, from one on, on which the stamp occurs.
+fn next_on(stamp: &Stamp, from: u32) -> u32
+    requires { (1 ≤ from) × (from ≤ NEVER) }
+    ensures late { from ≤ result }
+    ensures most { result ≤ NEVER }
+    ensures none { (e : ℕ) → IsDay e → from ≤ e → e < result → occurs stamp.now e ≡ false }
+{
+    // For the proof alone: the stamp's own day is a day.
+    let _base = stamp.day.number();
+    let Some(from) = Day::of_number(from as u64) else {
+        return NEVER;
+    };
+    match first_on(stamp, from) {
+        Some(day) => day.number(),
+        None => NEVER,
+    }
+}
+
+// The same with the stamp's delay.
+fn next_delayed(stamp: &Stamp, delay: Option<Delay>, from: u32) -> u32
+    requires { (1 ≤ from) × (from ≤ NEVER) }
+    ensures late { from ≤ result }
+    ensures none { (e : ℕ) → IsDay e → from ≤ e → e < result → occurs_delayed stamp.now delay e ≡ false }
+{
+    let Some(delay) = delay else {
+        return next_on(stamp, from);
+    };
+    let later = days(delay.unit, delay.n);
+    match delay.first_only {
+        true => next_but_base(stamp, later, from),
+        false => next_later(stamp, later, from),
+    }
+}
+
+// The same where the base day alone is so many days later.
+fn next_but_base(stamp: &Stamp, later: u32, from: u32) -> u32
+    requires from { (1 ≤ from) × (from ≤ NEVER) }
+    requires small { later < 30_000_000 }
+    ensures late { from ≤ result }
+    ensures none { (e : ℕ) → IsDay e → from ≤ e → e < result → occurs_later true stamp.now later e ≡ false }
+{
+    let base = stamp.day.number() + later;
+    let next = next_on(stamp, from);
+    if base < from {
+        return next;
+    }
+    earlier(next, base)
+}
+
+// The same where each occurrence is so many days later.
+fn next_later(stamp: &Stamp, later: u32, from: u32) -> u32
+    requires from { (1 ≤ from) × (from ≤ NEVER) }
+    requires small { later < 30_000_000 }
+    ensures late { from ≤ result }
+    ensures none { (e : ℕ) → IsDay e → from ≤ e → e < result → occurs_later false stamp.now later e ≡ false }
+{
+    if from <= later {
+        return next_on(stamp, 1) + later;
+    }
+    next_on(stamp, from - later) + later
+}
+
+// Today, from a day on, if the heading is open.
+fn next_due(source: &Source, today: Day, from: u32) -> u32
+    requires { from ≤ NEVER }
+    ensures late { from ≤ result }
+    ensures none { (e : ℕ) → IsDay e → from ≤ e → e < result → is_due source.now today e ≡ false }
+{
+    if source.owner.is_open && from <= today.number() {
+        today.number()
+    } else {
+        NEVER
+    }
+}
