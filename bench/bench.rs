@@ -2,9 +2,11 @@
 //!
 //!     bench measure PROGRAM      the table: both programs in turn, the least of several runs
 //!     bench parts PROGRAM        parts of the engine on their own, by the program `org_measure`
-//!     bench plain                answers the commands `add`, `text`, `todo` and some `match` of standard input
+//!     bench plain                answers the commands `add`, `text`, `todo`, some `match` and `agenda` of standard input
 //!     bench text BYTES           an Org file of that many bytes
 //!     bench cost FILE PROGRAM .. seconds and KiB of one run of a program over a file
+mod agenda;
+
 use std::collections::{HashMap, HashSet};
 use std::fs::File;
 use std::io::{self, BufRead, BufReader, Read, Write};
@@ -227,6 +229,7 @@ fn measure(program: &str, own: &str) -> io::Result<()> {
     for question in ["match x", "match {x}"] {
         measure_question(program, own, &stream, &format!("{question}, many tags"), &text, question)?;
     }
+    agenda::measure(program, own, &stream)?;
     std::fs::remove_dir_all(&folder)
 }
 
@@ -370,6 +373,11 @@ fn plain() -> io::Result<()> {
             }
             ["match", expression] => {
                 let view = list(&files, Question::of(expression));
+                write!(output, "view {}\n{view}", view.len())?;
+            }
+            ["agenda", date, days] => {
+                let (first, count) = (agenda::day_of(date).expect("a date"), days.parse().expect("days"));
+                let view = agenda::agenda(&files, first, count);
                 write!(output, "view {}\n{view}", view.len())?;
             }
             _ => writeln!(output, "err 2 command")?,
