@@ -2,12 +2,13 @@
 //!
 //!     bench measure PROGRAM      the table: both programs in turn, the least of several runs
 //!     bench parts PROGRAM        parts of the engine on their own, by the program `org_measure`
-//!     bench plain                answers the commands `add`, `text`, `todo` and some `match` of standard input
+//!     bench plain                answers the commands `add`, `text`, `todo`, some `match` and `agenda` of standard input
 //!     bench text BYTES           an Org file of that many bytes
 //!     bench KIND PLACE COUNT READS  the lines of the text of standard input after so many edits, read so many times: KIND
 //!                                is `vector` or `rope`
 //!     bench list ITEMS COUNT     how many items a tree of so many has after so many of them were replaced
 //!     bench cost FILE PROGRAM .. seconds and KiB of one run of a program over a file
+mod agenda;
 mod rope;
 
 use rope::Rope;
@@ -239,6 +240,7 @@ fn measure(program: &str, own: &str) -> io::Result<()> {
     for question in ["match x", "match {x}"] {
         measure_question(program, own, &stream, &format!("{question}, many tags"), &text, question)?;
     }
+    agenda::measure(program, own, &stream)?;
     std::fs::remove_dir_all(&folder)
 }
 
@@ -450,6 +452,11 @@ fn plain() -> io::Result<()> {
             }
             ["match", expression] => {
                 let view = list(&files, Question::of(expression));
+                write!(output, "view {}\n{view}", view.len())?;
+            }
+            ["agenda", date, days] => {
+                let (first, count) = (agenda::day_of(date).expect("a date"), days.parse().expect("days"));
+                let view = agenda::agenda(&files, first, count);
                 write!(output, "view {}\n{view}", view.len())?;
             }
             _ => writeln!(output, "err 2 command")?,
