@@ -1,8 +1,8 @@
 //! Texts in pieces beside strings.
-use org_base::{Fault, Span};
+use org_base::{Code, Fault, Span};
 use org_lines::Lines;
 use org_pieces::Pieces;
-use org_text::Text;
+use org_text::{Text, Whole};
 use std::alloc::Global;
 use std::test::Fail;
 
@@ -12,7 +12,7 @@ fn next(seed: u64) -> u64 {
 }
 
 // How many lines the text has, and how many bytes these have together.
-fn lines_and_bytes(alloc: Global, text: &Pieces) -> Result<(u32, usize), Fault> {
+fn lines_and_bytes<T: Text>(alloc: Global, text: &T) -> Result<(u32, usize), Fault> {
     let span = Span {
         at: 0,
         len: text.len() as u32,
@@ -25,7 +25,7 @@ fn lines_and_bytes(alloc: Global, text: &Pieces) -> Result<(u32, usize), Fault> 
     Ok((lines, bytes))
 }
 
-fn has_content(alloc: Global, text: &Pieces, want: &str) -> Result<bool, Fault> {
+fn has_content<T: Text>(alloc: Global, text: &T, want: &str) -> Result<bool, Fault> {
     let (lines, bytes) = lines_and_bytes(alloc, text)?;
     let last = u32::from(!want.is_empty() && !want.ends_with("\n"));
     let feeds = want
@@ -92,6 +92,34 @@ fn typed_into_the_middle(alloc: Global) -> Result<bool, Fault> {
 #[test]
 fn typed_and_deleted(rt: HostRuntime) -> Result<(), Fail> {
     assert!(rt; typed_into_the_middle(rt.alloc())?);
+    Ok(())
+}
+
+// Types a heading behind a text, key by key, and looks at the text after each of them; then nothing may be put into its
+// last letter.
+fn types_keys<T: Text>(alloc: Global, text: &mut T, typed: &mut String) -> Result<bool, Fault> {
+    for key in ["*", " ", "T", "O", "D", "O", " ", "\u{e9}", "\n"] {
+        text.edit(text.len() as u64, 0, key)?;
+        typed.push_str(key)?;
+        if !has_content(alloc, text, typed.as_str())? {
+            return Ok(false);
+        }
+    }
+    let inside = (text.len() as u64).wrapping_sub(2);
+    let refused = text.edit(inside, 0, "x");
+    Ok(refused == Err(Fault::Plain(Code::Boundary)) && has_content(alloc, text, typed.as_str())?)
+}
+
+fn types_a_heading<T: Text>(alloc: Global) -> Result<bool, Fault> {
+    let mut text = T::of(alloc, FRONT)?;
+    let mut typed = String::from_str(alloc, FRONT)?;
+    types_keys(alloc, &mut text, &mut typed)
+}
+
+#[test]
+fn a_heading_key_by_key(rt: HostRuntime) -> Result<(), Fail> {
+    assert!(rt; types_a_heading::<Pieces>(rt.alloc())?);
+    assert!(rt; types_a_heading::<Whole>(rt.alloc())?);
     Ok(())
 }
 
