@@ -9,6 +9,7 @@ mod kept;
 mod lists;
 mod outlines;
 mod question;
+mod table;
 mod world;
 
 pub use engine::{Engine, LAST_SERIAL, MOST_FILES};

@@ -18,6 +18,8 @@ pub enum Command {
     Todo(Texts),
     /// `match EXPR`: asks for the match list of an expression, which is the rest of the line and may be empty.
     Match(Expression),
+    /// `clock OPTIONS`: asks for the clock table of options, which are the rest of the line and may be empty.
+    Clock(Expression),
 }
 
 /// What comes next on a stream.

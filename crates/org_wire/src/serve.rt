@@ -29,6 +29,7 @@ pub(crate) fn serve<T: Text>(engine: &mut Engine<T>, command: Command) -> Reply
         },
         Command::Todo(words) => ask(engine, View::Todo(&words)),
         Command::Match(text) => ask(engine, View::Match(text.as_str())),
+        Command::Clock(text) => ask(engine, View::Clock(text.as_str())),
     }
 }
 

@@ -1,7 +1,7 @@
 use Rattle.std.proofs.Common.{◌∙◌, ℕ, ap, refl, subst}
 use Rattle.std.specs.Prelude.{Vec, string_bytes}
 use Rattle.std.specs.Global.{Global}
-use Rattle.org_engine.specs.Questions.{AsksMatch}
+use Rattle.org_engine.specs.Questions.{AsksMatch, AsksTable}
 use Rattle.org_engine.specs.Step as step
 use Rattle.org_wire.specs.declared.reply.Reply.TheVariants as reply
 use Rattle.org_wire.proofs.ServeLemmas.{refuses, serves, shows}
@@ -47,7 +47,12 @@ returns-in-Todo g c = record {
   value = rw c.in-Todo.is (shows _ _ _ _ c.ask.result (λ question asks. ap step.Ask asks) c.ask.ensures.value);
 }
 
+pub returns-in-Match : goal.returns-in-Match
+returns-in-Match g c = record {
+  value = rw c.in-Match.is (shows _ _ _ _ c.ask-in-Match.result (λ question asks. (question, subst (λ t. AsksMatch t question) c.as_str-in-Match.ensures.value asks, refl)) c.ask-in-Match.ensures.value);
+}
+
 pub returns : goal.returns
 returns g c = record {
-  value = rw c.in-Match.is (shows _ _ _ _ c.ask-in-Match.result (λ question asks. (question, subst (λ t. AsksMatch t question) c.as_str-in-Match.ensures.value asks, refl)) c.ask-in-Match.ensures.value);
+  value = rw c.in-Clock.is (shows _ _ _ _ c.ask-in-Clock.result (λ question asks. (question, subst (λ t. AsksTable t c.args.engine.now.state.world.moment.day question) c.as_str-in-Clock.ensures.value asks, refl)) c.ask-in-Clock.ensures.value);
 }
