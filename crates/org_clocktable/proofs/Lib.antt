@@ -1,3 +1,4 @@
 pub mod Cuts
 pub mod CountLemmas
 pub mod TableLemmas
+pub mod LawLemmas

@@ -3,6 +3,7 @@
 
 mod asked;
 mod counted;
+pub mod laws;
 mod options;
 mod row;
 mod rows;

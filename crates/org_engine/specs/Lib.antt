@@ -5,3 +5,4 @@ pub mod Views
 pub mod Sections
 pub mod Step
 pub mod Questions
+pub mod Tables

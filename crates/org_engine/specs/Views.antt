@@ -1,10 +1,19 @@
--- Views of a world (Org manual 9.6, Weekly/daily agenda; The Global TODO List; Matching tags and properties).
-use Rattle.std.specs.Prelude.{ℕ, List}
+-- Views of a world (Org manual 9.6, Weekly/daily agenda; The Global TODO List; Matching tags and properties; The clock
+-- table).
+use Rattle.std.specs.Prelude.{ℕ, List, Bool, true, if◌then◌else◌, [], ◌∷◌, map, Option, None, Some, filter, bytes_eq}
 use Rattle.org_agenda.specs.Sources.{sources_of}
 use Rattle.org_agenda.specs.Lists.{Listing, list_rows}
 use Rattle.org_inherit.specs.Scope.{Scope}
 use Rattle.org_layout.specs.Days.{agenda_lines}
+use Rattle.std.specs.List.{concat}
+use Rattle.org_cal.specs.Pieces.{pieces}
+use Rattle.org_cal.specs.declared.moment.Moment.{Moment}
+use Rattle.org_clocktable.specs.Asked.{Asked}
+use Rattle.org_clocktable.specs.Counted.{Counted, counted_of}
+use Rattle.org_clocktable.specs.Table.{step_rows}
+use Rattle.org_expression.specs.Grammar.{Expr}
 use Rattle.org_layout.specs.Lines.{list_lines}
+use Rattle.org_layout.specs.Tables.{step_lines}
 use Rattle.org_engine.specs.Outlines.{scopes_of}
 use Rattle.org_engine.specs.World.{WorldView}
 
@@ -19,3 +28,32 @@ days_over scopes today first count = agenda_lines scopes (record { sources = sou
 -- the text of an agenda at the world's moment
 unfoldable pub agenda_view : ℕ → ℕ → WorldView → List ℕ
 agenda_view first count world = days_over (scopes_of world) world.moment.day first count
+
+-- a table is over this file: over all, or over the one that it names
+abbrev pub is_wanted : Option (List ℕ) → List ℕ → Bool
+is_wanted None name = true
+is_wanted (Some wanted) name = bytes_eq wanted name
+
+-- a file, if a table is over it
+abbrev pub wanted_scope : Option (List ℕ) → Scope → List Scope
+wanted_scope file scope = if is_wanted file scope.file then scope ∷ [] else []
+
+-- the files that a table is over
+abbrev pub scopes_named : Option (List ℕ) → List Scope → List Scope
+scopes_named file scopes = filter (λ (scope : Scope). is_wanted file scope.file) scopes
+
+-- the text of a step: its line, and those of its rows
+unfoldable pub step_text : Asked Expr → List Scope → List Counted → ℕ × ℕ → List ℕ
+step_text table scopes files days = step_lines table.with_effort scopes days (step_rows days table.most files)
+
+-- the text of steps
+abbrev pub steps_text : Asked Expr → List Scope → List Counted → List (ℕ × ℕ) → List ℕ
+steps_text table scopes files steps = concat (map (step_text table scopes files) steps)
+
+-- the text of a table over files at a moment
+abbrev pub table_over : Asked Expr → Moment → List Scope → List ℕ
+table_over table moment scopes = steps_text table scopes (map (counted_of table.expression moment) scopes) (pieces table.step table.days.1 table.days.0)
+
+-- the text of a clock table: its steps in order
+unfoldable pub table_view : Asked Expr → WorldView → List ℕ
+table_view table world = table_over table world.moment (scopes_named table.file (scopes_of world))

@@ -10,6 +10,7 @@ mod kept;
 mod lists;
 mod outlines;
 mod question;
+mod table;
 mod world;
 
 pub use agenda::MOST_DAYS;

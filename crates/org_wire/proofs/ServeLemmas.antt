@@ -15,7 +15,7 @@ use Rattle.org_wire.specs.declared.reply.Reply.{Reply}
 use Rattle.org_wire.specs.declared.reply.Reply.TheVariants as reply
 
 -- what the step answers
-pub serves : (command : Command) (said : step.Command) (old new : State) (answered : step.Reply) (answer : Reply) → Means command said → answer ≡ shown answered → (answer ≡ out_of_memory → ⊥) →
+pub serves : (command : Command) (said : step.Command) (old new : State) (answered : step.Reply) (answer : Reply) → Means command old.world.moment.day said → answer ≡ shown answered → (answer ≡ out_of_memory → ⊥) →
     step.Answers said old answered new → Serves command old answer new
 serves command said old new answered answer means is fine answers = record {
   done = λ _. (said, means, is ∙ ap (λ (o : step.Outcome). shown o.reply) (sym answers), ap (λ (o : step.Outcome). o.after) (sym answers));
@@ -23,7 +23,7 @@ serves command said old new answered answer means is fine answers = record {
 }
 
 -- what the step refuses, or want of memory
-pub refuses : (command : Command) (said : step.Command) (old new : State) (fault : Fault) → Means command said → step.Refuses said old fault new → Serves command old (reply.Refused fault) new
+pub refuses : (command : Command) (said : step.Command) (old new : State) (fault : Fault) → Means command old.world.moment.day said → step.Refuses said old fault new → Serves command old (reply.Refused fault) new
 refuses command said old new fault means refused = record {
   done = λ ne.
       let answers = refused.1 (λ memory. ne (ap reply.Refused memory)) in
@@ -32,7 +32,7 @@ refuses command said old new fault means refused = record {
 }
 
 -- what a question is answered
-pub shows : (command : Command) (view : View) (old new : State) (answer : Reply) → ((question : step.Question) → Asks view question → Means command (step.Ask question)) → ServesView view old answer new → Serves command old answer new
+pub shows : (command : Command) (view : View) (old new : State) (answer : Reply) → ((question : step.Question) → Asks view old.world.moment.day question → Means command old.world.moment.day (step.Ask question)) → ServesView view old answer new → Serves command old answer new
 shows command view old new answer means serves_so = record {
   done = λ ne. let d = serves_so.done ne in (step.Ask d.0, means d.0 d.1, d.2, d.3);
   memory = serves_so.memory;

@@ -16,6 +16,7 @@ abbrev pub said : Parsed → Line
 said parsed.Bad = Bad
 said (parsed.Todo words) = Plainly (command.Todo (words_in 124 (option_map (λ words. words.now) words)))
 said (parsed.Match text) = Plainly (command.Match text.now)
+said (parsed.Clock text) = Plainly (command.Clock text.now)
 said (parsed.Drop name) = Plainly (command.Drop name.now)
 said (parsed.Inherit names) = Plainly (command.Inherit (words_in 32 (option_map (λ words. words.now) names)))
 said (parsed.Text name) = Plainly (command.Text name.now)
@@ -23,9 +24,10 @@ said (parsed.Agenda date days) = Plainly (command.Agenda date.now days)
 said (parsed.At moment) = Plainly (command.At moment)
 said (parsed.Frame name size) = Frame name.now size
 
--- an expression is no longer than so many bytes
+-- an expression, and the options of a table, are no longer than so many bytes
 abbrev pub IsWithin : ℕ → Parsed → Type 0
 IsWithin most (parsed.Match text) = length text.now ≤ most
+IsWithin most (parsed.Clock text) = length text.now ≤ most
 IsWithin most parsed.Bad = Unit {0}
 IsWithin most (parsed.Todo words) = Unit {0}
 IsWithin most (parsed.Drop name) = Unit {0}

@@ -7,12 +7,12 @@ use Rattle.org_base.specs.declared.code.Code.TheVariants.{Device}
 use Rattle.org_cal.specs.Faults.{date_fault}
 use Rattle.org_cal.specs.declared.moment.Moment.{Moment}
 use Rattle.org_engine.specs.World.{State}
-use Rattle.org_engine.specs.Questions.{AsksMatch, asked_agenda}
+use Rattle.org_engine.specs.Questions.{AsksMatch, asked_agenda, AsksTable}
 use Rattle.org_engine.specs.Step as step
 use Rattle.org_wire.specs.Replies.{reply_bytes, fault_bytes}
 use Rattle.org_wire.specs.Stream.{reading_of, IsReplaceable}
 use Rattle.org_wire.specs.declared.command.Command.{Command}
-use Rattle.org_wire.specs.declared.command.Command.TheVariants.{Add, Agenda, At, Drop, Inherit, Match, Text, Todo}
+use Rattle.org_wire.specs.declared.command.Command.TheVariants.{Add, Agenda, At, Drop, Inherit, Match, Text, Todo, Clock}
 use Rattle.org_wire.specs.declared.command.Next.{Next}
 use Rattle.org_wire.specs.declared.command.Next.TheVariants.{Given, Refused, Last, Ended}
 use Rattle.org_wire.specs.declared.reply.Reply.{Reply}
@@ -25,16 +25,17 @@ abbrev pub moment_command : Option Moment → step.Command
 moment_command None = step.Ask (step.Unread date_fault)
 moment_command (Some moment) = step.At moment
 
--- the engine's command; a match list's is that of the question which its expression stands for
-abbrev pub Means : Command → step.Command → Type 0
-Means (Add name text) said = said ≡ step.AddFile name text
-Means (Drop name) said = said ≡ step.DropFile name
-Means (Inherit names) said = said ≡ step.Inherit names
-Means (Text name) said = said ≡ step.TextOf name
-Means (Todo words) said = said ≡ step.Ask (step.TodoList words)
-Means (Match text) said = (question : step.Question) × AsksMatch text question × (said ≡ step.Ask question)
-Means (Agenda date days) said = said ≡ step.Ask (asked_agenda date days)
-Means (At moment) said = said ≡ moment_command moment
+-- the engine's command on a day; that of a match list or a clock table is the question for which its text stands
+abbrev pub Means : Command → ℕ → step.Command → Type 0
+Means (Add name text) today said = said ≡ step.AddFile name text
+Means (Drop name) today said = said ≡ step.DropFile name
+Means (Inherit names) today said = said ≡ step.Inherit names
+Means (Text name) today said = said ≡ step.TextOf name
+Means (Todo words) today said = said ≡ step.Ask (step.TodoList words)
+Means (Match text) today said = (question : step.Question) × AsksMatch text question × (said ≡ step.Ask question)
+Means (Clock text) today said = (question : step.Question) × AsksTable text today question × (said ≡ step.Ask question)
+Means (Agenda date days) today said = said ≡ step.Ask (asked_agenda date days)
+Means (At moment) today said = said ≡ moment_command moment
 
 -- the engine's reply, as it is written
 abbrev pub shown : step.Reply → Reply
@@ -48,7 +49,7 @@ out_of_memory = reply.Refused memory_fault
 
 -- what is read is answered so, and leaves this state
 abbrev pub AnswersSo : Next → State → Reply → State → Type 0
-AnswersSo (Given command) old answer new = (said : step.Command) × Means command said × (answer ≡ shown (step.step said old).reply) × (new ≡ (step.step said old).after)
+AnswersSo (Given command) old answer new = (said : step.Command) × Means command old.world.moment.day said × (answer ≡ shown (step.step said old).reply) × (new ≡ (step.step said old).after)
 AnswersSo (Refused fault) old answer new = (answer ≡ reply.Refused fault) × (new ≡ old)
 AnswersSo (Last fault) old answer new = ⊥
 AnswersSo Ended old answer new = ⊥

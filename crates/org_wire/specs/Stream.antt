@@ -12,7 +12,7 @@ use Rattle.org_text.specs.Replace.{max_bytes}
 use Rattle.org_wire.specs.Lines.{cut_at, longest}
 use Rattle.org_wire.specs.Lines as lines
 use Rattle.org_wire.specs.declared.command.Command.{Command}
-use Rattle.org_wire.specs.declared.command.Command.TheVariants.{Add, Agenda, At, Drop, Inherit, Match, Text, Todo}
+use Rattle.org_wire.specs.declared.command.Command.TheVariants.{Add, Agenda, At, Drop, Inherit, Match, Text, Todo, Clock}
 use Rattle.org_wire.specs.declared.command.Next.{Next}
 use Rattle.org_wire.specs.declared.command.Next.TheVariants.{Given, Refused, Last, Ended}
 
@@ -71,6 +71,10 @@ todo_line words = if is_utf8 words && is_word words && are_words 124 true words 
 abbrev pub match_line : List ℕ → Line
 match_line text = if is_utf8 text then Plainly (Match text) else Bad
 
+-- `clock OPTIONS`, whose options are the rest of the line
+abbrev pub clock_line : List ℕ → Line
+clock_line text = if is_utf8 text then Plainly (Clock text) else Bad
+
 -- `inherit NAME ..`, from its first name on
 abbrev pub inherit_line : List ℕ → Line
 inherit_line names = if is_utf8 names && are_words 32 true names then Plainly (Inherit (words_from 32 [] names)) else Bad
@@ -116,6 +120,7 @@ abbrev pub words_line : Option lines.Cut → Line
 words_line None = Bad
 words_line (Some cut) = if bytes_eq cut.before (codes "todo") then todo_line cut.after
     else if bytes_eq cut.before (codes "match") then match_line cut.after
+    else if bytes_eq cut.before (codes "clock") then clock_line cut.after
     else if bytes_eq cut.before (codes "text") then text_line cut.after
     else if bytes_eq cut.before (codes "drop") then drop_line cut.after
     else if bytes_eq cut.before (codes "inherit") then inherit_line cut.after
@@ -128,6 +133,7 @@ words_line (Some cut) = if bytes_eq cut.before (codes "todo") then todo_line cut
 unfoldable pub line_of : List ℕ → Line
 line_of line = if bytes_eq line (codes "todo") then Plainly (Todo [])
     else if bytes_eq line (codes "match") then Plainly (Match [])
+    else if bytes_eq line (codes "clock") then Plainly (Clock [])
     else if bytes_eq line (codes "inherit") then Plainly (Inherit [])
     else words_line (cut_at 32 line)
 

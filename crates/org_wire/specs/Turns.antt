@@ -31,7 +31,7 @@ ServesSurely said old answer new = (answer ≡ shown (step.step said old).reply)
 
 -- the engine's answer to a view, or want of memory with nothing changed
 pub record ServesView (view : View) (old : State) (answer : Reply) (new : State) : Type 0 where
-  pub done : (answer ≡ out_of_memory → ⊥) → (question : step.Question) × Asks view question × (answer ≡ shown (step.step (step.Ask question) old).reply) × (new ≡ (step.step (step.Ask question) old).after)
+  pub done : (answer ≡ out_of_memory → ⊥) → (question : step.Question) × Asks view old.world.moment.day question × (answer ≡ shown (step.step (step.Ask question) old).reply) × (new ≡ (step.step (step.Ask question) old).after)
   pub memory : answer ≡ out_of_memory → new ≡ old
 
 -- what was read is answered so

@@ -23,6 +23,8 @@ pub enum Command {
     Agenda(Name, u64),
     /// `at DATE TIME`: asks for views at another moment from now on; None where these spell none.
     At(Option<Moment>),
+    /// `clock OPTIONS`: asks for the clock table of options, which are the rest of the line and may be empty.
+    Clock(Expression),
 }
 
 /// What comes next on a stream.

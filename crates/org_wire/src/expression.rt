@@ -1,11 +1,11 @@
-//! The text of a match expression on a command's line.
+//! The text of a match expression, or of a clock table's options, on a command's line.
 ghost use Rattle.std.specs.Prelude.{◌≡◌, ◌≤◌, IfOk, length};
 ghost use Rattle.org_wire.specs.Lines.{longest};
 
 use std::alloc::{AllocError, Global};
 use std::marker::Model;
 
-/// The text of an expression, seen as the list of its bytes. It is no longer than a command's line.
+/// The text of an expression or of options, seen as the list of its bytes. It is no longer than a command's line.
 #[derive(Drop)]
 pub struct Expression {
     text: String,

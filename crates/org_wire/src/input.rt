@@ -277,6 +277,10 @@ impl<'a, R: Read> Input<'a, R> {
                 Ok(text) => Next::Given(Command::Match(text)),
                 Err(_) => Next::Refused(Fault::Plain(Code::Memory)),
             },
+            Parsed::Clock(text) => match Expression::new(self.alloc, text) {
+                Ok(text) => Next::Given(Command::Clock(text)),
+                Err(_) => Next::Refused(Fault::Plain(Code::Memory)),
+            },
             Parsed::Drop(name) => match Name::new(self.alloc, name) {
                 Ok(name) => Next::Given(Command::Drop(name)),
                 Err(_) => Next::Refused(Fault::Plain(Code::Memory)),

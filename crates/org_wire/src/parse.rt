@@ -1,7 +1,7 @@
 //! What a line says, read without memory.
 ghost use Rattle.std.specs.Prelude.{◌≡◌, ◌≤◌, None, Some, IfSome, IfNone, MatchOption, length, true, false};
 ghost use Rattle.org_wire.specs.Lines.{cut_at};
-ghost use Rattle.org_wire.specs.Stream.{number_of, is_name, is_word, are_words, line_of, drop_line, inherit_line, match_line, text_line, todo_line, add_line, agenda_line, at_line, is_one_word, moment_of};
+ghost use Rattle.org_wire.specs.Stream.{number_of, is_name, is_word, are_words, line_of, drop_line, inherit_line, match_line, text_line, todo_line, add_line, agenda_line, at_line, is_one_word, moment_of, clock_line};
 ghost use Rattle.org_wire.specs.Parsed.{IsWithin, said};
 ghost use Rattle.org_cal.specs.Texts.{date_of, time_of};
 ghost use Rattle.std.specs.Str.{is_utf8};
@@ -21,6 +21,8 @@ pub(crate) enum Parsed<'a> {
     Todo(Option<&'a [u8]>),
     /// The text of an expression.
     Match(&'a str),
+    /// The text of a clock table's options.
+    Clock(&'a str),
     Drop(&'a str),
     /// The names to inherit, with one space between them; None without a name.
     Inherit(Option<&'a [u8]>),
@@ -123,6 +125,9 @@ pub(crate) fn parse_line(line: &[u8]) -> Parsed<'_>
     if line == b"match".as_slice() {
         return Parsed::Match("");
     }
+    if line == b"clock".as_slice() {
+        return Parsed::Clock("");
+    }
     if line == b"inherit".as_slice() {
         return Parsed::Inherit(None);
     }
@@ -134,6 +139,9 @@ pub(crate) fn parse_line(line: &[u8]) -> Parsed<'_>
     }
     if word == b"match".as_slice() {
         return parse_match(rest);
+    }
+    if word == b"clock".as_slice() {
+        return parse_clock(rest);
     }
     if word == b"text".as_slice() {
         return parse_text(rest);
@@ -175,6 +183,17 @@ fn parse_match(rest: &[u8]) -> Parsed<'_>
 {
     match str::from_utf8(rest) {
         Ok(text) => Parsed::Match(text),
+        Err(_) => Parsed::Bad,
+    }
+}
+
+// What stands behind `clock`.
+fn parse_clock(rest: &[u8]) -> Parsed<'_>
+    ensures value { clock_line rest.now ≡ said result }
+    ensures within { IsWithin (length rest.now) result }
+{
+    match str::from_utf8(rest) {
+        Ok(text) => Parsed::Clock(text),
         Err(_) => Parsed::Bad,
     }
 }

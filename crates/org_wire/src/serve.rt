@@ -31,6 +31,7 @@ pub(crate) fn serve<T: Text>(engine: &mut Engine<T>, command: Command) -> Reply
         },
         Command::Todo(words) => ask(engine, View::Todo(&words)),
         Command::Match(text) => ask(engine, View::Match(text.as_str())),
+        Command::Clock(text) => ask(engine, View::Clock(text.as_str())),
         Command::Agenda(date, days) => ask(engine, View::Agenda(date.as_str(), days)),
         Command::At(moment) => set_moment(engine, moment),
     }

@@ -1,7 +1,7 @@
 use Rattle.std.proofs.Common.{◌∙◌, ℕ, ap, refl, subst}
 use Rattle.std.specs.Prelude.{Vec, string_bytes}
 use Rattle.std.specs.Global.{Global}
-use Rattle.org_engine.specs.Questions.{AsksMatch, asked_agenda}
+use Rattle.org_engine.specs.Questions.{AsksMatch, asked_agenda, AsksTable}
 use Rattle.org_engine.specs.Step as step
 use Rattle.org_wire.specs.declared.reply.Reply.TheVariants as reply
 use Rattle.org_wire.proofs.ServeLemmas.{refuses, serves, serves_surely, shows}
@@ -55,6 +55,11 @@ returns-in-Match g c = record {
 pub returns-in-Agenda : goal.returns-in-Agenda
 returns-in-Agenda g c = record {
   value = rw c.in-Agenda.is (shows _ _ _ _ c.ask-in-Agenda.result (λ question asks. ap step.Ask asks ∙ ap (λ t. step.Ask (asked_agenda t c.in-Agenda.days)) c.as_str-in-Agenda.ensures.value) c.ask-in-Agenda.ensures.value);
+}
+
+pub returns-in-Clock : goal.returns-in-Clock
+returns-in-Clock g c = record {
+  value = rw c.in-Clock.is (shows _ _ _ _ c.ask-in-Clock.result (λ question asks. (question, subst (λ t. AsksTable t c.args.engine.now.state.world.moment.day question) c.as_str-in-Clock.ensures.value asks, refl)) c.ask-in-Clock.ensures.value);
 }
 
 pub returns : goal.returns
