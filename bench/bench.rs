@@ -2,7 +2,8 @@
 //!
 //!     bench measure PROGRAM      the table: both programs in turn, the least of several runs
 //!     bench parts PROGRAM        parts of the engine on their own, by the program `org_measure`
-//!     bench plain                answers the commands `add`, `text`, `todo`, some `match` and `agenda` of standard input
+//!     bench plain                answers the commands `add`, `text`, `todo`, `agenda`, some `match` and some `clock` of standard
+//!                                input
 //!     bench text BYTES           an Org file of that many bytes
 //!     bench KIND PLACE COUNT READS  the lines of the text of standard input after so many edits, read so many times: KIND
 //!                                is `vector` or `rope`
@@ -19,6 +20,8 @@ use std::io::{self, BufRead, BufReader, Read, Write};
 use std::os::unix::process::ExitStatusExt;
 use std::process::{Child, Command, Stdio};
 use std::time::Instant;
+
+mod clocks;
 
 const MIB: usize = 1 << 20;
 const SIZES: [usize; 3] = [MIB, 4 * MIB, 8 * MIB];
@@ -241,6 +244,12 @@ fn measure(program: &str, own: &str) -> io::Result<()> {
         measure_question(program, own, &stream, &format!("{question}, many tags"), &text, question)?;
     }
     agenda::measure(program, own, &stream)?;
+    let text = clocks::with_clocks(&self::text(8 * MIB), 20_000);
+    for question in ["clock block=thisyear maxlevel=3", "clock block=thisyear maxlevel=3 step=day"] {
+        measure_question(program, own, &stream, &question[6..], &text, question)?;
+    }
+    let question = "clock block=thisyear maxlevel=3 step=day";
+    measure_question(program, own, &stream, "a clock of 9,000 years", &clocks::long_clock(), question)?;
     std::fs::remove_dir_all(&folder)
 }
 
@@ -457,6 +466,10 @@ fn plain() -> io::Result<()> {
             ["agenda", date, days] => {
                 let (first, count) = (agenda::day_of(date).expect("a date"), days.parse().expect("days"));
                 let view = agenda::agenda(&files, first, count);
+                write!(output, "view {}\n{view}", view.len())?;
+            }
+            ["clock", "block=thisyear", "maxlevel=3", ref steps @ ..] => {
+                let view = clocks::table(&files, *steps == ["step=day"]);
                 write!(output, "view {}\n{view}", view.len())?;
             }
             _ => writeln!(output, "err 2 command")?,
