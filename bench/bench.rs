@@ -229,7 +229,7 @@ fn measure(program: &str, own: &str) -> io::Result<()> {
     for question in ["match x", "match {x}"] {
         measure_question(program, own, &stream, &format!("{question}, many tags"), &text, question)?;
     }
-    let text = clocks::with_clocks(&self::text(8 * MIB), 20_000);
+    let text = clocks::with_clocks(&self::text(8 * MIB - 20_000 * 70), 20_000);
     for question in ["clock block=thisyear maxlevel=3", "clock block=thisyear maxlevel=3 step=day"] {
         measure_question(program, own, &stream, &question[6..], &text, question)?;
     }
