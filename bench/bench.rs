@@ -244,7 +244,7 @@ fn measure(program: &str, own: &str) -> io::Result<()> {
         measure_question(program, own, &stream, &format!("{question}, many tags"), &text, question)?;
     }
     agenda::measure(program, own, &stream)?;
-    let text = clocks::with_clocks(&self::text(8 * MIB), 20_000);
+    let text = clocks::with_clocks(&self::text(8 * MIB - 20_000 * 70), 20_000);
     for question in ["clock block=thisyear maxlevel=3", "clock block=thisyear maxlevel=3 step=day"] {
         measure_question(program, own, &stream, &question[6..], &text, question)?;
     }
