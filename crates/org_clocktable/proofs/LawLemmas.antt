@@ -41,14 +41,19 @@ headings : (days : ℕ × ℕ) (most file : ℕ) (counted : Counted) (i : ℕ) (
 headings days most file counted i [] = refl
 headings days most file counted i (e ∷ es) =
     let here = level_rows most file i (heading_sum (clock_minutes days) counted i) (heading_sum effort_minutes counted i) (level_of e) in
-    omega (arith, own-append here (rows_from days most file counted (i + 1) es),
-    of_level most file i (heading_sum (clock_minutes days) counted i) (heading_sum effort_minutes counted i) (level_of e), headings days most file counted (i + 1) es)
+    omega (
+      arith,
+      own-append here (rows_from days most file counted (i + 1) es),
+      of_level most file i (heading_sum (clock_minutes days) counted i) (heading_sum effort_minutes counted i) (level_of e),
+      headings days most file counted (i + 1) es,
+    )
 
 of_file : (days : ℕ × ℕ) (most file : ℕ) (counted : Counted) → own (file_rows days most file counted) ≡ file_sum (clock_minutes days) counted
 of_file days most file counted = by (nat_lt 0 (file_sum (clock_minutes days) counted)) refl
   where
     row : TableRow
     row = record { of = File file; clock = file_sum (clock_minutes days) counted; effort = file_sum effort_minutes counted }
+
     by : (t : Bool) → nat_lt 0 (file_sum (clock_minutes days) counted) ≡ t → own (cond t (row ∷ rows_from days most file counted 0 counted.entries) []) ≡ file_sum (clock_minutes days) counted
     by true e = omega (arith, own-cons row (rows_from days most file counted 0 counted.entries), headings days most file counted 0 counted.entries)
     by false e = let none : file_sum (clock_minutes days) counted ≤ 0 = grind (arith, nat_tests, e) in omega (arith, none)

@@ -95,10 +95,7 @@ pub fn counted_files<'a>(
 }
 
 // Each file with all its headings.
-fn all_counted<'a>(
-    alloc: Global,
-    inherits: &'a Inherits<'_>,
-) -> Result<Vec<CountedFile<'a>>, Fault>
+fn all_counted<'a>(alloc: Global, inherits: &'a Inherits<'_>) -> Result<Vec<CountedFile<'a>>, Fault>
     requires texts { All (λ (scope : Scope). AreOfText scope.entries) inherits.now }
     ensures value { IfOk result (λ files. files.items ≡ map whole_of inherits.now) }
     ensures memory { IsOkUnless result memory_fault }

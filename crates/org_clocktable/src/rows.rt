@@ -109,7 +109,15 @@ fn push_headings(
     let efforts = file.effort_sums(alloc)?;
     let outline = file.outline();
     for place in 0..outline.count() {
-        push_heading(rows, most, at, place, outline.entry(place), clocks[place], efforts[place])?;
+        push_heading(
+            rows,
+            most,
+            at,
+            place,
+            outline.entry(place),
+            clocks[place],
+            efforts[place],
+        )?;
     }
     Ok(())
 }

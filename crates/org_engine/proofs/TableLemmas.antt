@@ -84,8 +84,10 @@ named_texts wanted inherited (f ∷ fs) short = by (is_wanted wanted f.name) (na
   where
     scope : Scope
     scope = scope_of inherited f.name f.text
+
     rest : List Scope
     rest = scopes_named wanted (map (λ (g : FileView). scope_of inherited g.name g.text) fs)
+
     by : (t : Bool) → All (λ (s : Scope). AreOfText s.entries) rest → All (λ (s : Scope). AreOfText s.entries) (cond t (scope ∷ rest) rest)
     by true h = one_first (λ (s : Scope). AreOfText s.entries) scope rest (record { settings = file_settings f.text; text = f.text; short = short 0 f refl; are = refl }) h
     by false h = h

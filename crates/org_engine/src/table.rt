@@ -229,5 +229,12 @@ fn push_rows(
     ensures memory { IsOkUnless result memory_fault }
 {
     let rows = step_rows(alloc, period, spec.most(), files)?;
-    push_step(alloc, out, inherits, spec.with_effort(), period, rows.as_slice())
+    push_step(
+        alloc,
+        out,
+        inherits,
+        spec.with_effort(),
+        period,
+        rows.as_slice(),
+    )
 }

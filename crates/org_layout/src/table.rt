@@ -46,7 +46,15 @@ fn table_of(
     push_step(&mut text, period)?;
     for place in 0..rows.len() {
         let row = row_at(rows, place);
-        push_row(alloc, &mut text, inherits, with_effort, row.of, row.clock, row.effort)?;
+        push_row(
+            alloc,
+            &mut text,
+            inherits,
+            with_effort,
+            row.of,
+            row.clock,
+            row.effort,
+        )?;
     }
     Ok(text)
 }
@@ -114,11 +122,7 @@ fn push_sum(alloc: Global, out: &mut String, minutes: u64) -> Result<(), Fault>
 }
 
 #[tactic(auto, unfolding(crate::specs::Tables::name_text))]
-fn push_name(
-    out: &mut String,
-    inherits: &Inherits<'_>,
-    of: Of,
-) -> Result<(), Fault>
+fn push_name(out: &mut String, inherits: &Inherits<'_>, of: Of) -> Result<(), Fault>
     ensures ok { OnOk result (string_bytes out.new ≡ string_bytes out.old ++ name_text inherits.now of) }
     ensures memory { IsOkUnless result memory_fault }
 {

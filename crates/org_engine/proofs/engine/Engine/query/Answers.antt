@@ -42,5 +42,8 @@ returns-in-Clock-clause-ok g c =
 pub returns-in-Clock-clause-err : goal.returns-in-Clock-clause-err
 returns-in-Clock-clause-err g c =
     let state : State = record { world = c.self.inside.world; serial = c.self.inside.serial } in
-    rw (← c.self.view_is) (IfErr-weaker c.table_text.result _ _ (λ fault why. (refl, λ other.
-        subst (λ (v : View). Replies v state (Refused fault) state) (sym c.in-Clock.is) (table_declined c.in-Clock.text state fault (why other)))) c.table_text.ensures.refused)
+    rw (← c.self.view_is) (IfErr-weaker c.table_text.result _ _ (λ fault why. (
+      refl,
+      λ other.
+          subst (λ (v : View). Replies v state (Refused fault) state) (sym c.in-Clock.is) (table_declined c.in-Clock.text state fault (why other)),
+    )) c.table_text.ensures.refused)
