@@ -2,3 +2,4 @@ pub mod Cuts
 pub mod CountLemmas
 pub mod TableLemmas
 pub mod LawLemmas
+pub mod ClockedLemmas

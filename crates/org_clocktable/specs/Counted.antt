@@ -1,12 +1,13 @@
 -- Files with the headings that count in a clock table (Org manual 9.6, The clock table; that clocks and efforts of headings
 -- of which `match=` doesn't hold count 0, and that hidden headings count: profile).
-use Rattle.std.specs.Prelude.{◌≡◌, ℕ, ◌+◌, Bool, true, List, [], ◌∷◌, Option, None, Some, length, replicate}
+use Rattle.std.specs.Prelude.{◌≡◌, ◌<◌, ◌^◌, ℕ, ◌+◌, Bool, true, ◌&&◌, nat_lt, List, [], ◌∷◌, Option, None, Some, length, replicate}
 use Rattle.org_agenda.specs.Holding.{holds_of}
 use Rattle.org_cal.specs.declared.moment.Moment.{Moment}
 use Rattle.org_entry.specs.declared.entry.Entry.{Entry}
 use Rattle.org_expression.specs.Grammar.{Expr}
 use Rattle.org_inherit.specs.Scope.{Scope}
-use Rattle.org_sum.specs.Sums.{subtree_sum, whole_sum}
+use Rattle.org_sum.specs.Measures.{effort_minutes}
+use Rattle.org_sum.specs.Sums.{subtree_sum, subtree_sums, whole_sum}
 use Rattle.org_sum.specs.Texts.{AreOfText}
 
 -- a file's entries, and which of them count
@@ -18,6 +19,24 @@ pub record Counted : Type 0 where
 pub record IsCounted (entries : List Entry) (counted : List Bool) : Type 0 where
   pub count : length counted ≡ length entries
   pub text : AreOfText entries
+
+-- an entry with clocks
+abbrev pub has_clocks : Entry → Bool
+has_clocks e = nat_lt 0 (length e.clocks)
+
+-- which of the entries that count have clocks: no others have minutes in any days
+abbrev pub clocked_of : List Entry → List Bool → List Bool
+clocked_of [] cs = []
+clocked_of (e ∷ es) [] = []
+clocked_of (e ∷ es) (c ∷ cs) = (c && has_clocks e) ∷ clocked_of es cs
+
+-- what is worked out of a file once for a table: which of the entries that count have clocks, and the efforts
+pub record IsPrepared (entries : List Entry) (counted with_clocks : List Bool) (sums : List ℕ) (sum : ℕ) : Type 0 where
+  pub is : IsCounted entries counted
+  pub clocked : with_clocks ≡ clocked_of entries counted
+  pub efforts : sums ≡ subtree_sums effort_minutes entries counted
+  pub effort : sum ≡ whole_sum effort_minutes entries counted
+  pub below : sum < 2 ^ 55
 
 -- a file with all its headings
 abbrev pub whole_of : Scope → Counted

@@ -1,9 +1,9 @@
 //! Files with the headings that count.
-ghost use Rattle.std.specs.Prelude.{◌≡◌, ◌<◌, ◌^◌, length, map, IfOk, IsOkUnless};
+ghost use Rattle.std.specs.Prelude.{◌≡◌, ◌&&◌, ◌<◌, ◌^◌, length, map, IfOk, IsOkUnless};
 ghost use Rattle.std.specs.List.{All, range_with_len};
 ghost use Rattle.std.specs.Option.{option_map};
 ghost use Rattle.org_base.specs.Codes.{memory_fault};
-ghost use Rattle.org_clocktable.specs.Counted.{counted_of, file_sum, heading_sum, matching_of, whole_of, IsCounted};
+ghost use Rattle.org_clocktable.specs.Counted.{clocked_of, counted_of, file_sum, has_clocks, heading_sum, matching_of, whole_of, IsCounted};
 ghost use Rattle.org_inherit.specs.Scope.{Scope};
 ghost use Rattle.org_sum.specs.Measures.{amount, clock_minutes, effort_minutes};
 ghost use Rattle.org_sum.specs.Texts.{AreOfText};
@@ -11,6 +11,7 @@ ghost use Rattle.org_sum.specs.Texts.{AreOfText};
 use org_agenda::holds_of;
 use org_base::Fault;
 use org_cal::{Moment, Period};
+use org_entry::Entry;
 use org_inherit::{Inherit, Inherits};
 use org_match::{Match, Testing};
 use org_outline::Outline;
@@ -23,25 +24,43 @@ use std::marker::Model;
 pub struct CountedFile<'a> {
     outline: &'a Outline,
     counted: Vec<bool>,
+    // Which of the entries that count have clocks, and the efforts: these are the same at each step of a table.
+    clocked: Vec<bool>,
+    efforts: Vec<u64>,
+    effort: u64,
 }
 
 impl<'a> Model for CountedFile<'a> {
-    ghost use Rattle.org_clocktable.specs.Counted.{Counted, IsCounted};
+    ghost use Rattle.org_clocktable.specs.Counted.{Counted, IsPrepared};
 
     ghost Value = { Counted };
 
     ghost view = { λ c. record { entries = c.outline.now; counted = c.counted.items } };
 
-    ghost invariant = { λ c. IsCounted c.outline.now c.counted.items };
+    ghost invariant = { λ c. IsPrepared c.outline.now c.counted.items c.clocked.items c.efforts.items c.effort };
 }
 
 impl<'a> CountedFile<'a> {
     // An outline of one text, with a verdict for each of its entries.
-    fn new(outline: &'a Outline, counted: Vec<bool>) -> CountedFile<'a>
+    fn new(
+        alloc: Global,
+        outline: &'a Outline,
+        counted: Vec<bool>,
+    ) -> Result<CountedFile<'a>, Fault>
         requires counted { IsCounted outline.now counted.items }
-        ensures value { result ≡ record { entries = outline.now; counted = counted.items } }
+        ensures value { IfOk result (λ file. file ≡ record { entries = outline.now; counted = counted.items }) }
+        ensures memory { IsOkUnless result memory_fault }
     {
-        CountedFile { outline, counted }
+        let clocked = clocked_of(alloc, outline, counted.as_slice())?;
+        let efforts = effort_sums(alloc, outline, counted.as_slice())?;
+        let effort = whole_sum(&Measure::Efforts, outline, counted.as_slice());
+        Ok(CountedFile {
+            outline,
+            counted,
+            clocked,
+            efforts,
+            effort,
+        })
     }
 
     // The file's entries.
@@ -56,7 +75,10 @@ impl<'a> CountedFile<'a> {
         ensures value { result ≡ file_sum (amount measure.now) self.now }
         ensures below { result < 2 ^ 55 }
     {
-        whole_sum(measure, self.outline, self.counted.as_slice())
+        match measure {
+            Measure::Clocks(_) => whole_sum(measure, self.outline, self.clocked.as_slice()),
+            Measure::Efforts => self.effort,
+        }
     }
 
     // The clock sum of each heading.
@@ -64,16 +86,37 @@ impl<'a> CountedFile<'a> {
         ensures value { IfOk result (λ sums. sums.items ≡ map (heading_sum (clock_minutes (period.now.first, period.now.last)) self.now) (range_with_len 0 (length self.now.entries))) }
         ensures memory { IsOkUnless result memory_fault }
     {
-        clock_sums(alloc, self.outline, *period, self.counted.as_slice())
+        clock_sums(alloc, self.outline, *period, self.clocked.as_slice())
     }
 
     // The effort sum of each heading.
-    pub(crate) fn effort_sums(&self, alloc: Global) -> Result<Vec<u64>, Fault>
-        ensures value { IfOk result (λ sums. sums.items ≡ map (heading_sum effort_minutes self.now) (range_with_len 0 (length self.now.entries))) }
-        ensures memory { IsOkUnless result memory_fault }
+    pub(crate) fn efforts(&self) -> &[u64]
+        ensures value { result.now ≡ map (heading_sum effort_minutes self.now) (range_with_len 0 (length self.now.entries)) }
     {
-        effort_sums(alloc, self.outline, self.counted.as_slice())
+        self.efforts.as_slice()
     }
+}
+
+// Which of the entries that count have clocks.
+fn clocked_of(
+    alloc: Global,
+    outline: &Outline,
+    counted: &[bool],
+) -> Result<Vec<bool>, AllocError>
+    requires count { length counted.now ≡ length outline.now }
+    ensures { IfOk result (λ clocked. clocked.items ≡ clocked_of outline.now counted.now) }
+{
+    let mut clocked = Vec::with_capacity(alloc, counted.len())?;
+    for place in 0..outline.count() {
+        clocked.push(is_clocked(counted[place], outline.entry(place)))?;
+    }
+    Ok(clocked)
+}
+
+fn is_clocked(counts: bool, entry: &Entry) -> bool
+    ensures { result ≡ (counts && has_clocks entry.now) }
+{
+    counts && !entry.clocks.as_slice().is_empty()
 }
 
 /// The files, each with the headings that count in a clock table: all, or those of which the expression holds at the moment.
@@ -108,13 +151,14 @@ fn all_counted<'a>(alloc: Global, inherits: &'a Inherits<'_>) -> Result<Vec<Coun
     Ok(files)
 }
 
-fn whole_file<'a>(alloc: Global, inherit: &'a Inherit<'_>) -> Result<CountedFile<'a>, AllocError>
+fn whole_file<'a>(alloc: Global, inherit: &'a Inherit<'_>) -> Result<CountedFile<'a>, Fault>
     requires text { AreOfText inherit.now.entries }
     ensures value { IfOk result (λ file. file ≡ whole_of inherit.now) }
+    ensures memory { IsOkUnless result memory_fault }
 {
     let outline = inherit.outline();
     let counted = vec![in alloc; true; outline.count()]?;
-    Ok(CountedFile::new(outline, counted))
+    CountedFile::new(alloc, outline, counted)
 }
 
 // Each file with those of its headings of which the expression holds.
@@ -162,5 +206,5 @@ fn matching_file<'a>(
     ensures memory { IsOkUnless result memory_fault }
 {
     let counted = holds_of(alloc, testing, moment, inherit)?;
-    Ok(CountedFile::new(inherit.outline(), counted))
+    CountedFile::new(alloc, inherit.outline(), counted)
 }

@@ -106,7 +106,7 @@ fn push_headings(
     ensures memory { IsOkUnless result memory_fault }
 {
     let clocks = file.clock_sums(alloc, period)?;
-    let efforts = file.effort_sums(alloc)?;
+    let efforts = file.efforts();
     let outline = file.outline();
     for place in 0..outline.count() {
         push_heading(
@@ -134,10 +134,14 @@ fn push_heading(
     ensures ok { OnOk result (rows.new.items ≡ rows.old.items ++ level_rows most file place clock effort (level_of entry.now)) }
     ensures memory { IsOkUnless result memory_fault }
 {
+    // Most headings have no clocks at a step, so that is asked first.
+    if clock == 0 {
+        return Ok(());
+    }
     let Some(head) = &entry.head else {
         return Ok(());
     };
-    if head.level <= most && clock > 0 {
+    if head.level <= most {
         rows.push(TableRow {
             of: Of::Heading(file, place, head.level),
             clock,

@@ -18,7 +18,7 @@ fn own_amount(measure: &Measure, entry: &Entry, counts: bool) -> u64
     requires small { amount measure.now entry.now < 2 ^ 63 }
     ensures value { result ≡ own (amount measure.now) entry.now counts }
 {
-    if entry.head.is_some() && counts {
+    if counts && entry.head.is_some() {
         measure.of(entry)
     } else {
         0

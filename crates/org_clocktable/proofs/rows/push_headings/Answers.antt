@@ -11,9 +11,13 @@ pub index-requires : goal.index-requires
 index-requires c =
     omega (arith, table_length _ _ _ c.in_ok-clocks.ensures.value, ap length c.outline-outline.ensures.value, c.count-place-end.ensures.value)
 
-pub index-requires-in-loop-place : goal.index-requires-in-loop-place
-index-requires-in-loop-place c =
-    omega (arith, table_length _ _ _ c.in_ok-efforts.ensures.value, ap length c.outline-outline.ensures.value, c.count-place-end.ensures.value)
+pub bounds-efforts-place : goal.bounds-efforts-place
+bounds-efforts-place c =
+    omega (arith, table_length _ _ _ c.efforts-efforts.ensures.value, ap length c.outline-outline.ensures.value, c.count-place-end.ensures.value)
+
+pub offset_bounds-efforts-place : goal.offset_bounds-efforts-place
+offset_bounds-efforts-place c =
+    omega (arith, table_length _ _ _ c.efforts-efforts.ensures.value, ap length c.outline-outline.ensures.value, c.count-place-end.ensures.value, c.efforts-efforts.type_inv.1)
 
 pub loop-place-preserved : goal.loop-place-preserved
 loop-place-preserved c =
@@ -26,8 +30,8 @@ loop-place-preserved c =
     let within : place < length file.entries = omega (arith, ap length c.outline-outline.ensures.value, c.count-place-end.ensures.value) in
     let is : entry ≡ get_or file.entries place entry = c.entry.ensures.value ∙ ap (λ es. get_or es place entry) c.outline-outline.ensures.value in
     let clock : c.index.result.now ≡ heading_sum (clock_minutes days) file place = c.index.ensures ∙ table_at _ _ _ place c.index.result.now c.in_ok-clocks.ensures.value within in
-    let effort : c.index-in-loop-place.result.now ≡ heading_sum effort_minutes file place =
-    c.index-in-loop-place.ensures ∙ table_at _ _ _ place c.index-in-loop-place.result.now c.in_ok-efforts.ensures.value within in
+    let effort : get_or c.efforts-efforts.result.now place 0 ≡ heading_sum effort_minutes file place =
+    table_at _ _ _ place 0 c.efforts-efforts.ensures.value within in
     moved _ _ (level_rows most at place (heading_sum (clock_minutes days) file place) (heading_sum effort_minutes file place) (level_of entry))
     (rows_from days most at file (place + 1) (drop (place + 1) file.entries)) (rows_from days most at file place (drop place file.entries)) _
     (c.in_ok-push_heading.ensures.ok ∙ (λ i. c.loop-place.rows.items ++ level_rows most at place (clock i) (effort i) (level_of entry)))

@@ -1,6 +1,6 @@
 use Rattle.std.proofs.Common.{arith}
 use Rattle.org_sum.specs.Measures.{amount}
-use Rattle.org_clocktable.proofs.TableLemmas.{total_more, total_whole}
+use Rattle.org_clocktable.proofs.TableLemmas.{total_more}
 use Rattle.org_clocktable.proofs.rows.total.Goals as goal
 
 pub overflow_add-sum : goal.overflow_add-sum
