@@ -98,11 +98,7 @@ impl<'a> CountedFile<'a> {
 }
 
 // Which of the entries that count have clocks.
-fn clocked_of(
-    alloc: Global,
-    outline: &Outline,
-    counted: &[bool],
-) -> Result<Vec<bool>, AllocError>
+fn clocked_of(alloc: Global, outline: &Outline, counted: &[bool]) -> Result<Vec<bool>, AllocError>
     requires count { length counted.now ≡ length outline.now }
     ensures { IfOk result (λ clocked. clocked.items ≡ clocked_of outline.now counted.now) }
 {
