@@ -16,7 +16,8 @@ use std::marker::Model;
 ///
 /// Promised is the content, as `Text` has it. What is measured, and not promised: edits and `piece_at` take as many
 /// steps as the logarithm of the number of pieces, and small edits that follow one another at one place are joined
-/// into blocks of up to 1,024 bytes, so that a text typed byte by byte is read nearly as fast as one added whole.
+/// into blocks of up to 1,024 bytes, so that the lines of a text typed byte by byte are read in about twice the time of
+/// those of one added whole.
 #[derive(Debug, Drop)]
 pub struct Pieces {
     alloc: Global,
