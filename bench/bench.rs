@@ -1,7 +1,8 @@
 //! Measures `orgviews` beside the same work in plain Rust, std alone. Built by `rustc -O`; see `bench/run.sh`.
 //!
 //!     bench measure PROGRAM      the table: both programs in turn, the least of several runs
-//!     bench parts PROGRAM        parts of the engine on their own, by the program `org_measure`
+//!     bench parts PARTS PROGRAM  parts of the engine on their own, by the program `org_measure`, and the program, which keeps
+//!                                texts in pieces, beside streams of that, over texts in one string each
 //!     bench plain                answers the commands `add`, `text`, `todo`, `agenda`, some `match` and some `clock` of standard
 //!                                input
 //!     bench text BYTES           an Org file of that many bytes
@@ -32,7 +33,7 @@ fn main() -> io::Result<()> {
     let args: Vec<String> = std::env::args().collect();
     match args.get(1).map(String::as_str) {
         Some("measure") => measure(&args[2], &args[0]),
-        Some("parts") => parts(&args[2], &args[0]),
+        Some("parts") => parts(&args[2], &args[3], &args[0]),
         Some("plain") => plain(),
         Some("text") => io::stdout().write_all(text(args[2].parse().unwrap()).as_bytes()),
         Some("cost") => print_cost(&args[2], &args[3..]),
@@ -41,7 +42,7 @@ fn main() -> io::Result<()> {
             Ok(())
         }
         Some(kind @ ("vector" | "rope")) => edits(kind, &args[2], args[3].parse().unwrap(), args[4].parse().unwrap()),
-        _ => panic!("bench measure PROGRAM | parts PROGRAM | plain | text BYTES | cost FILE PROGRAM .."),
+        _ => panic!("bench measure PROGRAM | parts PARTS PROGRAM | plain | text BYTES | cost FILE PROGRAM .."),
     }
 }
 
@@ -335,7 +336,7 @@ fn part(own: &str, program: &str, words: &[&str], path: &str) -> io::Result<Cost
     Ok(least)
 }
 
-fn parts(program: &str, own: &str) -> io::Result<()> {
+fn parts(program: &str, in_pieces: &str, own: &str) -> io::Result<()> {
     let path = std::env::temp_dir().join(format!("orgviews-parts-{}", std::process::id()));
     let path = path.to_string_lossy().into_owned();
     println!("parts of the engine, least of {RUNS} runs of a whole process");
@@ -359,8 +360,32 @@ fn parts(program: &str, own: &str) -> io::Result<()> {
             near.seconds, far.seconds
         );
     }
+    both_kinds(program, in_pieces, own, &path)?;
     edit_parts(program, own, &path)?;
     std::fs::remove_file(&path)
+}
+
+// Texts that were never edited, in pieces and in one string each.
+fn both_kinds(in_strings: &str, in_pieces: &str, own: &str, path: &str) -> io::Result<()> {
+    let text = text(8 * MIB);
+    for question in ["add", "text", "todo"] {
+        let mut stream = format!("add a.org {}\n{text}", text.len());
+        match question {
+            "text" => stream.push_str(&"text a.org\n".repeat(QUESTIONS)),
+            "todo" => stream.push_str(&"todo\n".repeat(QUESTIONS)),
+            _ => {}
+        }
+        std::fs::write(path, &stream)?;
+        let pieces = part(own, in_pieces, &["--at", "2024-02-28 10:30"], path)?;
+        let strings = part(own, in_strings, &["stream", "2024-02-28", "10:30"], path)?;
+        println!(
+            "8 MiB  {question:<5} in pieces {:.4} s, in one string {:.4} s, ratio {:.3}",
+            pieces.seconds,
+            strings.seconds,
+            pieces.seconds / strings.seconds
+        );
+    }
+    Ok(())
 }
 
 // Edits of one byte in both kinds of text and in plain Rust, and lines of what came out; then lists. The least of several
