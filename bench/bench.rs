@@ -5,12 +5,15 @@
 //!                                texts in pieces, beside streams of that, over texts in one string each
 //!     bench plain                answers the commands `add`, `text`, `todo`, `agenda`, some `match` and some `clock` of standard
 //!                                input
+//!     bench typed                answers the commands `add`, `edit`, `pin` and `unpin` of standard input, over one file
 //!     bench text BYTES           an Org file of that many bytes
 //!     bench KIND PLACE COUNT READS  the lines of the text of standard input after so many edits, read so many times: KIND
 //!                                is `vector` or `rope`
 //!     bench list ITEMS COUNT     how many items a tree of so many has after so many of them were replaced
 //!     bench cost FILE PROGRAM .. seconds and KiB of one run of a program over a file
 mod agenda;
+mod clocks;
+mod edits;
 mod rope;
 
 use rope::Rope;
@@ -21,8 +24,6 @@ use std::io::{self, BufRead, BufReader, Read, Write};
 use std::os::unix::process::ExitStatusExt;
 use std::process::{Child, Command, Stdio};
 use std::time::Instant;
-
-mod clocks;
 
 const MIB: usize = 1 << 20;
 const SIZES: [usize; 3] = [MIB, 4 * MIB, 8 * MIB];
@@ -35,13 +36,14 @@ fn main() -> io::Result<()> {
         Some("measure") => measure(&args[2], &args[0]),
         Some("parts") => parts(&args[2], &args[3], &args[0]),
         Some("plain") => plain(),
+        Some("typed") => edits::plain(),
         Some("text") => io::stdout().write_all(text(args[2].parse().unwrap()).as_bytes()),
         Some("cost") => print_cost(&args[2], &args[3..]),
         Some("list") => {
             println!("{}", rope::size_after(args[2].parse().unwrap(), args[3].parse().unwrap()));
             Ok(())
         }
-        Some(kind @ ("vector" | "rope")) => edits(kind, &args[2], args[3].parse().unwrap(), args[4].parse().unwrap()),
+        Some(kind @ ("vector" | "rope")) => edited_lines(kind, &args[2], args[3].parse().unwrap(), args[4].parse().unwrap()),
         _ => panic!("bench measure PROGRAM | parts PARTS PROGRAM | plain | text BYTES | cost FILE PROGRAM .."),
     }
 }
@@ -150,10 +152,14 @@ fn cost(own: &str, stream: &str, command: &[&str]) -> io::Result<Cost> {
 }
 
 fn both(program: &str, own: &str, stream: &str) -> io::Result<(Cost, Cost)> {
+    both_of(program, own, stream, "plain")
+}
+
+fn both_of(program: &str, own: &str, stream: &str, mode: &str) -> io::Result<(Cost, Cost)> {
     let mut least = None;
     for _run in 0..RUNS {
         let proved = cost(own, stream, &[program, "--at", "2024-02-28 10:30"])?;
-        let plain = cost(own, stream, &[own, "plain"])?;
+        let plain = cost(own, stream, &[own, mode])?;
         least = Some(match least {
             None => (proved, plain),
             Some((a, b)) => (proved.least(a), plain.least(b)),
@@ -164,8 +170,12 @@ fn both(program: &str, own: &str, stream: &str) -> io::Result<(Cost, Cost)> {
 
 // Both programs are to write the same, or they don't do the same work.
 fn compare(program: &str, own: &str, stream: &str) -> io::Result<()> {
+    compare_with(program, own, stream, "plain")
+}
+
+fn compare_with(program: &str, own: &str, stream: &str, mode: &str) -> io::Result<()> {
     let proved = Command::new(program).args(["--at", "2024-02-28 10:30"]).stdin(File::open(stream)?).output()?;
-    let plain = Command::new(own).arg("plain").stdin(File::open(stream)?).output()?;
+    let plain = Command::new(own).arg(mode).stdin(File::open(stream)?).output()?;
     assert!(proved.stdout == plain.stdout, "the two programs write different replies");
     Ok(())
 }
@@ -251,7 +261,46 @@ fn measure(program: &str, own: &str) -> io::Result<()> {
     }
     let question = "clock block=thisyear maxlevel=3 step=day";
     measure_question(program, own, &stream, "a clock of 9,000 years", &clocks::long_clock(), question)?;
+    measure_edits(program, own, &stream)?;
     std::fs::remove_dir_all(&folder)
+}
+
+// Edits and pins of a session, of texts of three sizes. What adding the text takes is taken off.
+fn measure_edits(program: &str, own: &str, stream: &str) -> io::Result<()> {
+    const EDITS: usize = 20_000;
+    println!("{EDITS} edits of one byte at random places by commands: microseconds for each, and the peak memory");
+    for bytes in [80_000, 800_000, 8_000_000] {
+        let text = text(bytes);
+        std::fs::write(stream, edits::stream(&text, 0, false))?;
+        let none = both_of(program, own, stream, "typed")?;
+        for (what, has_pins) in [("", false), ("with pins", true)] {
+            std::fs::write(stream, edits::stream(&text, EDITS, has_pins))?;
+            compare_with(program, own, stream, "typed")?;
+            let all = both_of(program, own, stream, "typed")?;
+            edit_row(bytes, what, EDITS, (all.0, none.0), (all.1, none.1));
+        }
+    }
+    let text = text(8_000_000);
+    std::fs::write(stream, edits::stream(&text, 0, false))?;
+    let none = both_of(program, own, stream, "typed")?;
+    std::fs::write(stream, edits::pins(&text))?;
+    compare_with(program, own, stream, "typed")?;
+    let all = both_of(program, own, stream, "typed")?;
+    edit_row(8_000_000, "64 pins", 64, (all.0, none.0), (all.1, none.1));
+    Ok(())
+}
+
+fn edit_row(bytes: usize, what: &str, count: usize, proved: (Cost, Cost), plain: (Cost, Cost)) {
+    let each = |(all, none): (Cost, Cost)| (all.seconds - none.seconds) / count as f64 * 1e6;
+    println!(
+        "{:>6} KB  {what:<10} {:>7.2} {:>6.1} MiB   plain {:>7.2} {:>6.1} MiB   ratio {:.2}",
+        bytes / 1000,
+        each(proved),
+        proved.0.kib as f64 / 1024.0,
+        each(plain),
+        plain.0.kib as f64 / 1024.0,
+        each(proved) / each(plain)
+    );
 }
 
 fn measure_text(program: &str, own: &str, stream: &str, what: &str, text: &str) -> io::Result<()> {
@@ -424,7 +473,7 @@ fn edit_parts(program: &str, own: &str, path: &str) -> io::Result<()> {
 }
 
 // The lines of the text of standard input after so many edits, each of which puts one byte in, read so many times.
-fn edits(kind: &str, place: &str, count: u64, reads: u64) -> io::Result<()> {
+fn edited_lines(kind: &str, place: &str, count: u64, reads: u64) -> io::Result<()> {
     let mut text = Vec::new();
     io::stdin().read_to_end(&mut text)?;
     let middle = text.len() / 2;

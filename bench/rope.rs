@@ -107,6 +107,7 @@ impl Weigh for Piece {
 }
 
 /// A text in shared blocks. What is put in behind a small block makes one block with it.
+#[derive(Clone)]
 pub struct Rope {
     tree: Tree<Piece>,
     seed: u64,

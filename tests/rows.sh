@@ -1,7 +1,8 @@
 #!/bin/sh
-# Runs the worked streams of tests/rows over a program, and over a second one, where it is named, those that name nothing
-# but a moment: that keeps each text in one string, as the first keeps it in pieces. NAME is standard input, or NAME.make a script that writes it where
-# it is long; NAME.args the arguments, one a line, NAME.stdout what has to be written, NAME.status the exit status (0 where
+# Runs the worked streams of tests/rows over a program. Those that name nothing but a moment are run with one and with 1,000
+# background steps behind each command too, and over a second program, where it is named, that keeps each text in one
+# string, as the first keeps it in pieces. NAME is standard input, or NAME.make a script that writes it where it is long;
+# NAME.args the arguments, one a line, NAME.stdout what has to be written, NAME.status the exit status (0 where
 # there is no such file), NAME.stderr what has to stand on standard error (anything where there is no such file). Says
 # which differ; the last line counts.
 program=$(cd "$(dirname "$1")" && pwd)/$(basename "$1")
@@ -60,7 +61,20 @@ for expected in *.stdout; do
     else
         passed=$((passed + 1))
     fi
-    if [ -z "$strings" ] || [ "$#" -ne 2 ] || [ "$1" != --at ] || [ "$status" -eq 2 ]; then
+    if [ "$#" -ne 2 ] || [ "$1" != --at ] || [ "$status" -eq 2 ]; then
+        continue
+    fi
+    for idle in 1 1000; do
+        "$program" "$@" --idle "$idle" < "$input" > "$out" 2> "$err"
+        if cmp -s "$out" "$expected"; then
+            passed=$((passed + 1))
+        else
+            echo "$name: standard output differs with --idle $idle"
+            diff "$expected" "$out" | head -n 6
+            failed=$((failed + 1))
+        fi
+    done
+    if [ -z "$strings" ]; then
         continue
     fi
     "$strings" stream "${2% *}" "${2#* }" < "$input" > "$out" 2> "$err"

@@ -16,12 +16,12 @@ use Rattle.org_inherit.specs.Scope.{Scope}
 use Rattle.org_sum.specs.Texts.{AreOfText}
 use Rattle.org_text.specs.Replace.{max_bytes}
 use Rattle.org_engine.proofs.ListLemmas.{unread}
-use Rattle.org_engine.specs.Questions.{IsUnreadIf, Replies}
-use Rattle.org_engine.specs.Step.{Ask, ClockTable, Refused, Shown, Unread, file_named, is_missing, refused, step, without}
+use Rattle.org_engine.specs.Questions.{IsUnreadIf, TellsOf}
+use Rattle.org_engine.specs.Step.{ClockTable, Refused, Shown, Unread, file_named, is_missing, view_of}
 use Rattle.org_engine.specs.Tables.{AreShort, IsTableFault}
 use Rattle.org_engine.specs.Views.{is_wanted, scopes_named, table_view, wanted_scope}
 use Rattle.org_engine.specs.Outlines.{scopes_of}
-use Rattle.org_engine.specs.World.{FileView, State, WorldView}
+use Rattle.org_engine.specs.World.{FileView, WorldView}
 use Rattle.org_engine.specs.declared.question.View.TheVariants.{Clock}
 
 -- what is left at a place
@@ -117,15 +117,6 @@ there_within [] i x at = absurd cc
 there_within (y ∷ ys) zero x at = omega arith
 there_within (y ∷ ys) (suc i) x at = omega (arith, there_within ys i x at)
 
--- a file less
-pub without_few : (name : List ℕ) (files : List FileView) → length (without name files) ≤ length files
-without_few name [] = omega arith
-without_few name (f ∷ fs) = by (bytes_eq name f.name) (without_few name fs)
-  where
-    by : (t : Bool) → length (without name fs) ≤ length fs → length (cond t fs (f ∷ without name fs)) ≤ suc (length fs)
-    by true h = omega arith
-    by false h = omega (arith, h)
-
 -- the text of one step more
 pub step_more : {X : Type 0} (f : X → List ℕ) (x : X) (steps rest : List X) (old new all : List ℕ) → steps ≡ x ∷ rest → new ≡ old ++ f x →
     old ++ concat (map f steps) ≡ all → new ++ concat (map f rest) ≡ all
@@ -144,13 +135,12 @@ pub unread_table : (text : List ℕ) (world : WorldView) (fault : Fault) → IsT
 unread_table text world fault (inl none) other = inl (inl none)
 unread_table text world fault (inr (asked, spelled, why)) other = inl (inr (asked, spelled, unread_if asked.expression fault why other))
 
--- the reply to a table
-pub table_shown : (table : Asked Expr) (s : State) (text : List ℕ) → is_missing table.file s.world.files ≡ false → text ≡ table_view table s.world →
-    step (Ask (ClockTable table)) s ≡ record { reply = Shown text; after = s }
-table_shown table s text there is =
-    ap (λ b. cond b (refused code.Unknown s) (record { reply = Shown (table_view table s.world); after = s })) there ∙ ap (λ t. record { reply = Shown t; after = s }) (sym is)
+-- the view of a table
+pub table_shown : (table : Asked Expr) (world : WorldView) (text : List ℕ) → is_missing table.file world.files ≡ false → text ≡ table_view table world → view_of (ClockTable table) world ≡ Shown text
+table_shown table world text there is =
+    ap (λ b. cond b (Refused (Plain code.Unknown)) (Shown (table_view table world))) there ∙ ap Shown (sym is)
 
-pub table_declined : (text : Bor (List ℕ)) (s : State) (fault : Fault) → IsTableFault text.now s.world fault → Replies (Clock text) s (Refused fault) s
-table_declined text s fault (inl why) = (Unread fault, why, refl)
-table_declined text s fault (inr (table, asks, missing, is)) =
-    (ClockTable table, asks, ap (λ b. cond b (refused code.Unknown s) (record { reply = Shown (table_view table s.world); after = s })) missing ∙ ap (λ f. record { reply = Refused f; after = s }) (sym is))
+pub table_declined : (text : Bor (List ℕ)) (world : WorldView) (fault : Fault) → IsTableFault text.now world fault → TellsOf (Clock text) world (Refused fault)
+table_declined text world fault (inl why) = (Unread fault, why, refl)
+table_declined text world fault (inr (table, asks, missing, is)) =
+    (ClockTable table, asks, ap (λ b. cond b (Refused (Plain code.Unknown)) (Shown (table_view table world))) missing ∙ ap Refused (sym is))

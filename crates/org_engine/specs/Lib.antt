@@ -6,3 +6,5 @@ pub mod Sections
 pub mod Step
 pub mod Questions
 pub mod Tables
+pub mod Pins
+pub mod Laws

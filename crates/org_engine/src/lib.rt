@@ -7,12 +7,16 @@
 mod agenda;
 mod engine;
 mod kept;
+pub mod laws;
 mod lists;
 mod outlines;
+mod pins;
 mod question;
+mod seen;
 mod table;
+mod view;
 mod world;
 
 pub use agenda::MOST_DAYS;
-pub use engine::{Engine, LAST_SERIAL, MOST_FILES};
+pub use engine::{Engine, LAST_SERIAL, MOST_FILES, MOST_SESSIONS};
 pub use question::View;

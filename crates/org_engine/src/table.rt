@@ -39,7 +39,6 @@ pub(crate) fn table_text<T: Text>(
     text: &str,
 ) -> Result<String, Fault>
     requires short { length text.now < 2 ^ 32 }
-    requires few { length world.now.files ≤ most_files }
     ensures value { IfOk result (λ out. (table : Asked Expr) × AsksFor text.now world.now.moment.day table × (is_missing table.file world.now.files ≡ false) × (string_bytes out ≡ table_view table world.now)) }
     ensures refused { IfErr result (λ fault. fault ≢ memory_fault → IsTableFault text.now world.now fault) }
     ensures counts { OnOk result (meter.new ≡ worked (section_count world.now.files) (section_count world.now.files) meter.old) }
@@ -95,7 +94,6 @@ fn table_of<T: Text>(
     world: &World<T>,
     spec: &TableSpec<'_>,
 ) -> Result<String, Fault>
-    requires few { length world.now.files ≤ most_files }
     ensures value { IfOk result (λ text. string_bytes text ≡ table_view spec.now world.now) }
     ensures counts { OnOk result (meter.new ≡ worked (section_count world.now.files) (section_count world.now.files) meter.old) }
     ensures few { OnErr result (AtMost (section_count world.now.files) meter.old meter.new) }
@@ -112,7 +110,6 @@ fn table_in<T: Text>(
     spec: &TableSpec<'_>,
 ) -> Result<String, Fault>
     requires read { outlines.now ≡ outlines_of world.now }
-    requires few { length world.now.files ≤ most_files }
     ensures value { IfOk result (λ text. string_bytes text ≡ table_view spec.now world.now) }
     ensures memory { IsOkUnless result memory_fault }
 {
@@ -122,9 +119,10 @@ fn table_in<T: Text>(
     Ok(text)
 }
 
-// No text is longer than texts may be.
+// There are no more files, and no text is longer, than there may be.
 fn are_short<T: Text>(world: &World<T>)
     ensures short { AreShort world.now.files }
+    ensures few { length world.now.files ≤ most_files }
 {
     for place in 0..world.count() {
         let (_, text) = world.file(place);

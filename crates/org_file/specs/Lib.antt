@@ -1,3 +1,5 @@
 pub mod Outline
 pub mod Counts
 pub mod Classified
+pub mod Parts
+pub mod Completion

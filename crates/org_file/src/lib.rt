@@ -4,7 +4,9 @@
 //! for each section, and the settings. A view is asked over what it inherits.
 #![tactic(auto)]
 
+mod completion;
 mod outline;
 mod sections;
 
+pub use completion::complete;
 pub use outline::FileOutline;

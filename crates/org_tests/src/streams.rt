@@ -259,7 +259,7 @@ fn next_is<R: Read>(input: &mut Input<'_, R>, want: &str) -> bool {
     let name = match read_command(input) {
         Next::Given(Command::Add(_, _)) => "add",
         Next::Given(Command::Inherit(_)) => "inherit",
-        Next::Given(Command::Todo(_)) => "todo",
+        Next::Given(Command::Todo(_, _)) => "todo",
         Next::Given(_) => "other",
         Next::Refused(fault) => fault.code().name(),
         Next::Last(fault) => fault.code().name(),
@@ -288,7 +288,7 @@ fn commands_of_an_input(rt: HostRuntime) -> Result<(), Fail> {
 // A question reads each section once; nothing is left for a background step.
 fn counts_a_question(alloc: Global, engine: &mut Engine<Whole>) -> Result<bool, Fault> {
     engine.add("a.org", b"* TODO a\n* DONE b\n")?;
-    let list = engine.query(View::Todo(&Texts::new(alloc)))?;
+    let list = engine.query(View::Todo(&Texts::new(alloc)), None)?;
     Ok(
         list.as_str() == "  a:          TODO a\n"
             && engine.work() == Ok(false)

@@ -1,21 +1,21 @@
 -- The engine's answers, as those that a command wants.
-use Rattle.std.proofs.Common.{◌≡◌, ◌∙◌, ap, refl, sym}
-use Rattle.std.specs.Prelude.{Option, None, Some}
-use Rattle.org_cal.specs.declared.moment.Moment.{Moment}
+use Rattle.std.proofs.Common.{◌≡◌, ◌∙◌, ℕ, ap, refl, sym}
+use Rattle.std.specs.Prelude.{IfErr, IfOk, Option, None, Some, Result, Ok, Err, String, string_bytes}
 use Rattle.org_base.specs.declared.fault.Fault.{Fault}
-use Rattle.org_engine.specs.Questions.{Asks}
+use Rattle.org_cal.specs.declared.moment.Moment.{Moment}
+use Rattle.org_engine.specs.Questions.{Asks, AsksOf, Declines, Replies}
 use Rattle.org_engine.specs.Step as step
 use Rattle.org_engine.specs.World.{State}
 use Rattle.org_engine.specs.declared.question.View.{View}
 use Rattle.org_wire.specs.Run.{Means, moment_command, out_of_memory, shown}
-use Rattle.org_wire.specs.Turns.{Serves, ServesSurely, ServesView}
+use Rattle.org_wire.specs.Turns.{Serves, ServesSurely, ServesView, told, told_text}
 use Rattle.org_wire.specs.declared.command.Command.{Command}
 use Rattle.org_wire.specs.declared.command.Command.TheVariants.{At}
 use Rattle.org_wire.specs.declared.reply.Reply.{Reply}
 use Rattle.org_wire.specs.declared.reply.Reply.TheVariants as reply
 
 -- what the step answers
-pub serves : (command : Command) (said : step.Command) (old new : State) (answered : step.Reply) (answer : Reply) → Means command old.world.moment.day said → answer ≡ shown answered → (answer ≡ out_of_memory → ⊥) →
+pub serves : (command : Command) (said : step.Command) (old new : State) (answered : step.Reply) (answer : Reply) → Means command old said → answer ≡ shown answered → (answer ≡ out_of_memory → ⊥) →
     step.Answers said old answered new → Serves command old answer new
 serves command said old new answered answer means is fine answers = record {
   done = λ _. (said, means, is ∙ ap (λ (o : step.Outcome). shown o.reply) (sym answers), ap (λ (o : step.Outcome). o.after) (sym answers));
@@ -23,7 +23,7 @@ serves command said old new answered answer means is fine answers = record {
 }
 
 -- what the step refuses, or want of memory
-pub refuses : (command : Command) (said : step.Command) (old new : State) (fault : Fault) → Means command old.world.moment.day said → step.Refuses said old fault new → Serves command old (reply.Refused fault) new
+pub refuses : (command : Command) (said : step.Command) (old new : State) (fault : Fault) → Means command old said → step.Refuses said old fault new → Serves command old (reply.Refused fault) new
 refuses command said old new fault means refused = record {
   done = λ ne.
       let answers = refused.1 (λ memory. ne (ap reply.Refused memory)) in
@@ -31,10 +31,42 @@ refuses command said old new fault means refused = record {
   memory = λ _. refused.0;
 }
 
+module _ (command : Command) (said : step.Command) (old new : State) (means : Means command old said) where
+  -- what a change is answered
+  pub tells : (outcome : Result ℕ Fault) → IfOk outcome (λ serial. step.Answers said old (step.Serial serial) new) → IfErr outcome (λ fault. step.Refuses said old fault new) → Serves command old (told outcome) new
+  tells (Ok serial) ok err = serves command said old new (step.Serial serial) (reply.Serial serial) means refl (λ e. cc) ok
+  tells (Err fault) ok err = refuses command said old new fault means err
+
+  -- and one that takes no memory
+  pub tells_surely : (outcome : Result ℕ Fault) → IfOk outcome (λ serial. step.Answers said old (step.Serial serial) new) → IfErr outcome (λ fault. step.RefusesSurely said old fault new) → Serves command old (told outcome) new
+  tells_surely (Ok serial) ok err = tells (Ok serial) ok tt
+  tells_surely (Err fault) ok err = tells (Err fault) tt (err.0, λ _. err.1)
+
+  -- what a question for a text is answered
+  pub tells_text : {Y : Type 0} (outcome : Result (String Y) Fault) → IfOk outcome (λ text. step.Answers said old (step.Shown (string_bytes text)) new) → IfErr outcome (λ fault. step.Refuses said old fault new) → Serves command old (told_text outcome) new
+  tells_text (Ok text) ok err = serves command said old new (step.Shown (string_bytes text)) (reply.Shown (string_bytes text)) means refl (λ e. cc) ok
+  tells_text (Err fault) ok err = refuses command said old new fault means err
+
+-- what a view is answered
+pub tells_view : {Y : Type 0} (view : View) (session : Option ℕ) (old new : State) (outcome : Result (String Y) Fault) → IfOk outcome (λ text. Replies view session old (step.Shown (string_bytes text)) new) → IfErr outcome (λ fault. Declines view session old fault new) →
+    ServesView view session old (told_text outcome) new
+tells_view view session old new (Ok text) ok err = record {
+  done = λ ne. (ok.0, ok.1, ap (λ (o : step.Outcome). shown o.reply) (sym ok.2), ap (λ (o : step.Outcome). o.after) (sym ok.2));
+  memory = λ e. absurd cc;
+}
+tells_view view session old new (Err fault) ok err = record {
+  done = λ ne.
+      let replies = err.1 (λ memory. ne (ap reply.Refused memory)) in
+      (replies.0, replies.1, ap (λ (o : step.Outcome). shown o.reply) (sym replies.2), err.0 ∙ ap (λ (o : step.Outcome). o.after) (sym replies.2));
+  memory = λ _. err.0;
+}
+
 -- what a question is answered
-pub shows : (command : Command) (view : View) (old new : State) (answer : Reply) → ((question : step.Question) → Asks view old.world.moment.day question → Means command old.world.moment.day (step.Ask question)) → ServesView view old answer new → Serves command old answer new
-shows command view old new answer means serves_so = record {
-  done = λ ne. let d = serves_so.done ne in (step.Ask d.0, means d.0 d.1, d.2, d.3);
+pub shows : (command : Command) (view : View) (session : Option ℕ) (old new : State) (answer : Reply) →
+    ((question : step.Question) → AsksOf (Asks view) (step.world_asked session old.world old.pins) question → Means command old (step.Ask question session)) →
+    ServesView view session old answer new → Serves command old answer new
+shows command view session old new answer means serves_so = record {
+  done = λ ne. let d = serves_so.done ne in (step.Ask d.0 session, means d.0 d.1, d.2, d.3);
   memory = serves_so.memory;
 }
 

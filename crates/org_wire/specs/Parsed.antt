@@ -1,38 +1,53 @@
 -- What a line that was parsed without memory says.
 use Rattle.std.specs.Prelude.{◌≤◌, List, [], ℕ, Option, None, Some, length}
 use Rattle.std.specs.Option.{option_map}
-use Rattle.org_wire.specs.Stream.{Line, Bad, Plainly, Frame, words_from}
+use Rattle.org_wire.specs.Stream.{Line, Bad, Plainly, Framed, words_from}
 use Rattle.org_wire.specs.declared.command.Command.TheVariants as command
+use Rattle.org_wire.specs.declared.command.Frame.TheVariants as frame
+use Rattle.org_wire.specs.declared.command.Seen.{Seen}
 use Rattle.org_wire.specs.declared.parse.Parsed.{Parsed}
 use Rattle.org_wire.specs.declared.parse.Parsed.TheVariants as parsed
+use Rattle.org_wire.specs.declared.words.SeenWords.{SeenWords}
 
 -- the words between bytes of a kind, where there are any
 abbrev pub words_in : ℕ → Option (List ℕ) → List (List ℕ)
 words_in gap None = []
 words_in gap (Some words) = words_from gap [] words
 
+-- what a session saw, as a line says it
+abbrev pub seen_in : SeenWords → Seen
+seen_in seen = record { session = seen.session; name = seen.name.now; serial = seen.serial }
+
 -- what a parsed line says
 abbrev pub said : Parsed → Line
 said parsed.Bad = Bad
-said (parsed.Todo words) = Plainly (command.Todo (words_in 124 (option_map (λ words. words.now) words)))
-said (parsed.Match text) = Plainly (command.Match text.now)
-said (parsed.Clock text) = Plainly (command.Clock text.now)
+said (parsed.Todo session words) = Plainly (command.Todo session (words_in 124 (option_map (λ words. words.now) words)))
+said (parsed.Match session text) = Plainly (command.Match session text.now)
+said (parsed.Clock session text) = Plainly (command.Clock session text.now)
+said (parsed.Agenda session date days) = Plainly (command.Agenda session date.now days)
 said (parsed.Drop name) = Plainly (command.Drop name.now)
+said (parsed.Complete seen line keyword) = Plainly (command.Complete (seen_in seen) line keyword.now)
 said (parsed.Inherit names) = Plainly (command.Inherit (words_in 32 (option_map (λ words. words.now) names)))
-said (parsed.Text name) = Plainly (command.Text name.now)
-said (parsed.Agenda date days) = Plainly (command.Agenda date.now days)
 said (parsed.At moment) = Plainly (command.At moment)
-said (parsed.Frame name size) = Frame name.now size
+said (parsed.Pin session) = Plainly (command.Pin session)
+said (parsed.Unpin session) = Plainly (command.Unpin session)
+said (parsed.Text name) = Plainly (command.Text name.now)
+said (parsed.Add name size) = Framed (frame.Add name.now) size
+said (parsed.Edit seen at del size) = Framed (frame.Edit (seen_in seen) at del) size
 
 -- an expression, and the options of a table, are no longer than so many bytes
 abbrev pub IsWithin : ℕ → Parsed → Type 0
-IsWithin most (parsed.Match text) = length text.now ≤ most
-IsWithin most (parsed.Clock text) = length text.now ≤ most
+IsWithin most (parsed.Match session text) = length text.now ≤ most
+IsWithin most (parsed.Clock session text) = length text.now ≤ most
 IsWithin most parsed.Bad = Unit {0}
-IsWithin most (parsed.Todo words) = Unit {0}
+IsWithin most (parsed.Todo session words) = Unit {0}
+IsWithin most (parsed.Agenda session date days) = Unit {0}
 IsWithin most (parsed.Drop name) = Unit {0}
+IsWithin most (parsed.Complete seen line keyword) = Unit {0}
 IsWithin most (parsed.Inherit names) = Unit {0}
-IsWithin most (parsed.Text name) = Unit {0}
-IsWithin most (parsed.Agenda date days) = Unit {0}
 IsWithin most (parsed.At moment) = Unit {0}
-IsWithin most (parsed.Frame name size) = Unit {0}
+IsWithin most (parsed.Pin session) = Unit {0}
+IsWithin most (parsed.Unpin session) = Unit {0}
+IsWithin most (parsed.Text name) = Unit {0}
+IsWithin most (parsed.Add name size) = Unit {0}
+IsWithin most (parsed.Edit seen at del size) = Unit {0}

@@ -7,12 +7,12 @@ use Rattle.org_base.specs.declared.code.Code.TheVariants.{Device}
 use Rattle.org_cal.specs.Faults.{date_fault}
 use Rattle.org_cal.specs.declared.moment.Moment.{Moment}
 use Rattle.org_engine.specs.World.{State}
-use Rattle.org_engine.specs.Questions.{AsksMatch, asked_agenda, AsksTable}
+use Rattle.org_engine.specs.Questions.{AsksMatch, AsksOf, AsksTable, asked_agenda}
 use Rattle.org_engine.specs.Step as step
 use Rattle.org_wire.specs.Replies.{reply_bytes, fault_bytes}
 use Rattle.org_wire.specs.Stream.{reading_of, IsReplaceable}
 use Rattle.org_wire.specs.declared.command.Command.{Command}
-use Rattle.org_wire.specs.declared.command.Command.TheVariants.{Add, Agenda, At, Drop, Inherit, Match, Text, Todo, Clock}
+use Rattle.org_wire.specs.declared.command.Command.TheVariants.{Add, Agenda, At, Clock, Complete, Drop, Edit, Inherit, Match, Pin, Text, Todo, Unpin}
 use Rattle.org_wire.specs.declared.command.Next.{Next}
 use Rattle.org_wire.specs.declared.command.Next.TheVariants.{Given, Refused, Last, Ended}
 use Rattle.org_wire.specs.declared.reply.Reply.{Reply}
@@ -22,20 +22,29 @@ use Rattle.org_wire.specs.declared.whole.End.TheVariants.{Done, Stopped}
 
 -- the command of another moment; where none is spelled, one that is refused
 abbrev pub moment_command : Option Moment → step.Command
-moment_command None = step.Ask (step.Unread date_fault)
+moment_command None = step.Ask (step.Unread date_fault) None
 moment_command (Some moment) = step.At moment
 
--- the engine's command on a day; that of a match list or a clock table is the question for which its text stands
-abbrev pub Means : Command → ℕ → step.Command → Type 0
-Means (Add name text) today said = said ≡ step.AddFile name text
-Means (Drop name) today said = said ≡ step.DropFile name
-Means (Inherit names) today said = said ≡ step.Inherit names
-Means (Text name) today said = said ≡ step.TextOf name
-Means (Todo words) today said = said ≡ step.Ask (step.TodoList words)
-Means (Match text) today said = (question : step.Question) × AsksMatch text question × (said ≡ step.Ask question)
-Means (Clock text) today said = (question : step.Question) × AsksTable text today question × (said ≡ step.Ask question)
-Means (Agenda date days) today said = said ≡ step.Ask (asked_agenda date days)
-Means (At moment) today said = said ≡ moment_command moment
+-- the question for which a view stands, asked of the current world or of the one that a session keeps, on that one's day
+abbrev pub MeansView : (ℕ → step.Question → Type 0) → Option ℕ → State → step.Command → Type 0
+MeansView asks session s said =
+    (question : step.Question) × AsksOf asks (step.world_asked session s.world s.pins) question × (said ≡ step.Ask question session)
+
+-- the engine's command
+abbrev pub Means : Command → State → step.Command → Type 0
+Means (Add name text) s said = said ≡ step.AddFile name text
+Means (Drop name) s said = said ≡ step.DropFile name
+Means (Edit seen at del ins) s said = said ≡ step.EditFile seen.session seen.name seen.serial at del ins
+Means (Complete seen line keyword) s said = said ≡ step.Complete seen.session seen.name seen.serial line keyword
+Means (Inherit names) s said = said ≡ step.Inherit names
+Means (At moment) s said = said ≡ moment_command moment
+Means (Pin session) s said = said ≡ step.PinWorld session
+Means (Unpin session) s said = said ≡ step.Unpin session
+Means (Text name) s said = said ≡ step.TextOf name
+Means (Todo session words) s said = MeansView (λ today question. question ≡ step.TodoList words) session s said
+Means (Match session text) s said = MeansView (λ today question. AsksMatch text question) session s said
+Means (Agenda session date days) s said = MeansView (λ today question. question ≡ asked_agenda date days) session s said
+Means (Clock session text) s said = MeansView (λ today question. AsksTable text today question) session s said
 
 -- the engine's reply, as it is written
 abbrev pub shown : step.Reply → Reply
@@ -49,7 +58,7 @@ out_of_memory = reply.Refused memory_fault
 
 -- what is read is answered so, and leaves this state
 abbrev pub AnswersSo : Next → State → Reply → State → Type 0
-AnswersSo (Given command) old answer new = (said : step.Command) × Means command old.world.moment.day said × (answer ≡ shown (step.step said old).reply) × (new ≡ (step.step said old).after)
+AnswersSo (Given command) old answer new = (said : step.Command) × Means command old said × (answer ≡ shown (step.step said old).reply) × (new ≡ (step.step said old).after)
 AnswersSo (Refused fault) old answer new = (answer ≡ reply.Refused fault) × (new ≡ old)
 AnswersSo (Last fault) old answer new = ⊥
 AnswersSo Ended old answer new = ⊥

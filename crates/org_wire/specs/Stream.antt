@@ -12,15 +12,18 @@ use Rattle.org_text.specs.Replace.{max_bytes}
 use Rattle.org_wire.specs.Lines.{cut_at, longest}
 use Rattle.org_wire.specs.Lines as lines
 use Rattle.org_wire.specs.declared.command.Command.{Command}
-use Rattle.org_wire.specs.declared.command.Command.TheVariants.{Add, Agenda, At, Drop, Inherit, Match, Text, Todo, Clock}
+use Rattle.org_wire.specs.declared.command.Command.TheVariants.{Add, Agenda, At, Clock, Complete, Drop, Edit, Inherit, Match, Pin, Text, Todo, Unpin}
+use Rattle.org_wire.specs.declared.command.Frame.{Frame}
+use Rattle.org_wire.specs.declared.command.Frame.TheVariants as frame
+use Rattle.org_wire.specs.declared.command.Seen.{Seen}
 use Rattle.org_wire.specs.declared.command.Next.{Next}
 use Rattle.org_wire.specs.declared.command.Next.TheVariants.{Given, Refused, Last, Ended}
 
--- what a line says: nothing, a whole command, or a name and the length of the payload that follows
+-- what a line says: nothing, a whole command, or one whose payload of so many bytes follows
 pub data Line : Type 0 where
   Bad : Line
   Plainly : (command : Command) → Line
-  Frame : (name : List ℕ) (size : ℕ) → Line
+  Framed : (frame : Frame) (size : ℕ) → Line
 
 -- the largest number
 abbrev pub most_number : ℕ
@@ -64,44 +67,44 @@ abbrev pub is_word : List ℕ → Bool
 is_word text = list_all (λ b. not (b == 32)) text
 
 -- `todo KW|KW`, from its first keyword on: one word, of keywords between bars
-abbrev pub todo_line : List ℕ → Line
-todo_line words = if is_utf8 words && is_word words && are_words 124 true words then Plainly (Todo (words_from 124 [] words)) else Bad
+abbrev pub todo_line : Option ℕ → List ℕ → Line
+todo_line session words = if is_utf8 words && is_word words && are_words 124 true words then Plainly (Todo session (words_from 124 [] words)) else Bad
 
 -- `match EXPR`, whose expression is the rest of the line
-abbrev pub match_line : List ℕ → Line
-match_line text = if is_utf8 text then Plainly (Match text) else Bad
+abbrev pub match_line : Option ℕ → List ℕ → Line
+match_line session text = if is_utf8 text then Plainly (Match session text) else Bad
 
 -- `clock OPTIONS`, whose options are the rest of the line
-abbrev pub clock_line : List ℕ → Line
-clock_line text = if is_utf8 text then Plainly (Clock text) else Bad
+abbrev pub clock_line : Option ℕ → List ℕ → Line
+clock_line session text = if is_utf8 text then Plainly (Clock session text) else Bad
 
 -- `inherit NAME ..`, from its first name on
 abbrev pub inherit_line : List ℕ → Line
 inherit_line names = if is_utf8 names && are_words 32 true names then Plainly (Inherit (words_from 32 [] names)) else Bad
 
--- a name, and the length of a payload where it is a number
-abbrev pub sized_frame : List ℕ → Option ℕ → Line
-sized_frame name None = Bad
-sized_frame name (Some size) = Frame name size
+-- a payload follows that is as long as a number says
+abbrev pub sized : Frame → Option ℕ → Line
+sized frame None = Bad
+sized frame (Some size) = Framed frame size
 
 -- `add NAME LEN`, from its name on
 abbrev pub add_line : Option lines.Cut → Line
 add_line None = Bad
-add_line (Some cut) = if is_name cut.before then sized_frame cut.before (number_of cut.after) else Bad
+add_line (Some cut) = if is_name cut.before then sized (frame.Add cut.before) (number_of cut.after) else Bad
 
 -- one word that isn't empty
 abbrev pub is_one_word : List ℕ → Bool
 is_one_word text = not (length text == 0) && is_word text && is_utf8 text
 
 -- a date, and days where they are a number
-abbrev pub dated_line : List ℕ → Option ℕ → Line
-dated_line date None = Bad
-dated_line date (Some days) = Plainly (Agenda date days)
+abbrev pub dated_line : Option ℕ → List ℕ → Option ℕ → Line
+dated_line session date None = Bad
+dated_line session date (Some days) = Plainly (Agenda session date days)
 
 -- `agenda DATE DAYS`, from its date on
-abbrev pub agenda_line : Option lines.Cut → Line
-agenda_line None = Bad
-agenda_line (Some cut) = if is_one_word cut.before then dated_line cut.before (number_of cut.after) else Bad
+abbrev pub agenda_line : Option ℕ → Option lines.Cut → Line
+agenda_line session None = Bad
+agenda_line session (Some cut) = if is_one_word cut.before then dated_line session cut.before (number_of cut.after) else Bad
 
 -- the moment of a day and a time, where both are read
 abbrev pub moment_of : Option ℕ → Option ℕ → Option Moment
@@ -115,40 +118,118 @@ at_line None = Bad
 at_line (Some cut) =
     if is_one_word cut.before && is_one_word cut.after then Plainly (At (moment_of (date_of cut.before) (time_of cut.after))) else Bad
 
--- a line of several words, cut behind its first
-abbrev pub words_line : Option lines.Cut → Line
-words_line None = Bad
-words_line (Some cut) = if bytes_eq cut.before (codes "todo") then todo_line cut.after
-    else if bytes_eq cut.before (codes "match") then match_line cut.after
-    else if bytes_eq cut.before (codes "clock") then clock_line cut.after
+-- a first word that is a number, and what follows it
+abbrev pub with_rest : Option ℕ → List ℕ → Option (ℕ × List ℕ)
+with_rest None rest = None
+with_rest (Some n) rest = Some (n, rest)
+
+abbrev pub first_number : Option lines.Cut → Option (ℕ × List ℕ)
+first_number None = None
+first_number (Some cut) = with_rest (number_of cut.before) cut.after
+
+-- `S NAME SERIAL`, which say what a session saw, and what follows them
+abbrev pub seen_serial : ℕ → List ℕ → Option (ℕ × List ℕ) → Option (Seen × List ℕ)
+seen_serial session name None = None
+seen_serial session name (Some serial) = Some (record { session = session; name = name; serial = serial.0 }, serial.1)
+
+abbrev pub seen_name : ℕ → Option lines.Cut → Option (Seen × List ℕ)
+seen_name session None = None
+seen_name session (Some cut) = if is_name cut.before then seen_serial session cut.before (first_number (cut_at 32 cut.after)) else None
+
+abbrev pub seen_session : Option (ℕ × List ℕ) → Option (Seen × List ℕ)
+seen_session None = None
+seen_session (Some session) = seen_name session.0 (cut_at 32 session.1)
+
+abbrev pub seen_of : List ℕ → Option (Seen × List ℕ)
+seen_of text = seen_session (first_number (cut_at 32 text))
+
+-- `edit S NAME SERIAL AT DEL LEN`, behind what was seen, behind AT, and whole
+abbrev pub edit_del : Seen → ℕ → Option (ℕ × List ℕ) → Line
+edit_del seen at None = Bad
+edit_del seen at (Some del) = sized (frame.Edit seen at del.0) (number_of del.1)
+
+abbrev pub edit_at : Seen → Option (ℕ × List ℕ) → Line
+edit_at seen None = Bad
+edit_at seen (Some at) = edit_del seen at.0 (first_number (cut_at 32 at.1))
+
+abbrev pub edit_line : Option (Seen × List ℕ) → Line
+edit_line None = Bad
+edit_line (Some seen) = edit_at seen.0 (first_number (cut_at 32 seen.1))
+
+-- `complete S NAME SERIAL LINE KEYWORD`, behind what was seen, and whole
+abbrev pub complete_at : Seen → Option (ℕ × List ℕ) → Line
+complete_at seen None = Bad
+complete_at seen (Some line) = if is_one_word line.1 then Plainly (Complete seen line.0 line.1) else Bad
+
+abbrev pub complete_line : Option (Seen × List ℕ) → Line
+complete_line None = Bad
+complete_line (Some seen) = complete_at seen.0 (first_number (cut_at 32 seen.1))
+
+-- `pin S` and `unpin S`
+abbrev pub pin_line : Option ℕ → Line
+pin_line None = Bad
+pin_line (Some session) = Plainly (Pin session)
+
+abbrev pub unpin_line : Option ℕ → Line
+unpin_line None = Bad
+unpin_line (Some session) = Plainly (Unpin session)
+
+-- a view, of the current world or of one that a session keeps
+abbrev pub view_words : Option ℕ → Option lines.Cut → Line
+view_words session None = Bad
+view_words session (Some cut) = if bytes_eq cut.before (codes "todo") then todo_line session cut.after
+    else if bytes_eq cut.before (codes "match") then match_line session cut.after
+    else if bytes_eq cut.before (codes "clock") then clock_line session cut.after
+    else if bytes_eq cut.before (codes "agenda") then agenda_line session (cut_at 32 cut.after)
+    else Bad
+
+abbrev pub view_line : Option ℕ → List ℕ → Line
+view_line session line = if bytes_eq line (codes "todo") then Plainly (Todo session [])
+    else if bytes_eq line (codes "match") then Plainly (Match session [])
+    else if bytes_eq line (codes "clock") then Plainly (Clock session [])
+    else view_words session (cut_at 32 line)
+
+-- `pinned S` and a view
+abbrev pub pinned_line : Option (ℕ × List ℕ) → Line
+pinned_line None = Bad
+pinned_line (Some session) = view_line (Some session.0) session.1
+
+-- a line of several words, cut behind its first; without one the current world is asked for a view
+abbrev pub words_line : List ℕ → Option lines.Cut → Line
+words_line line None = view_line None line
+words_line line (Some cut) = if bytes_eq cut.before (codes "edit") then edit_line (seen_of cut.after)
+    else if bytes_eq cut.before (codes "complete") then complete_line (seen_of cut.after)
     else if bytes_eq cut.before (codes "text") then text_line cut.after
     else if bytes_eq cut.before (codes "drop") then drop_line cut.after
     else if bytes_eq cut.before (codes "inherit") then inherit_line cut.after
-    else if bytes_eq cut.before (codes "agenda") then agenda_line (cut_at 32 cut.after)
     else if bytes_eq cut.before (codes "at") then at_line (cut_at 32 cut.after)
     else if bytes_eq cut.before (codes "add") then add_line (cut_at 32 cut.after)
-    else Bad
+    else if bytes_eq cut.before (codes "pin") then pin_line (number_of cut.after)
+    else if bytes_eq cut.before (codes "unpin") then unpin_line (number_of cut.after)
+    else if bytes_eq cut.before (codes "pinned") then pinned_line (first_number (cut_at 32 cut.after))
+    else view_line None line
 
 -- what a line says
 unfoldable pub line_of : List ℕ → Line
-line_of line = if bytes_eq line (codes "todo") then Plainly (Todo [])
-    else if bytes_eq line (codes "match") then Plainly (Match [])
-    else if bytes_eq line (codes "clock") then Plainly (Clock [])
-    else if bytes_eq line (codes "inherit") then Plainly (Inherit [])
-    else words_line (cut_at 32 line)
+line_of line = if bytes_eq line (codes "inherit") then Plainly (Inherit []) else words_line line (cut_at 32 line)
 
 -- what comes next on a stream, and what follows it
 pub record Reading : Type 0 where
   pub next : Next
   pub rest : List ℕ
 
+-- the command of a frame and its payload
+abbrev pub framed : Frame → List ℕ → Command
+framed (frame.Add name) bytes = Add name bytes
+framed (frame.Edit seen at del) bytes = Edit seen at del bytes
+
 -- what comes next, behind a line: a payload follows a frame, and is taken only where it may be that long
 abbrev pub after_line : Line → List ℕ → Reading
 after_line Bad rest = record { next = Refused (Plain code.Command); rest = rest }
 after_line (Plainly command) rest = record { next = Given command; rest = rest }
-after_line (Frame name size) rest = if nat_lt max_bytes size then record { next = Last (Plain Size); rest = rest }
+after_line (Framed frame size) rest = if nat_lt max_bytes size then record { next = Last (Plain Size); rest = rest }
     else if nat_lt (length rest) size then record { next = Last (Plain Cut); rest = [] }
-    else record { next = Given (Add name (take size rest)); rest = drop size rest }
+    else record { next = Given (framed frame (take size rest)); rest = drop size rest }
 
 -- what comes next on a stream that is cut at its first LF
 abbrev pub after_cut : Option lines.Cut → Reading

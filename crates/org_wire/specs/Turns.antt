@@ -1,7 +1,8 @@
 -- What holds between the turns of a run.
-use Rattle.std.specs.Prelude.{◌≡◌, List, ℕ, Option, Some}
+use Rattle.std.specs.Prelude.{◌≡◌, List, ℕ, Option, Some, Result, Ok, Err, String, string_bytes}
+use Rattle.org_base.specs.declared.fault.Fault.{Fault}
 use Rattle.std.specs.Io.KnownBytes.{Appends}
-use Rattle.org_engine.specs.Questions.{Asks}
+use Rattle.org_engine.specs.Questions.{Asks, AsksOf}
 use Rattle.org_engine.specs.Step as step
 use Rattle.org_engine.specs.World.{State}
 use Rattle.org_engine.specs.declared.question.View.{View}
@@ -25,13 +26,23 @@ pub record Serves (command : Command) (old : State) (answer : Reply) (new : Stat
   pub done : (answer ≡ out_of_memory → ⊥) → AnswersSo (Given command) old answer new
   pub memory : answer ≡ out_of_memory → new ≡ old
 
--- the engine's answer to a command that needs no memory
+-- the engine's answer to a step that needs no memory
 abbrev pub ServesSurely : step.Command → State → Reply → State → Type 0
 ServesSurely said old answer new = (answer ≡ shown (step.step said old).reply) × (new ≡ (step.step said old).after)
 
+-- the reply to a change or a pin, and to a question for a text
+abbrev pub told : Result ℕ Fault → Reply
+told (Ok serial) = reply.Serial serial
+told (Err fault) = reply.Refused fault
+
+abbrev pub told_text : {Y : Type 0} → Result (String Y) Fault → Reply
+told_text (Ok text) = reply.Shown (string_bytes text)
+told_text (Err fault) = reply.Refused fault
+
 -- the engine's answer to a view, or want of memory with nothing changed
-pub record ServesView (view : View) (old : State) (answer : Reply) (new : State) : Type 0 where
-  pub done : (answer ≡ out_of_memory → ⊥) → (question : step.Question) × Asks view old.world.moment.day question × (answer ≡ shown (step.step (step.Ask question) old).reply) × (new ≡ (step.step (step.Ask question) old).after)
+pub record ServesView (view : View) (session : Option ℕ) (old : State) (answer : Reply) (new : State) : Type 0 where
+  pub done : (answer ≡ out_of_memory → ⊥) → (question : step.Question) × AsksOf (Asks view) (step.world_asked session old.world old.pins) question
+      × (answer ≡ shown (step.step (step.Ask question session) old).reply) × (new ≡ (step.step (step.Ask question session) old).after)
   pub memory : answer ≡ out_of_memory → new ≡ old
 
 -- what was read is answered so

@@ -1,30 +1,68 @@
 //! The commands of a stream.
+ghost use Rattle.std.specs.Prelude.{◌≡◌};
+ghost use Rattle.org_wire.specs.Stream.{framed};
 
 use crate::expression::Expression;
 use org_base::{Bytes, Fault, Name, Texts};
 use org_cal::Moment;
 
-/// A command, one variant for each line that is one.
+/// What a session saw of a file before it changes it: the file's name, and the serial of its text.
+#[derive(Drop)]
+pub struct Seen {
+    /// The session's number.
+    pub session: u64,
+    /// The file's name.
+    pub name: Name,
+    /// The serial that the file had.
+    pub serial: u64,
+}
+
+/// A command, one variant for each line that is one. A view has a session where it is asked of what that one keeps.
 #[derive(Drop)]
 pub enum Command {
     /// `add NAME LEN`, with its payload: adds a file.
     Add(Name, Bytes),
     /// `drop NAME`: takes a file out.
     Drop(Name),
+    /// `edit S NAME SERIAL AT DEL LEN`, with its payload: replaces so many bytes at a place by the payload.
+    Edit(Seen, u64, u64, Bytes),
+    /// `complete S NAME SERIAL LINE KEYWORD`: completes the heading on a line.
+    Complete(Seen, u64, Name),
     /// `inherit NAME ..`: names the properties that headings inherit; none without a name.
     Inherit(Texts),
+    /// `at DATE TIME`: asks for views at another moment from now on; None where these spell none.
+    At(Option<Moment>),
+    /// `pin S`: keeps the world for a session.
+    Pin(u64),
+    /// `unpin S`: lets go of what a session keeps.
+    Unpin(u64),
     /// `text NAME`: asks for a file's text.
     Text(Name),
     /// `todo` or `todo KW|KW`: asks for the TODO list of these keywords; of none, of those that aren't done.
-    Todo(Texts),
+    Todo(Option<u64>, Texts),
     /// `match EXPR`: asks for the match list of an expression, which is the rest of the line and may be empty.
-    Match(Expression),
+    Match(Option<u64>, Expression),
     /// `agenda DATE DAYS`: asks for the agenda of so many days from a date on.
-    Agenda(Name, u64),
-    /// `at DATE TIME`: asks for views at another moment from now on; None where these spell none.
-    At(Option<Moment>),
+    Agenda(Option<u64>, Name, u64),
     /// `clock OPTIONS`: asks for the clock table of options, which are the rest of the line and may be empty.
-    Clock(Expression),
+    Clock(Option<u64>, Expression),
+}
+
+// What the line of a command with a payload says.
+#[derive(Drop)]
+pub(crate) enum Frame {
+    Add(Name),
+    Edit(Seen, u64, u64),
+}
+
+// The command of a frame and its payload.
+pub(crate) fn framed(frame: Frame, bytes: Bytes) -> Command
+    ensures value { result ≡ framed frame bytes }
+{
+    match frame {
+        Frame::Add(name) => Command::Add(name, bytes),
+        Frame::Edit(seen, at, del) => Command::Edit(seen, at, del, bytes),
+    }
 }
 
 /// What comes next on a stream.

@@ -2,10 +2,11 @@
 ghost use Rattle.std.specs.Prelude.{◌≡◌, [], ◌++◌, true, IfOk, IfSome, List, ℕ, IsOkUnless};
 ghost use Rattle.org_base.specs.Codes.{memory_fault};
 
-use crate::command::{Command, Next};
+use crate::command::{Command, Frame, Next, framed};
 use crate::counted::Counted;
 use crate::expression::Expression;
 use crate::line::LineBuffer;
+use crate::frames::{add_frame, complete_command, edit_frame};
 use crate::names::words_in;
 use crate::parse::{Parsed, parse_line};
 use crate::room::{MOST_ROOM, Room};
@@ -73,7 +74,8 @@ impl<'a, R: Read> Input<'a, R> {
     ghost use Rattle.org_wire.specs.Steps.{MakesReady, CountsReady, ReadyFalls, TakesByte, CountsByte, ByteFalls, ReadsLine, CountsLine, LineFalls};
     ghost use Rattle.org_wire.specs.Steps.{ReadsPayload, CountsPayload, PayloadFalls, StaysAhead};
     ghost use Rattle.org_wire.specs.Devices.{StaysBounded};
-    ghost use Rattle.org_wire.specs.Stream.{IsRead, after_line, line_of, Frame};
+    ghost use Rattle.org_wire.specs.declared.command.Frame.{Frame};
+    ghost use Rattle.org_wire.specs.Stream.{IsRead, after_line, line_of, Framed};
 
     /// A stream over a reader. Want of memory for a line or for what is read ahead is its only refusal; nothing is read.
     pub fn new(alloc: Global, reader: &'a mut Counted<R>) -> Result<Input<'a, R>, Fault>
@@ -233,10 +235,10 @@ impl<'a, R: Read> Input<'a, R> {
         }
     }
 
-    // The command to add a file of this name, whose text follows. Without a name there was no memory for it.
-    fn read_frame(&mut self, name: Option<Name>, size: u64) -> Next
-        ensures value { (word : List ℕ) → IfSome name (λ n. n ≡ word) → IfSome (left R.remaining self.old) (λ bytes.
-            IsRead (after_line (Frame word size) bytes) result (left R.remaining self.new)) }
+    // The command of a frame, whose payload follows. Without a frame there was no memory for it.
+    fn read_frame(&mut self, frame: Option<Frame>, size: u64) -> Next
+        ensures value { (said : Frame) → IfSome frame (λ f. f ≡ said) → IfSome (left R.remaining self.old) (λ bytes.
+            IsRead (after_line (Framed said size) bytes) result (left R.remaining self.new)) }
         ensures counted { CountsNext result self.old.reader.now self.new.reader.now }
         ensures falls { StaysAhead result (ahead self.old) (ahead self.new) }
         ensures last { NeverStopsForMemory result }
@@ -247,8 +249,8 @@ impl<'a, R: Read> Input<'a, R> {
             return Next::Last(Fault::Plain(Code::Size));
         }
         match self.read_payload(size as usize) {
-            Payload::Whole(bytes) => match name {
-                Some(name) => Next::Given(Command::Add(name, bytes)),
+            Payload::Whole(bytes) => match frame {
+                Some(frame) => Next::Given(framed(frame, bytes)),
                 None => Next::Refused(Fault::Plain(Code::Memory)),
             },
             Payload::NoMemory => Next::Refused(Fault::Plain(Code::Memory)),
@@ -269,39 +271,51 @@ impl<'a, R: Read> Input<'a, R> {
     {
         match parse_line(self.line.as_slice()) {
             Parsed::Bad => Next::Refused(Fault::Plain(Code::Command)),
-            Parsed::Todo(words) => match words_in(self.alloc, b'|', words) {
-                Ok(words) => Next::Given(Command::Todo(words)),
-                Err(_) => Next::Refused(Fault::Plain(Code::Memory)),
-            },
-            Parsed::Match(text) => match Expression::new(self.alloc, text) {
-                Ok(text) => Next::Given(Command::Match(text)),
-                Err(_) => Next::Refused(Fault::Plain(Code::Memory)),
-            },
-            Parsed::Clock(text) => match Expression::new(self.alloc, text) {
-                Ok(text) => Next::Given(Command::Clock(text)),
-                Err(_) => Next::Refused(Fault::Plain(Code::Memory)),
-            },
+            Parsed::Add(name, size) => {
+                let frame = add_frame(self.alloc, name);
+                self.read_frame(frame, size)
+            }
+            Parsed::Edit(seen, at, del, size) => {
+                let frame = edit_frame(self.alloc, seen, at, del);
+                self.read_frame(frame, size)
+            }
             Parsed::Drop(name) => match Name::new(self.alloc, name) {
                 Ok(name) => Next::Given(Command::Drop(name)),
                 Err(_) => Next::Refused(Fault::Plain(Code::Memory)),
             },
+            Parsed::Complete(seen, line, keyword) => {
+                match complete_command(self.alloc, seen, line, keyword) {
+                    Ok(command) => Next::Given(command),
+                    Err(_) => Next::Refused(Fault::Plain(Code::Memory)),
+                }
+            }
             Parsed::Inherit(words) => match words_in(self.alloc, b' ', words) {
                 Ok(names) => Next::Given(Command::Inherit(names)),
                 Err(_) => Next::Refused(Fault::Plain(Code::Memory)),
             },
+            Parsed::At(moment) => Next::Given(Command::At(moment)),
+            Parsed::Pin(session) => Next::Given(Command::Pin(session)),
+            Parsed::Unpin(session) => Next::Given(Command::Unpin(session)),
             Parsed::Text(name) => match Name::new(self.alloc, name) {
                 Ok(name) => Next::Given(Command::Text(name)),
                 Err(_) => Next::Refused(Fault::Plain(Code::Memory)),
             },
-            Parsed::Agenda(date, days) => match Name::new(self.alloc, date) {
-                Ok(date) => Next::Given(Command::Agenda(date, days)),
+            Parsed::Todo(session, words) => match words_in(self.alloc, b'|', words) {
+                Ok(words) => Next::Given(Command::Todo(session, words)),
                 Err(_) => Next::Refused(Fault::Plain(Code::Memory)),
             },
-            Parsed::At(moment) => Next::Given(Command::At(moment)),
-            Parsed::Frame(name, size) => {
-                let name = Name::new(self.alloc, name).ok();
-                self.read_frame(name, size)
-            }
+            Parsed::Match(session, text) => match Expression::new(self.alloc, text) {
+                Ok(text) => Next::Given(Command::Match(session, text)),
+                Err(_) => Next::Refused(Fault::Plain(Code::Memory)),
+            },
+            Parsed::Clock(session, text) => match Expression::new(self.alloc, text) {
+                Ok(text) => Next::Given(Command::Clock(session, text)),
+                Err(_) => Next::Refused(Fault::Plain(Code::Memory)),
+            },
+            Parsed::Agenda(session, date, days) => match Name::new(self.alloc, date) {
+                Ok(date) => Next::Given(Command::Agenda(session, date, days)),
+                Err(_) => Next::Refused(Fault::Plain(Code::Memory)),
+            },
         }
     }
 }

@@ -8,6 +8,7 @@ mod command;
 mod counted;
 mod digits;
 mod expression;
+mod frames;
 mod input;
 pub mod laws;
 mod line;
@@ -18,8 +19,9 @@ mod reply;
 mod room;
 mod serve;
 mod whole;
+mod words;
 
-pub use command::{Command, Next};
+pub use command::{Command, Next, Seen};
 pub use counted::Counted;
 pub use expression::Expression;
 pub use input::Input;

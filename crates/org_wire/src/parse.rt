@@ -1,116 +1,39 @@
 //! What a line says, read without memory.
-ghost use Rattle.std.specs.Prelude.{◌≡◌, ◌≤◌, None, Some, IfSome, IfNone, MatchOption, length, true, false};
+ghost use Rattle.std.specs.Prelude.{◌≡◌, ◌≤◌, length};
 ghost use Rattle.org_wire.specs.Lines.{cut_at};
-ghost use Rattle.org_wire.specs.Stream.{number_of, is_name, is_word, are_words, line_of, drop_line, inherit_line, match_line, text_line, todo_line, add_line, agenda_line, at_line, is_one_word, moment_of, clock_line};
+ghost use Rattle.org_wire.specs.Stream.{add_line, agenda_line, at_line, clock_line, complete_line, drop_line, edit_line, first_number, inherit_line, line_of, match_line, number_of, pin_line, pinned_line, seen_of, text_line, todo_line, unpin_line, view_line};
 ghost use Rattle.org_wire.specs.Parsed.{IsWithin, said};
-ghost use Rattle.org_cal.specs.Texts.{date_of, time_of};
-ghost use Rattle.std.specs.Str.{is_utf8};
 
-use org_base::is_file_name;
+use crate::words::{SeenWords, are_words, cut, first_number, is_utf8, is_word, moment, name, number, one_word, seen};
 use org_cal::Moment;
 
-/// The largest number that a word can be.
-const MOST_NUMBER: u64 = 1_000_000_000_000_000_000;
-
-/// What a line says.
+/// What a line says. A view has a session where it is asked of what that one keeps.
 #[derive(Drop)]
 pub(crate) enum Parsed<'a> {
     /// No command.
     Bad,
     /// The keywords of a TODO list, with one bar between them; None without one.
-    Todo(Option<&'a [u8]>),
+    Todo(Option<u64>, Option<&'a [u8]>),
     /// The text of an expression.
-    Match(&'a str),
+    Match(Option<u64>, &'a str),
     /// The text of a clock table's options.
-    Clock(&'a str),
+    Clock(Option<u64>, &'a str),
+    /// A date and a number of days.
+    Agenda(Option<u64>, &'a str, u64),
     Drop(&'a str),
+    /// A line and a keyword.
+    Complete(SeenWords<'a>, u64, &'a str),
     /// The names to inherit, with one space between them; None without a name.
     Inherit(Option<&'a [u8]>),
-    Text(&'a str),
-    /// A date and a number of days.
-    Agenda(&'a str, u64),
     /// A moment, if the words spell one.
     At(Option<Moment>),
+    Pin(u64),
+    Unpin(u64),
+    Text(&'a str),
     /// A file to add, and how long its text is.
-    Frame(&'a str, u64),
-}
-
-// What stands before the first such byte, and what follows it.
-fn cut(line: &[u8], byte: u8) -> Option<(&[u8], &[u8])>
-    ensures value { MatchOption result (cut_at byte line.now ≡ None)
-        (λ parts. cut_at byte line.now ≡ Some (record { before = parts.0.now; after = parts.1.now })) }
-    ensures within { IfSome result (λ parts. length parts.1.now ≤ length line.now) }
-{
-    for (i, x) in line.iter().enumerate() {
-        if *x == byte {
-            return Some((&line[..i], &line[i + 1..]));
-        }
-    }
-    None
-}
-
-// The number that a word is: `0`, or digits with no zero in front, at most 10^18.
-fn number(word: &[u8]) -> Option<u64>
-    ensures value { result ≡ number_of word.now }
-{
-    if word.is_empty() || (word.len() > 1 && word[0] == b'0') {
-        return None;
-    }
-    let mut number = 0u64;
-    for digit in word {
-        if *digit < b'0' || *digit > b'9' {
-            return None;
-        }
-        number = 10 * number + u64::from(*digit - b'0');
-        if number > MOST_NUMBER {
-            return None;
-        }
-    }
-    Some(number)
-}
-
-// The file's name that a word is.
-fn name(word: &[u8]) -> Option<&str>
-    ensures none { IfNone result (is_name word.now ≡ false) }
-    ensures some { IfSome result (λ name. (is_name word.now ≡ true) × (name.now ≡ word.now)) }
-{
-    if !is_file_name(word) {
-        return None;
-    }
-    match str::from_utf8(word) {
-        Ok(name) => Some(name),
-        Err(_) => None,
-    }
-}
-
-// Whether no space stands in the text.
-fn is_word(text: &[u8]) -> bool
-    ensures value { result ≡ is_word text.now }
-{
-    text.iter().all(|byte| *byte != b' ')
-}
-
-fn is_utf8(text: &[u8]) -> bool
-    ensures value { result ≡ is_utf8 text.now }
-{
-    str::from_utf8(text).is_ok()
-}
-
-// Whether single bytes of this kind separate words in the text, none of them empty.
-fn are_words(gap: u8, text: &[u8]) -> bool
-    ensures value { result ≡ are_words gap true text.now }
-{
-    let mut begins = true;
-    for byte in text {
-        if *byte != gap {
-            begins = false;
-        } else if begins {
-            return false;
-        } else {
-            begins = true;
-        }
-    }
-    !begins
+    Add(&'a str, u64),
+    /// A place, how many bytes are replaced there, and how many come in their stead.
+    Edit(SeenWords<'a>, u64, u64, u64),
 }
 
 /// What a line says. Words are separated by exactly one space, and none is empty.
@@ -119,29 +42,17 @@ pub(crate) fn parse_line(line: &[u8]) -> Parsed<'_>
     ensures value { line_of line.now ≡ said result }
     ensures within { IsWithin (length line.now) result }
 {
-    if line == b"todo".as_slice() {
-        return Parsed::Todo(None);
-    }
-    if line == b"match".as_slice() {
-        return Parsed::Match("");
-    }
-    if line == b"clock".as_slice() {
-        return Parsed::Clock("");
-    }
     if line == b"inherit".as_slice() {
         return Parsed::Inherit(None);
     }
     let Some((word, rest)) = cut(line, b' ') else {
-        return Parsed::Bad;
+        return parse_view(None, line);
     };
-    if word == b"todo".as_slice() {
-        return parse_todo(rest);
+    if word == b"edit".as_slice() {
+        return parse_edit(rest);
     }
-    if word == b"match".as_slice() {
-        return parse_match(rest);
-    }
-    if word == b"clock".as_slice() {
-        return parse_clock(rest);
+    if word == b"complete".as_slice() {
+        return parse_complete(rest);
     }
     if word == b"text".as_slice() {
         return parse_text(rest);
@@ -152,49 +63,157 @@ pub(crate) fn parse_line(line: &[u8]) -> Parsed<'_>
     if word == b"inherit".as_slice() {
         return parse_inherit(rest);
     }
-    if word == b"agenda".as_slice() {
-        return parse_agenda(rest);
-    }
     if word == b"at".as_slice() {
         return parse_at(rest);
     }
     if word == b"add".as_slice() {
         return parse_add(rest);
     }
+    if word == b"pin".as_slice() {
+        return parse_pin(rest);
+    }
+    if word == b"unpin".as_slice() {
+        return parse_unpin(rest);
+    }
+    if word == b"pinned".as_slice() {
+        return parse_pinned(rest);
+    }
+    parse_view(None, line)
+}
+
+// The view that a line asks for.
+fn parse_view(session: Option<u64>, line: &[u8]) -> Parsed<'_>
+    ensures value { view_line session line.now ≡ said result }
+    ensures within { IsWithin (length line.now) result }
+{
+    if line == b"todo".as_slice() {
+        return Parsed::Todo(session, None);
+    }
+    if line == b"match".as_slice() {
+        return Parsed::Match(session, "");
+    }
+    if line == b"clock".as_slice() {
+        return Parsed::Clock(session, "");
+    }
+    let Some((word, rest)) = cut(line, b' ') else {
+        return Parsed::Bad;
+    };
+    if word == b"todo".as_slice() {
+        return parse_todo(session, rest);
+    }
+    if word == b"match".as_slice() {
+        return parse_match(session, rest);
+    }
+    if word == b"clock".as_slice() {
+        return parse_clock(session, rest);
+    }
+    if word == b"agenda".as_slice() {
+        return parse_agenda(session, rest);
+    }
     Parsed::Bad
 }
 
 // What stands behind `todo`.
-fn parse_todo(rest: &[u8]) -> Parsed<'_>
-    ensures value { todo_line rest.now ≡ said result }
+fn parse_todo(session: Option<u64>, rest: &[u8]) -> Parsed<'_>
+    ensures value { todo_line session rest.now ≡ said result }
     ensures within { IsWithin (length rest.now) result }
 {
     if is_utf8(rest) && is_word(rest) && are_words(b'|', rest) {
-        Parsed::Todo(Some(rest))
+        Parsed::Todo(session, Some(rest))
     } else {
         Parsed::Bad
     }
 }
 
 // What stands behind `match`.
-fn parse_match(rest: &[u8]) -> Parsed<'_>
-    ensures value { match_line rest.now ≡ said result }
+fn parse_match(session: Option<u64>, rest: &[u8]) -> Parsed<'_>
+    ensures value { match_line session rest.now ≡ said result }
     ensures within { IsWithin (length rest.now) result }
 {
     match str::from_utf8(rest) {
-        Ok(text) => Parsed::Match(text),
+        Ok(text) => Parsed::Match(session, text),
         Err(_) => Parsed::Bad,
     }
 }
 
 // What stands behind `clock`.
-fn parse_clock(rest: &[u8]) -> Parsed<'_>
-    ensures value { clock_line rest.now ≡ said result }
+fn parse_clock(session: Option<u64>, rest: &[u8]) -> Parsed<'_>
+    ensures value { clock_line session rest.now ≡ said result }
     ensures within { IsWithin (length rest.now) result }
 {
     match str::from_utf8(rest) {
-        Ok(text) => Parsed::Clock(text),
+        Ok(text) => Parsed::Clock(session, text),
         Err(_) => Parsed::Bad,
+    }
+}
+
+// What stands behind `pinned`.
+fn parse_pinned(rest: &[u8]) -> Parsed<'_>
+    ensures value { pinned_line (first_number (cut_at 32 rest.now)) ≡ said result }
+    ensures within { IsWithin (length rest.now) result }
+{
+    match first_number(rest) {
+        Some((session, line)) => parse_view(Some(session), line),
+        None => Parsed::Bad,
+    }
+}
+
+// What stands behind `edit`.
+fn parse_edit(rest: &[u8]) -> Parsed<'_>
+    ensures value { edit_line (seen_of rest.now) ≡ said result }
+    ensures within { IsWithin (length rest.now) result }
+{
+    let Some((seen, rest)) = seen(rest) else {
+        return Parsed::Bad;
+    };
+    let Some((at, rest)) = first_number(rest) else {
+        return Parsed::Bad;
+    };
+    let Some((del, size)) = first_number(rest) else {
+        return Parsed::Bad;
+    };
+    match number(size) {
+        Some(size) => Parsed::Edit(seen, at, del, size),
+        None => Parsed::Bad,
+    }
+}
+
+// What stands behind `complete`.
+fn parse_complete(rest: &[u8]) -> Parsed<'_>
+    ensures value { complete_line (seen_of rest.now) ≡ said result }
+    ensures within { IsWithin (length rest.now) result }
+{
+    let Some((seen, rest)) = seen(rest) else {
+        return Parsed::Bad;
+    };
+    let Some((line, word)) = first_number(rest) else {
+        return Parsed::Bad;
+    };
+    match one_word(word) {
+        Some(keyword) => Parsed::Complete(seen, line, keyword),
+        None => Parsed::Bad,
+    }
+}
+
+// What stands behind `pin`.
+fn parse_pin(rest: &[u8]) -> Parsed<'_>
+    ensures value { pin_line (number_of rest.now) ≡ said result }
+    ensures within { IsWithin (length rest.now) result }
+{
+    match number(rest) {
+        Some(session) => Parsed::Pin(session),
+        None => Parsed::Bad,
+    }
+}
+
+// What stands behind `unpin`.
+fn parse_unpin(rest: &[u8]) -> Parsed<'_>
+    ensures value { unpin_line (number_of rest.now) ≡ said result }
+    ensures within { IsWithin (length rest.now) result }
+{
+    match number(rest) {
+        Some(session) => Parsed::Unpin(session),
+        None => Parsed::Bad,
     }
 }
 
@@ -244,14 +263,14 @@ fn parse_add(rest: &[u8]) -> Parsed<'_>
         return Parsed::Bad;
     };
     match number(size) {
-        Some(size) => Parsed::Frame(name, size),
+        Some(size) => Parsed::Add(name, size),
         None => Parsed::Bad,
     }
 }
 
 // What stands behind `agenda`.
-fn parse_agenda(rest: &[u8]) -> Parsed<'_>
-    ensures value { agenda_line (cut_at 32 rest.now) ≡ said result }
+fn parse_agenda(session: Option<u64>, rest: &[u8]) -> Parsed<'_>
+    ensures value { agenda_line session (cut_at 32 rest.now) ≡ said result }
     ensures within { IsWithin (length rest.now) result }
 {
     let Some((word, days)) = cut(rest, b' ') else {
@@ -261,7 +280,7 @@ fn parse_agenda(rest: &[u8]) -> Parsed<'_>
         return Parsed::Bad;
     };
     match number(days) {
-        Some(days) => Parsed::Agenda(date, days),
+        Some(days) => Parsed::Agenda(session, date, days),
         None => Parsed::Bad,
     }
 }
@@ -278,28 +297,4 @@ fn parse_at(rest: &[u8]) -> Parsed<'_>
         return Parsed::Bad;
     }
     Parsed::At(moment(date, time))
-}
-
-// The text, if it is one word that isn't empty.
-fn one_word(text: &[u8]) -> Option<&str>
-    ensures none { IfNone result (is_one_word text.now ≡ false) }
-    ensures some { IfSome result (λ word. (is_one_word text.now ≡ true) × (word.now ≡ text.now)) }
-{
-    if text.is_empty() || !is_word(text) {
-        return None;
-    }
-    match str::from_utf8(text) {
-        Ok(word) => Some(word),
-        Err(_) => None,
-    }
-}
-
-// The moment that two words spell, if they do.
-fn moment(date: &[u8], time: &[u8]) -> Option<Moment>
-    ensures value { result ≡ moment_of (date_of date.now) (time_of time.now) }
-{
-    match Moment::read(date, time) {
-        Ok(moment) => Some(moment),
-        Err(_) => None,
-    }
 }

@@ -2,9 +2,10 @@
 ghost use Rattle.std.specs.Prelude.{◌≡◌};
 ghost use Rattle.org_engine.specs.Questions.{IsShort};
 ghost use Rattle.org_wire.specs.Run.{moment_command};
-ghost use Rattle.org_wire.specs.Turns.{Serves, ServesSurely, ServesView};
+ghost use Rattle.org_wire.specs.Turns.{Serves, ServesSurely, ServesView, told, told_text};
+ghost use Rattle.org_wire.specs.declared.command.Command.TheVariants.{Complete, Edit};
 
-use crate::command::Command;
+use crate::command::{Command, Seen};
 use crate::reply::Reply;
 use org_base::{Bytes, Code, Fault};
 use org_cal::Moment;
@@ -16,36 +17,66 @@ pub(crate) fn serve<T: Text>(engine: &mut Engine<T>, command: Command) -> Reply
     ensures value { Serves command engine.old.state result engine.new.state }
 {
     match command {
-        Command::Add(name, text) => match engine.add(name.as_str(), text.as_slice()) {
-            Ok(serial) => Reply::Serial(serial),
-            Err(fault) => Reply::Refused(fault),
-        },
-        Command::Drop(name) => match engine.drop_file(name.as_str()) {
-            Ok(serial) => Reply::Serial(serial),
-            Err(fault) => Reply::Refused(fault),
-        },
+        Command::Add(name, text) => told(engine.add(name.as_str(), text.as_slice())),
+        Command::Drop(name) => told(engine.drop_file(name.as_str())),
+        Command::Edit(seen, at, del, ins) => edit(engine, &seen, at, del, ins.as_slice()),
+        Command::Complete(seen, line, keyword) => {
+            complete(engine, &seen, line, keyword.as_str())
+        }
         Command::Inherit(names) => Reply::Serial(engine.set_inherit(names)),
-        Command::Text(name) => match engine.text_of(name.as_str()) {
-            Ok(text) => Reply::Shown(Bytes::new(text.into_bytes())),
-            Err(fault) => Reply::Refused(fault),
-        },
-        Command::Todo(words) => ask(engine, View::Todo(&words)),
-        Command::Match(text) => ask(engine, View::Match(text.as_str())),
-        Command::Clock(text) => ask(engine, View::Clock(text.as_str())),
-        Command::Agenda(date, days) => ask(engine, View::Agenda(date.as_str(), days)),
         Command::At(moment) => set_moment(engine, moment),
+        Command::Pin(session) => told(engine.pin(session)),
+        Command::Unpin(session) => told(engine.unpin(session)),
+        Command::Text(name) => told_text(engine.text_of(name.as_str())),
+        Command::Todo(session, words) => ask(engine, View::Todo(&words), session),
+        Command::Match(session, text) => ask(engine, View::Match(text.as_str()), session),
+        Command::Agenda(session, date, days) => {
+            ask(engine, View::Agenda(date.as_str(), days), session)
+        }
+        Command::Clock(session, text) => ask(engine, View::Clock(text.as_str()), session),
     }
 }
 
-// Asks for a view.
-fn ask<T: Text>(engine: &mut Engine<T>, view: View<'_>) -> Reply
-    requires short { IsShort view }
-    ensures value { ServesView view.entry engine.old.state result engine.new.state }
+// The reply to a change or a pin.
+fn told(outcome: Result<u64, Fault>) -> Reply
+    ensures value { result ≡ told outcome }
 {
-    match engine.query(view) {
+    match outcome {
+        Ok(serial) => Reply::Serial(serial),
+        Err(fault) => Reply::Refused(fault),
+    }
+}
+
+// The reply to a question for a text.
+fn told_text(outcome: Result<String, Fault>) -> Reply
+    ensures value { result ≡ told_text outcome }
+{
+    match outcome {
         Ok(text) => Reply::Shown(Bytes::new(text.into_bytes())),
         Err(fault) => Reply::Refused(fault),
     }
+}
+
+// Replaces bytes of the text that a session saw.
+fn edit<T: Text>(engine: &mut Engine<T>, seen: &Seen, at: u64, del: u64, ins: &[u8]) -> Reply
+    ensures value { Serves (Edit seen.now at del ins.now) engine.old.state result engine.new.state }
+{
+    told(engine.edit(seen.session, seen.name.as_str(), seen.serial, at, del, ins))
+}
+
+// Completes a heading of the text that a session saw.
+fn complete<T: Text>(engine: &mut Engine<T>, seen: &Seen, line: u64, keyword: &str) -> Reply
+    ensures value { Serves (Complete seen.now line keyword.now) engine.old.state result engine.new.state }
+{
+    told(engine.complete(seen.session, seen.name.as_str(), seen.serial, line, keyword))
+}
+
+// Asks for a view.
+fn ask<T: Text>(engine: &mut Engine<T>, view: View<'_>, session: Option<u64>) -> Reply
+    requires short { IsShort view }
+    ensures value { ServesView view.entry session engine.old.state result engine.new.state }
+{
+    told_text(engine.query(view, session))
 }
 
 // Asks for views at another moment from now on.

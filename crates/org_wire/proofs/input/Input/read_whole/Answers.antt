@@ -1,9 +1,15 @@
-use Rattle.std.proofs.Common.{◌≡◌, ◌∙◌, ap, sym, List, ℕ}
-use Rattle.org_wire.specs.Stream.{line_of, Frame}
-use Rattle.org_wire.proofs.PayloadLemmas.{ok_some}
+use Rattle.std.proofs.Common.{◌≡◌, ◌∙◌, ap, sym}
+use Rattle.org_wire.specs.Parsed.{seen_in}
+use Rattle.org_wire.specs.Stream.{line_of, Framed}
+use Rattle.org_wire.specs.declared.command.Frame.TheVariants as frame
 use Rattle.org_wire.proofs.input.Input.read_whole.Goals as goal
 
-pub returns-in-Frame-clause-value : goal.returns-in-Frame-clause-value
-returns-in-Frame-clause-value g c =
-    let line : line_of c.args.self.now.line ≡ Frame c.in-Frame.name.now c.in-Frame.size = ap line_of (sym c.as_slice.ensures.value) ∙ c.in-Frame.ensures.value in
-    rw line (c.read_frame.ensures.value c.in-Frame.name.now (rw c.ok-name.ensures.value (ok_some {X = List ℕ} (λ n. n ≡ c.in-Frame.name.now) c.new-in-Frame.result c.new-in-Frame.ensures.value)))
+pub returns-in-Add-clause-value : goal.returns-in-Add-clause-value
+returns-in-Add-clause-value g c =
+    let line : line_of c.args.self.now.line ≡ Framed (frame.Add c.in-Add.name.now) c.in-Add.size = ap line_of (sym c.as_slice.ensures.value) ∙ c.in-Add.ensures.value in
+    rw line (c.read_frame.ensures.value (frame.Add c.in-Add.name.now) c.add_frame.ensures.value)
+
+pub returns-in-Edit-clause-value : goal.returns-in-Edit-clause-value
+returns-in-Edit-clause-value g c =
+    let line : line_of c.args.self.now.line ≡ Framed (frame.Edit (seen_in c.in-Edit.seen) c.in-Edit.at c.in-Edit.del) c.in-Edit.size = ap line_of (sym c.as_slice.ensures.value) ∙ c.in-Edit.ensures.value in
+    rw line (c.read_frame-in-Edit.ensures.value (frame.Edit (seen_in c.in-Edit.seen) c.in-Edit.at c.in-Edit.del) c.edit_frame.ensures.value)
