@@ -105,7 +105,7 @@ completed_of s line keyword (Err f) text h = absurd cc
 completed_of s line keyword (Ok had) text h = (had, refl, h)
 
 -- serials of files that are given rise
-serials : List FileView → List ℕ
+abbrev serials : List FileView → List ℕ
 serials = map (λ (f : FileView). f.serial)
 
 abbrev Rises : Command → State → Outcome → Type 0

@@ -22,4 +22,5 @@ pub returns : goal.returns
 returns g c = record {
   short = λ i file there.
       c.loop-place.invariant i file (omega (arith, there_within c.args.world.now.files i file there, c.count-place-end.ensures.value)) there;
+  few = c.count-place-end.ensures.few;
 }

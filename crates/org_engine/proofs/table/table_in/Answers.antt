@@ -20,7 +20,7 @@ pub table_over-requires-clause-few : goal.table_over-requires-clause-few
 table_over-requires-clause-few g c =
     let world = c.args.world.now in
     let named = c.in_ok-inherits.ensures.value ∙ ap (λ (file : Option (List ℕ)). scopes_named file (scopes_of world)) c.file.ensures.value in
-    omega (arith, ap length named, named_few c.args.spec.now.file (scopes_of world), length-map world.files (λ (f : FileView). scope_of world.inherited f.name f.text), c.requires.few)
+    omega (arith, ap length named, named_few c.args.spec.now.file (scopes_of world), length-map world.files (λ (f : FileView). scope_of world.inherited f.name f.text), c.are_short.ensures.few)
 
 pub returns-clause-value : goal.returns-clause-value
 unfolding table_view
