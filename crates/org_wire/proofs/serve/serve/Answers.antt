@@ -15,7 +15,10 @@ returns-in-Drop g c = record {
 }
 
 pub returns-in-Edit : goal.returns-in-Edit
-returns-in-Edit g c = record { value = rw c.in-Edit.is (c.edit.ensures.value) }
+returns-in-Edit g c = record { value = rw c.in-Edit.is (rw c.as_slice-in-Edit.ensures.value at c.edit.ensures.value) }
+
+pub returns-in-Complete : goal.returns-in-Complete
+returns-in-Complete g c = record { value = rw c.in-Complete.is (rw c.as_str-in-Complete.ensures.value at c.complete.ensures.value) }
 
 pub returns-in-Inherit : goal.returns-in-Inherit
 returns-in-Inherit g c = record {
