@@ -4,7 +4,11 @@
 //! for each section, and the settings. A view is asked over what it inherits.
 #![tactic(auto)]
 
+mod completion;
+pub mod laws;
 mod outline;
+mod plan;
 mod sections;
 
+pub use completion::complete;
 pub use outline::FileOutline;

@@ -1,0 +1,21 @@
+-- The section that begins with a line (profile).
+use Rattle.std.specs.Prelude.{◌≡◌, ℕ, ◌+◌, ◌<◌, List, [], length, take, get_or}
+use Rattle.std.specs.List.{concat, flat_map}
+use Rattle.org_class.specs.Sections.{sections}
+use Rattle.org_lines.specs.Cuts.{lines}
+
+-- how many lines stand before the section at a place
+abbrev pub lines_before : List ℕ → ℕ → ℕ
+lines_before text place = length (flat_map lines (take place (sections text)))
+
+-- the section at a place begins with the line. Lines count from 1
+pub record IsBegunBy (text : List ℕ) (line place : ℕ) : Type 0 where
+  pub within : place < length (sections text)
+  pub first : line ≡ lines_before text place + 1
+
+-- the section at a place, and where it begins
+abbrev pub section_of : List ℕ → ℕ → List ℕ
+section_of text place = get_or (sections text) place []
+
+abbrev pub section_start : List ℕ → ℕ → ℕ
+section_start text place = length (concat (take place (sections text)))

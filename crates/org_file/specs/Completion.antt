@@ -1,0 +1,153 @@
+-- Completing a heading: its keyword, and its repeated stamps (Org manual 9.6, Repeated tasks; where the keyword goes, and
+-- which one is written: profile).
+use Rattle.std.specs.Prelude.{ℕ, ◌+◌, ◌-◌, Bool, false, ◌&&◌, ◌||◌, not, nat_lt, if◌then◌else◌, List, [], ◌∷◌, ◌++◌, length, take, drop, get_or, slice_get, codes, Option, Some, None, Result, Ok, Err, is_some}
+use Rattle.std.specs.List.{concat, prefix_len}
+use Rattle.org_base.specs.Words.{is_space}
+use Rattle.org_base.specs.declared.code.Code.TheVariants as code
+use Rattle.org_base.specs.declared.fault.Fault.{Fault}
+use Rattle.org_base.specs.declared.fault.Fault.TheVariants.{Plain}
+use Rattle.org_base.specs.declared.span.Span.{Span}
+use Rattle.org_cal.specs.declared.moment.Moment.{Moment}
+use Rattle.org_class.specs.Heading.{stars, begins_heading}
+use Rattle.org_class.specs.Sections.{sections}
+use Rattle.org_drawer.specs.declared.planning.Planning.{Planning}
+use Rattle.org_entry.specs.Entry.{entry_of, heading_line}
+use Rattle.org_entry.specs.declared.entry.Entry.{Entry}
+use Rattle.org_file.specs.Outline.{file_settings}
+use Rattle.org_file.specs.Parts.{Part, with_parts}
+use Rattle.org_file.specs.declared.plan.Plan.{Plan}
+use Rattle.org_file.specs.declared.plan.Shift.{Shift}
+use Rattle.org_head.specs.declared.head.Head.{Head}
+use Rattle.org_lines.specs.Cuts.{lines}
+use Rattle.org_repeat.specs.Shift.{shift_answer}
+use Rattle.org_repeat.specs.Shifted.{lacks_time}
+use Rattle.org_settings.specs.Keywords.{keyword_place, keyword_done, keyword_first, keyword_word}
+use Rattle.org_settings.specs.Settings.{FileSettings}
+use Rattle.org_stamp.specs.Print.{stamp_text}
+use Rattle.org_stamp.specs.declared.stamp.Stamp.{Stamp}
+use Rattle.org_text.specs.Replace.{max_bytes}
+
+-- the stamp shifts when its task is done
+abbrev pub shifts : Option (Stamp × Span) → Bool
+shifts None = false
+shifts (Some s) = s.0.active && is_some s.0.repeater
+
+-- and can't, for want of a time
+abbrev pub lacks : Option (Stamp × Span) → Bool
+lacks None = false
+lacks (Some s) = shifts (Some s) && lacks_time s.0
+
+-- the stamp that takes a part's place
+abbrev pub put_at : Span → Result Stamp Fault → Result (Option Shift) Fault
+put_at span (Err fault) = Err fault
+put_at span (Ok stamp) = Ok (Some (record { span = span; stamp = stamp }))
+
+-- the shift of a stamp at a moment, if it shifts
+abbrev pub shift_at : Moment → Option (Stamp × Span) → Result (Option Shift) Fault
+shift_at now None = Ok None
+shift_at now (Some s) = if shifts (Some s) then put_at s.1 (shift_answer s.0 now) else Ok None
+
+-- two shifts by their places
+abbrev pub by_place : Option Shift → Option Shift → Option Shift × Option Shift
+by_place None b = (None, b)
+by_place (Some a) None = (Some a, None)
+by_place (Some a) (Some b) = if nat_lt a.span.at b.span.at then (Some a, Some b) else (Some b, Some a)
+
+-- a keyword is written and no stamp shifts
+abbrev pub plain_plan : ℕ → Plan
+plain_plan place = record { keyword = place; shifts = (None, None) }
+
+-- a keyword is written and both stamps shift, of those that do
+abbrev pub shift_plan : ℕ → Result (Option Shift) Fault → Result (Option Shift) Fault → Result Plan Fault
+shift_plan place (Err fault) b = Err fault
+shift_plan place (Ok a) (Err fault) = Err fault
+shift_plan place (Ok a) (Ok b) = Ok (record { keyword = place; shifts = by_place a b })
+
+-- stamps shift, or want of a time in one of them comes before all else
+abbrev pub repeat_plan : Moment → ℕ → Planning → Result Plan Fault
+repeat_plan now place p =
+    if lacks p.scheduled || lacks p.deadline then Err (Plain code.Hours)
+    else shift_plan place (shift_at now p.scheduled) (shift_at now p.deadline)
+
+-- what the keyword at a place of the file's does: where it is done and a stamp repeats, the first keyword of its sequence is
+-- written and stamps shift, else it is written itself
+abbrev pub keyword_plan : Moment → FileSettings → ℕ → Option Planning → Result Plan Fault
+keyword_plan now settings place None = Ok (plain_plan place)
+keyword_plan now settings place (Some p) =
+    if keyword_done settings.keywords place && (shifts p.scheduled || shifts p.deadline)
+    then repeat_plan now (keyword_first settings.keywords place) p
+    else Ok (plain_plan place)
+
+abbrev pub plan_of : Moment → FileSettings → Option Planning → Option ℕ → Result Plan Fault
+plan_of now settings planning None = Err (Plain code.Keyword)
+plan_of now settings planning (Some place) = keyword_plan now settings place planning
+
+-- where the keyword of a heading line stands, or goes: behind the stars and the white space that follows them
+abbrev pub keyword_span : List ℕ → Option Span → Span
+keyword_span line None = record { at = stars line + prefix_len is_space (drop (stars line) line); len = 0 }
+keyword_span line (Some span) = span
+
+-- what stands behind a keyword that is written: a space where there was none before
+abbrev pub gap_behind : Option Span → List ℕ
+gap_behind None = codes " "
+gap_behind (Some span) = []
+
+-- the parts of a text that a plan replaces in a section that begins at a place
+abbrev pub keyword_part : ℕ → Span → List ℕ → Part
+keyword_part at span ins = record { at = at + span.at; del = span.len; ins = ins }
+
+abbrev pub shift_part : ℕ → Option Shift → List Part
+shift_part at None = []
+shift_part at (Some s) = record { at = at + s.span.at; del = s.span.len; ins = stamp_text s.stamp } ∷ []
+
+abbrev pub plan_parts : ℕ → List ℕ → Option Span → FileSettings → Plan → List Part
+plan_parts at line old settings plan =
+    keyword_part at (keyword_span line old) (keyword_word settings.keywords plan.keyword ++ gap_behind old)
+    ∷ (shift_part at plan.shifts.0 ++ shift_part at plan.shifts.1)
+
+abbrev pub planned_parts : ℕ → List ℕ → Option Span → FileSettings → Result Plan Fault → Result (List Part) Fault
+planned_parts at line old settings (Err fault) = Err fault
+planned_parts at line old settings (Ok plan) = Ok (plan_parts at line old settings plan)
+
+abbrev pub entry_parts : ℕ → Moment → FileSettings → List ℕ → Entry → Option Head → Result (List Part) Fault
+entry_parts at now settings keyword entry None = Err (Plain code.Heading)
+entry_parts at now settings keyword entry (Some head) =
+    planned_parts at (heading_line entry) head.keyword settings (plan_of now settings entry.planning (keyword_place settings.keywords keyword))
+
+abbrev pub section_parts : ℕ → Moment → FileSettings → List ℕ → Entry → Result (List Part) Fault
+section_parts at now settings keyword entry = entry_parts at now settings keyword entry entry.head
+
+-- a heading stands on the line. Lines count from 1
+abbrev pub is_heading_line : Option (List ℕ) → Bool
+is_heading_line None = false
+is_heading_line (Some line) = begins_heading line
+
+abbrev pub has_heading : List ℕ → ℕ → Bool
+has_heading text line = nat_lt 0 line && is_heading_line (slice_get (lines text) (line - 1))
+
+-- where a line begins, and the section that begins at a place
+abbrev pub line_start : List ℕ → ℕ → ℕ
+line_start text line = length (concat (take (line - 1) (lines text)))
+
+abbrev pub section_at : List ℕ → ℕ → List ℕ
+section_at text at = get_or (sections (drop at text)) 0 []
+
+-- what a completion replaces: the keyword and the stamps that shift, or why nothing is
+abbrev pub completion_parts : List ℕ → ℕ → List ℕ → Moment → Result (List Part) Fault
+completion_parts text line keyword now =
+    if not (has_heading text line) then Err (Plain code.Heading) else
+    (let at = line_start text line in
+    section_parts at now (file_settings text) keyword (entry_of (file_settings text) (section_at text at)))
+
+-- a text, unless it is too long
+abbrev pub sized : List ℕ → Result (List ℕ) Fault
+sized text = if nat_lt max_bytes (length text) then Err (Plain code.Size) else Ok text
+
+-- the text with the parts replaced
+abbrev pub completed_by : List ℕ → Result (List Part) Fault → Result (List ℕ) Fault
+completed_by text (Err fault) = Err fault
+completed_by text (Ok parts) = sized (with_parts text parts)
+
+-- the text with the heading on a line completed by a keyword at a moment, or what this is refused for
+unfoldable pub completed : List ℕ → ℕ → List ℕ → Moment → Result (List ℕ) Fault
+completed text line keyword now = completed_by text (completion_parts text line keyword now)
