@@ -197,7 +197,7 @@ pub record ChangeIs (t : List ℕ) (place : ℕ) (settings : FileSettings) (entr
   pub part : IsTextPart t (record { at = section_start t place + (keyword_span (heading_line entry) old).at; len = plan_end (keyword_span (heading_line entry) old) plan - (keyword_span (heading_line entry) old).at })
   pub is : with_parts t (plan_parts (section_start t place) (heading_line entry) old settings plan)
       ≡ replace t (section_start t place + (keyword_span (heading_line entry) old).at) (plan_end (keyword_span (heading_line entry) old) plan - (keyword_span (heading_line entry) old).at)
-        ((keyword_word settings.keywords plan.keyword ++ gap_behind old) ++ plan_text entry.text (keyword_span (heading_line entry) old) plan)
+      ((keyword_word settings.keywords plan.keyword ++ gap_behind old) ++ plan_text entry.text (keyword_span (heading_line entry) old) plan)
 
 pub change_is : (t : List ℕ) (place : ℕ) (settings : FileSettings) (entry : Entry) (old : Option Span) (plan : Plan) → IsEntryOf t place settings entry → CanWrite entry.text (keyword_span (heading_line entry) old) plan → ChangeIs t place settings entry old plan
 change_is t place settings entry old plan e w =
@@ -277,13 +277,15 @@ room_in t place settings entry head e is =
     let text = text_of_entry t place settings entry e in
     let parts : IsTextHead (heading_line entry) head = (subst (λ o. IfSome o (λ (h : Head). IsTextHead (heading_line entry) h × IsTextHead s h)) is text.head).0 in
     let span = keyword_span (heading_line entry) head.keyword in
-    let in_line : IsTextPart (heading_line entry) span = span_is_text (heading_line entry) head.keyword text.heading parts.keyword in
-    (part_of_front x (heading_line entry) span text.text text.heading places.line in_line, record {
-      low = length (heading_line entry);
-      above = in_line.end.0;
-      laid = places.planning;
-      text = planning_in_front s x (length (heading_line entry)) entry.planning text.text places.text places.planning text.planning;
-    })
+    let in_line : IsTextPart (heading_line entry) span = span_is_text (heading_line entry) head.keyword text.heading parts.keyword in (
+      part_of_front x (heading_line entry) span text.text text.heading places.line in_line,
+      record {
+        low = length (heading_line entry);
+        above = in_line.end.0;
+        laid = places.planning;
+        text = planning_in_front s x (length (heading_line entry)) entry.planning text.text places.text places.planning text.planning;
+      },
+    )
 
 -- what is planned can be written
 pub can_write : (t : List ℕ) (place : ℕ) (settings : FileSettings) (entry : Entry) (head : Head) (now : Moment) (word : Option ℕ) (plan : Plan) → IsEntryOf t place settings entry → entry.head ≡ Some head →

@@ -1,6 +1,6 @@
 -- The text completed is that of the section that begins with the line.
-use Rattle.std.proofs.Common.{◌≡◌, ◌≢◌, ◌∙◌, ℕ, zero, suc, ◌+◌, ◌<◌, ◌≤◌, Bool, true, false, inl, inr, List, refl, sym, ap, subst, arith, length}
-use Rattle.std.specs.Prelude.{Result, Ok, Err, IfOk, IfErr, None}
+use Rattle.std.proofs.Common.{◌≡◌, ◌≢◌, ◌∙◌, ℕ, ◌<◌, false, inl, inr, List, refl, sym, ap, arith}
+use Rattle.std.specs.Prelude.{Result, Ok, Err, IfOk, IfErr}
 use Rattle.std.proofs.lemmas.Bool.{cases_Bool}
 use Rattle.org_base.specs.Codes.{memory_fault}
 use Rattle.org_base.specs.Counts.{Counts, ticked}
@@ -33,8 +33,8 @@ completed_there t line place keyword now b =
     let settings = file_settings t in
     elim (cases_Bool (has_heading t line)) [
       | inl h ↦ rw h (
-        ap (λ at. completed_by t (section_parts at now settings keyword (entry_of settings (section_at t at)))) (start_there t line place b)
-        ∙ ap (λ s. completed_by t (section_parts (section_start t place) now settings keyword (entry_of settings s))) (section_there t place))
+          ap (λ at. completed_by t (section_parts at now settings keyword (entry_of settings (section_at t at)))) (start_there t line place b)
+          ∙ ap (λ s. completed_by t (section_parts (section_start t place) now settings keyword (entry_of settings s))) (section_there t place))
       | inr h ↦
           let none = no_head settings (section_of t place) (sym (heading_there t line place b) ∙ h) in
           rw h (sym (ap (λ o. completed_by t (entry_parts (section_start t place) now settings keyword (entry_of settings (section_of t place)) o)) none))

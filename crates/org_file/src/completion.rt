@@ -7,8 +7,8 @@ ghost use Rattle.org_base.specs.Counts.{ticked};
 ghost use Rattle.org_base.specs.Words.{is_space};
 ghost use Rattle.org_base.specs.declared.meter.Tick.TheVariants.{Read};
 ghost use Rattle.org_class.specs.Sections.{sections};
-ghost use Rattle.org_entry.specs.Entry.{entry_of, heading_line};
-ghost use Rattle.org_file.specs.Begun.{section_of, section_start};
+ghost use Rattle.org_entry.specs.Entry.{heading_line};
+ghost use Rattle.org_file.specs.Begun.{entry_there, section_start};
 ghost use Rattle.org_file.specs.Completion as spec;
 ghost use Rattle.org_file.specs.Completion.{completed, completed_by, plan_parts, section_parts, sized};
 ghost use Rattle.org_file.specs.Counts.{AtMost, AtMostOneRead};
@@ -51,9 +51,10 @@ pub fn complete<T: Text>(
     keyword: &str,
     moment: Moment,
 ) -> Result<T, Fault>
-    ensures ok { IfOk result (λ new. completed (T.content text.now) line keyword.now moment ≡ Ok (T.content new)) }
-    ensures err { IfErr result (λ fault. fault ≢ memory_fault
-        → completed (T.content text.now) line keyword.now moment ≡ Err fault) }
+    ensures ok { IfOk result (λ new.
+        completed (T.content text.now) line keyword.now moment ≡ Ok (T.content new)) }
+    ensures err { IfErr result (λ fault.
+        fault ≢ memory_fault → completed (T.content text.now) line keyword.now moment ≡ Err fault) }
     ensures few { AtMost (length (sections (T.content text.now))) meter.old meter.new }
     ensures reads { AtMostOneRead (length (sections (T.content text.now))) meter.old meter.new }
 {
@@ -76,7 +77,7 @@ fn complete_section<T: Text>(
     requires within { place < length (sections file.now) }
     ensures value { AnswersAs T.content result (completed_by file.now
         (section_parts (section_start file.now place) moment (file_settings file.now) keyword.now
-            (entry_of (file_settings file.now) (section_of file.now place)))) }
+        (entry_there file.now place))) }
     ensures counts { meter.new ≡ ticked Read meter.old }
 {
     let entry = file.entry(alloc, meter, place)?;
@@ -99,7 +100,7 @@ fn complete_entry<T: Text>(
     plan: Plan,
 ) -> Result<T, Fault>
     requires within { place < length (sections file.now) }
-    requires entry { entry.now ≡ entry_of (file_settings file.now) (section_of file.now place) }
+    requires entry { entry.now ≡ entry_there file.now place }
     requires headed { IsSome entry.now.head }
     requires plan { CanWrite entry.now.text (spec.keyword_span (heading_line entry.now) old) plan }
     ensures value { AnswersAs T.content result (sized (with_parts file.now
@@ -166,7 +167,8 @@ fn push_bytes(out: &mut String, bytes: &[u8]) -> Result<(), AllocError>
 // Puts a keyword at the end, and a space behind it where the heading has none so far.
 fn push_keyword(out: &mut String, word: &[u8], old: Option<Span>) -> Result<(), AllocError>
     requires utf8 { IsUtf8 word.now }
-    ensures ok { OnOk result (string_bytes out.new ≡ string_bytes out.old ++ (word.now ++ spec.gap_behind old)) }
+    ensures ok { OnOk result (string_bytes out.new
+        ≡ string_bytes out.old ++ (word.now ++ spec.gap_behind old)) }
 {
     push_bytes(out, word)?;
     match old {
@@ -189,7 +191,8 @@ fn push_shifts(
 ) -> Result<u32, Fault>
     requires plan { CanWrite entry.now.text keyword plan }
     requires fits { length entry.now.text < 2 ^ 32 }
-    ensures ok { OnOk result (string_bytes out.new ≡ string_bytes out.old ++ plan_text entry.now.text keyword plan) }
+    ensures ok { OnOk result (string_bytes out.new
+        ≡ string_bytes out.old ++ plan_text entry.now.text keyword plan) }
     ensures end { IfOk result (λ end. end ≡ plan_end keyword plan) }
     ensures memory { IsOkUnless result memory_fault }
 {
@@ -210,7 +213,8 @@ fn push_shift(
     requires fits { length entry.now.text < 2 ^ 32 }
     requires from { IsCharBoundary entry.now.text from }
     requires behind { IsBehind entry.now.text from shift }
-    ensures ok { OnOk result (string_bytes out.new ≡ string_bytes out.old ++ shift_text entry.now.text from shift) }
+    ensures ok { OnOk result (string_bytes out.new
+        ≡ string_bytes out.old ++ shift_text entry.now.text from shift) }
     ensures end { IfOk result (λ end. end ≡ shift_end from shift) }
     ensures cut { IfOk result (λ end. IsCharBoundary entry.now.text end) }
     ensures memory { IsOkUnless result memory_fault }

@@ -8,8 +8,7 @@ ghost use Rattle.org_base.specs.declared.meter.Tick.TheVariants.{Read};
 ghost use Rattle.org_class.specs.Classes.{setting_lines, text_classes};
 ghost use Rattle.org_class.specs.Sections.{bytes_in, sections};
 ghost use Rattle.org_class.specs.Ticks.{classified};
-ghost use Rattle.org_entry.specs.Entry.{entry_of};
-ghost use Rattle.org_file.specs.Begun.{IsBegunBy, section_of, section_start};
+ghost use Rattle.org_file.specs.Begun.{IsBegunBy, entry_there, section_start};
 ghost use Rattle.org_file.specs.Completion.{has_heading};
 ghost use Rattle.org_file.specs.Counts.{have_read};
 ghost use Rattle.org_file.specs.Outline.{file_entries, file_settings};
@@ -116,7 +115,7 @@ impl<'a, T: Text> Sections<'a, T> {
         place: usize,
     ) -> Result<Entry, Fault>
         requires within { place < length (sections self.now) }
-        ensures value { IfOk result (λ entry. entry ≡ entry_of (file_settings self.now) (section_of self.now place)) }
+        ensures value { IfOk result (λ entry. entry ≡ entry_there self.now place) }
         ensures counts { meter.new ≡ ticked Read meter.old }
         ensures memory { IsOkUnless result memory_fault }
     {
@@ -138,7 +137,7 @@ impl<'a, T: Text> Sections<'a, T> {
         self.spans.as_slice()[place].at
     }
 
-    // The text.
+    // The text, of which callers learn that it is UTF-8 and not too long.
     pub(crate) fn text(&self) -> &T
         ensures value { T.content result.now ≡ self.now }
         ensures utf8 { IsUtf8 self.now }

@@ -1,8 +1,6 @@
 -- What is planned for a heading can be written.
-use Rattle.std.proofs.Common.{◌≡◌, ◌∙◌, ap, sym, subst}
-use Rattle.std.specs.Prelude.{Some, IsSome}
-use Rattle.org_entry.specs.Entry.{heading_line}
-use Rattle.org_file.specs.Completion.{plan_of}
+use Rattle.std.proofs.Common.{refl, sym, subst}
+use Rattle.std.specs.Prelude.{IsSome}
 use Rattle.org_file.specs.Outline.{file_settings}
 use Rattle.org_file.proofs.ChangeLemmas.{IsEntryOf, can_write}
 use Rattle.org_settings.specs.Keywords.{keyword_place}
@@ -13,7 +11,7 @@ complete_entry-requires-clause-plan g c =
     let t = c.args.file.now in
     let settings = file_settings t in
     let entry = c.in_ok-entry.entry in
-    let headed : IsSome entry.head = search rules in
-    let own : IsEntryOf t c.args.place settings entry = record { utf8 = c.text.ensures.utf8; small = c.text.ensures.small; within = c.requires.within; is = c.in_ok-entry.ensures.value; headed = headed } in
-    let planned = c.in_ok-plan.ensures.value in
-    can_write t c.args.place settings entry c.in-Some.head c.args.moment (keyword_place settings.keywords c.args.keyword.now) c.in_ok-plan.plan own c.in-Some.is (rw (← c.settings.ensures.value, ← c.get.ensures.value) planned)
+    let headed : IsSome entry.head = subst (λ o. IsSome o) (sym c.in-Some.is) refl in
+    let own : IsEntryOf t c.args.place settings entry = record { utf8 = c.text-text.ensures.utf8; small = c.text-text.ensures.small; within = c.requires.within; is = c.in_ok-entry.ensures.value; headed = headed } in
+    let planned = rw (c.settings.ensures.value, c.get.ensures.value) at c.in_ok-plan.ensures.value in
+    can_write t c.args.place settings entry c.in-Some.head c.args.moment (keyword_place settings.keywords c.args.keyword.now) c.in_ok-plan.plan own c.in-Some.is planned
