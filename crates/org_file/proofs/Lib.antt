@@ -1,2 +1,9 @@
 pub mod CountLemmas
 pub mod ReadLemmas
+pub mod PartLemmas
+pub mod StartLemmas
+pub mod PairLemmas
+pub mod EntryLemmas
+pub mod PlanLemmas
+pub mod ChangeLemmas
+pub mod CompleteLemmas

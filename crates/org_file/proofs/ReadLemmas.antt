@@ -12,7 +12,7 @@ use Rattle.org_entry.specs.declared.entry.Entry.{Entry}
 use Rattle.org_file.specs.Counts.{have_read}
 use Rattle.org_file.proofs.CountLemmas.{on_err}
 
-get_mapped : {A B : Type 0} (f : A → B) (xs : List A) (i : ℕ) (d : A) (e : B) → i < length xs → get_or (map f xs) i e ≡ f (get_or xs i d)
+pub get_mapped : {A B : Type 0} (f : A → B) (xs : List A) (i : ℕ) (d : A) (e : B) → i < length xs → get_or (map f xs) i e ≡ f (get_or xs i d)
 get_mapped f [] i d e lt = absurd (omega arith)
 get_mapped f (x ∷ xs) zero d e lt = refl
 get_mapped f (x ∷ xs) (suc i) d e lt = get_mapped f xs i d e (omega arith)

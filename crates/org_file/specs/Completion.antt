@@ -15,102 +15,135 @@ use Rattle.org_entry.specs.Entry.{entry_of, heading_line}
 use Rattle.org_entry.specs.declared.entry.Entry.{Entry}
 use Rattle.org_file.specs.Outline.{file_settings}
 use Rattle.org_file.specs.Parts.{Part, with_parts}
+use Rattle.org_file.specs.declared.plan.Plan.{Plan}
+use Rattle.org_file.specs.declared.plan.Shift.{Shift}
 use Rattle.org_head.specs.declared.head.Head.{Head}
 use Rattle.org_lines.specs.Cuts.{lines}
-use Rattle.org_repeat.specs.Shift.{shift_of}
+use Rattle.org_repeat.specs.Shift.{shift_answer}
 use Rattle.org_repeat.specs.Shifted.{lacks_time}
-use Rattle.org_settings.specs.Keywords.{Keyword, keyword_place, keyword_done, keyword_first}
+use Rattle.org_settings.specs.Keywords.{keyword_place, keyword_done, keyword_first, keyword_word}
 use Rattle.org_settings.specs.Settings.{FileSettings}
 use Rattle.org_stamp.specs.Print.{stamp_text}
 use Rattle.org_stamp.specs.declared.stamp.Stamp.{Stamp}
 use Rattle.org_text.specs.Replace.{max_bytes}
-
--- where a line begins, from 0
-abbrev pub line_start : List ℕ → ℕ → ℕ
-line_start text place = length (concat (take place (lines text)))
-
--- the section that begins at a place
-abbrev pub section_at : List ℕ → ℕ → List ℕ
-section_at text at = get_or (sections (drop at text)) 0 []
 
 -- the stamp shifts when its task is done
 abbrev pub shifts : Option (Stamp × Span) → Bool
 shifts None = false
 shifts (Some s) = s.0.active && is_some s.0.repeater
 
--- and can't
+-- and can't, for want of a time
 abbrev pub lacks : Option (Stamp × Span) → Bool
 lacks None = false
 lacks (Some s) = shifts (Some s) && lacks_time s.0
 
--- the part of a section that the printed stamp takes the place of
-abbrev pub printed_part : ℕ → Span → Option Stamp → Option (List Part)
-printed_part at span None = None
-printed_part at span (Some t) = Some (record { at = at + span.at; del = span.len; ins = stamp_text t } ∷ [])
+-- the stamp that takes a part's place
+abbrev pub put_at : Span → Result Stamp Fault → Result (Option Shift) Fault
+put_at span (Err fault) = Err fault
+put_at span (Ok stamp) = Ok (Some (record { span = span; stamp = stamp }))
 
-abbrev pub shifted_part : ℕ → Moment → Option (Stamp × Span) → Option (List Part)
-shifted_part at now None = Some []
-shifted_part at now (Some s) = if shifts (Some s) then printed_part at s.1 (shift_of s.0 now) else Some []
+-- the shift of a stamp at a moment, if it shifts
+abbrev pub shift_at : Moment → Option (Stamp × Span) → Result (Option Shift) Fault
+shift_at now None = Ok None
+shift_at now (Some s) = if shifts (Some s) then put_at s.1 (shift_answer s.0 now) else Ok None
 
--- two lists of parts, each of one part at most, by their places
-abbrev pub by_place : List Part → List Part → List Part
-by_place [] qs = qs
-by_place (p ∷ ps) [] = p ∷ ps
-by_place (p ∷ ps) (q ∷ qs) = if nat_lt p.at q.at then p ∷ q ∷ [] else q ∷ p ∷ []
+-- two shifts by their places
+abbrev pub by_place : Option Shift → Option Shift → Option Shift × Option Shift
+by_place None b = (None, b)
+by_place (Some a) None = (Some a, None)
+by_place (Some a) (Some b) = if nat_lt a.span.at b.span.at then (Some a, Some b) else (Some b, Some a)
 
-abbrev pub both_parts : Option (List Part) → Option (List Part) → Option (List Part)
-both_parts None qs = None
-both_parts (Some ps) None = None
-both_parts (Some ps) (Some qs) = Some (by_place ps qs)
+-- a keyword is written and no stamp shifts
+abbrev pub plain_plan : ℕ → Plan
+plain_plan place = record { keyword = place; shifts = (None, None) }
 
--- where the keyword stands, or goes: behind the stars and the white space
-abbrev pub keyword_part : ℕ → List ℕ → Option Span → List ℕ → Part
-keyword_part at line None word = record { at = at + stars line + prefix_len is_space (drop (stars line) line); del = 0; ins = word ++ codes " " }
-keyword_part at line (Some span) word = record { at = at + span.at; del = span.len; ins = word }
+-- a keyword is written and both stamps shift, of those that do
+abbrev pub shift_plan : ℕ → Result (Option Shift) Fault → Result (Option Shift) Fault → Result Plan Fault
+shift_plan place (Err fault) b = Err fault
+shift_plan place (Ok a) (Err fault) = Err fault
+shift_plan place (Ok a) (Ok b) = Ok (record { keyword = place; shifts = by_place a b })
 
--- the word of the keyword at a place
-abbrev pub word_at : List Keyword → ℕ → List ℕ
-word_at ks place = (get_or ks place (record { word = []; done = false; first = 0 })).word
+-- stamps shift, or want of a time in one of them comes before all else
+abbrev pub repeat_plan : Moment → ℕ → Planning → Result Plan Fault
+repeat_plan now place p =
+    if lacks p.scheduled || lacks p.deadline then Err (Plain code.Hours)
+    else shift_plan place (shift_at now p.scheduled) (shift_at now p.deadline)
 
--- what a done keyword changes besides, where stamps shift
-abbrev pub done_parts : ℕ → List ℕ → Option Span → FileSettings → ℕ → Option (List Part) → Result (List Part) Fault
-done_parts at line old settings place None = Err (Plain code.Date)
-done_parts at line old settings place (Some stamps) = Ok (keyword_part at line old (word_at settings.keywords (keyword_first settings.keywords place)) ∷ stamps)
+-- what the keyword at a place of the file's does: where it is done and a stamp repeats, the first keyword of its sequence is
+-- written and stamps shift, else it is written itself
+abbrev pub keyword_plan : Moment → FileSettings → ℕ → Option Planning → Result Plan Fault
+keyword_plan now settings place None = Ok (plain_plan place)
+keyword_plan now settings place (Some p) =
+    if keyword_done settings.keywords place && (shifts p.scheduled || shifts p.deadline)
+    then repeat_plan now (keyword_first settings.keywords place) p
+    else Ok (plain_plan place)
 
--- what is replaced where the keyword at a place is written and no stamp shifts
-abbrev pub plain_parts : ℕ → List ℕ → Option Span → FileSettings → ℕ → Result (List Part) Fault
-plain_parts at line old settings place = Ok (keyword_part at line old (word_at settings.keywords place) ∷ [])
+abbrev pub plan_of : Moment → FileSettings → Option Planning → Option ℕ → Result Plan Fault
+plan_of now settings planning None = Err (Plain code.Keyword)
+plan_of now settings planning (Some place) = keyword_plan now settings place planning
 
-abbrev pub planned_parts : ℕ → Moment → List ℕ → Option Span → FileSettings → ℕ → Option Planning → Result (List Part) Fault
-planned_parts at now line old settings place None = plain_parts at line old settings place
-planned_parts at now line old settings place (Some p) =
-    if not (keyword_done settings.keywords place && (shifts p.scheduled || shifts p.deadline)) then plain_parts at line old settings place
-    else (if lacks p.scheduled || lacks p.deadline then Err (Plain code.Hours)
-    else done_parts at line old settings place (both_parts (shifted_part at now p.scheduled) (shifted_part at now p.deadline)))
+-- where the keyword of a heading line stands, or goes: behind the stars and the white space that follows them
+abbrev pub keyword_span : List ℕ → Option Span → Span
+keyword_span line None = record { at = stars line + prefix_len is_space (drop (stars line) line); len = 0 }
+keyword_span line (Some span) = span
 
-abbrev pub keyword_parts : ℕ → Moment → FileSettings → Entry → Head → Option ℕ → Result (List Part) Fault
-keyword_parts at now settings entry head None = Err (Plain code.Keyword)
-keyword_parts at now settings entry head (Some place) = planned_parts at now (heading_line entry) head.keyword settings place entry.planning
+-- what stands behind a keyword that is written: a space where there was none before
+abbrev pub gap_behind : Option Span → List ℕ
+gap_behind None = codes " "
+gap_behind (Some span) = []
 
-abbrev pub entry_parts : ℕ → Moment → FileSettings → Entry → List ℕ → Option Head → Result (List Part) Fault
-entry_parts at now settings entry keyword None = Err (Plain code.Heading)
-entry_parts at now settings entry keyword (Some head) = keyword_parts at now settings entry head (keyword_place settings.keywords keyword)
+-- the parts of a text that a plan replaces in a section that begins at a place
+abbrev pub keyword_part : ℕ → Span → List ℕ → Part
+keyword_part at span ins = record { at = at + span.at; del = span.len; ins = ins }
 
+abbrev pub shift_part : ℕ → Option Shift → List Part
+shift_part at None = []
+shift_part at (Some s) = record { at = at + s.span.at; del = s.span.len; ins = stamp_text s.stamp } ∷ []
+
+abbrev pub plan_parts : ℕ → List ℕ → Option Span → FileSettings → Plan → List Part
+plan_parts at line old settings plan =
+    keyword_part at (keyword_span line old) (keyword_word settings.keywords plan.keyword ++ gap_behind old)
+    ∷ (shift_part at plan.shifts.0 ++ shift_part at plan.shifts.1)
+
+abbrev pub planned_parts : ℕ → List ℕ → Option Span → FileSettings → Result Plan Fault → Result (List Part) Fault
+planned_parts at line old settings (Err fault) = Err fault
+planned_parts at line old settings (Ok plan) = Ok (plan_parts at line old settings plan)
+
+abbrev pub entry_parts : ℕ → Moment → FileSettings → List ℕ → Entry → Option Head → Result (List Part) Fault
+entry_parts at now settings keyword entry None = Err (Plain code.Heading)
+entry_parts at now settings keyword entry (Some head) =
+    planned_parts at (heading_line entry) head.keyword settings (plan_of now settings entry.planning (keyword_place settings.keywords keyword))
+
+abbrev pub section_parts : ℕ → Moment → FileSettings → List ℕ → Entry → Result (List Part) Fault
+section_parts at now settings keyword entry = entry_parts at now settings keyword entry entry.head
+
+-- a heading stands on the line. Lines count from 1
 abbrev pub is_heading_line : Option (List ℕ) → Bool
 is_heading_line None = false
 is_heading_line (Some line) = begins_heading line
 
--- what a completion replaces: the keyword and the stamps that shift, or why nothing is. Lines count from 1
+abbrev pub has_heading : List ℕ → ℕ → Bool
+has_heading text line = nat_lt 0 line && is_heading_line (slice_get (lines text) (line - 1))
+
+-- where a line begins, and the section that begins at a place
+abbrev pub line_start : List ℕ → ℕ → ℕ
+line_start text line = length (concat (take (line - 1) (lines text)))
+
+abbrev pub section_at : List ℕ → ℕ → List ℕ
+section_at text at = get_or (sections (drop at text)) 0 []
+
+-- what a completion replaces: the keyword and the stamps that shift, or why nothing is
 abbrev pub completion_parts : List ℕ → ℕ → List ℕ → Moment → Result (List Part) Fault
 completion_parts text line keyword now =
-    if not (nat_lt 0 line && is_heading_line (slice_get (lines text) (line - 1))) then Err (Plain code.Heading) else
-    (let at = line_start text (line - 1) in
-    entry_parts at now (file_settings text) (entry_of (file_settings text) (section_at text at)) keyword (entry_of (file_settings text) (section_at text at)).head)
+    if not (has_heading text line) then Err (Plain code.Heading) else
+    (let at = line_start text line in
+    section_parts at now (file_settings text) keyword (entry_of (file_settings text) (section_at text at)))
 
--- the text after it
+-- a text, unless it is too long
 abbrev pub sized : List ℕ → Result (List ℕ) Fault
 sized text = if nat_lt max_bytes (length text) then Err (Plain code.Size) else Ok text
 
+-- the text with the parts replaced
 abbrev pub completed_by : List ℕ → Result (List Part) Fault → Result (List ℕ) Fault
 completed_by text (Err fault) = Err fault
 completed_by text (Ok parts) = sized (with_parts text parts)

@@ -3,3 +3,5 @@ pub mod Counts
 pub mod Classified
 pub mod Parts
 pub mod Completion
+pub mod Written
+pub mod Begun

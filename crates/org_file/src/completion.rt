@@ -1,16 +1,48 @@
 //! Completing a heading.
-ghost use Rattle.std.specs.Prelude.{◌≡◌, ◌≢◌, length, Err, IfErr, IfOk, Ok};
+ghost use Rattle.std.specs.Prelude.{◌≡◌, ◌≢◌, ◌+◌, ◌-◌, ◌++◌, ◌<◌, ◌≤◌, ◌^◌, ℕ, List, Ok, Err, Some, length, IfOk, IfErr, OnOk, IsSome, IsOkUnless, string_bytes};
+ghost use Rattle.std.specs.List.{prefix_len};
+ghost use Rattle.std.specs.Str.{IsUtf8, IsCharBoundary};
 ghost use Rattle.org_base.specs.Codes.{memory_fault};
+ghost use Rattle.org_base.specs.Counts.{ticked};
+ghost use Rattle.org_base.specs.Words.{is_space};
+ghost use Rattle.org_base.specs.declared.meter.Tick.TheVariants.{Read};
 ghost use Rattle.org_class.specs.Sections.{sections};
-ghost use Rattle.org_file.specs.Completion.{completed};
-ghost use Rattle.org_file.specs.Counts.{AtMost};
+ghost use Rattle.org_entry.specs.Entry.{heading_line};
+ghost use Rattle.org_file.specs.Begun.{entry_there, section_start};
+ghost use Rattle.org_file.specs.Completion as spec;
+ghost use Rattle.org_file.specs.Completion.{completed, completed_by, plan_parts, section_parts, sized};
+ghost use Rattle.org_file.specs.Counts.{AtMost, AtMostOneRead};
+ghost use Rattle.org_file.specs.Outline.{file_settings};
+ghost use Rattle.org_file.specs.Parts.{with_parts};
+ghost use Rattle.org_file.specs.Written.{AnswersAs, CanWrite, IsBehind, plan_end, plan_text, shift_end, shift_text};
+ghost use Rattle.org_settings.specs.Keywords.{keyword_word};
+ghost use Rattle.org_text.specs.Replace.{replace};
+ghost use Rattle.org_utf8.specs.Laws.{IsTextPart};
 
-use org_base::{Code, Fault, Meter};
+use crate::plan::{Plan, Shift, plan_of};
+use crate::sections::Sections;
+use org_base::{Code, Fault, Meter, Span};
 use org_cal::Moment;
+use org_class::leading_stars;
+use org_entry::Entry;
+use org_head::Head;
+use org_settings::Settings;
+use org_stamp::print_stamp;
 use org_text::Text;
-use std::alloc::Global;
+use std::alloc::{AllocError, Global};
 
-/// Stub.
+/// The text with the heading on a line completed by a keyword at a moment (Org manual 9.6, "Repeated tasks"). Lines count
+/// from 1. Where the keyword is a done one, and an active `SCHEDULED` or `DEADLINE` of the heading has a repeater, each such
+/// stamp shifts, and the keyword written is the first of the sequence that holds the given one; otherwise that one is
+/// written and no stamp shifts. `+` shifts by one interval, `++` by so many that the stamp lies behind the moment, `.+` to
+/// one interval from the moment's day, or with hours from the moment itself. A shifted stamp is printed anew. Where the
+/// heading has no keyword, it and a space are put behind the stars and the white space that follows them. All else of
+/// the text stays, and so does the text that is lent.
+///
+/// Refusals, in this order: `Heading` where no heading stands on the line; `Keyword` where the keyword is none of the
+/// file's; `Hours` where a stamp that would shift has a repeater of hours and no time, or a time range; `Date` where one
+/// would leave the years 1 to 9999; `Size` where the new text would be longer than a text may be. Want of memory may come
+/// at any time. The meter counts each section as classified once at most, and at most one as read.
 pub fn complete<T: Text>(
     alloc: Global,
     meter: &mut Meter,
@@ -19,9 +51,182 @@ pub fn complete<T: Text>(
     keyword: &str,
     moment: Moment,
 ) -> Result<T, Fault>
-    ensures ok { IfOk result (λ new. completed (T.content text.now) line keyword.now moment ≡ Ok (T.content new)) }
-    ensures err { IfErr result (λ fault. fault ≢ memory_fault → completed (T.content text.now) line keyword.now moment ≡ Err fault) }
+    ensures ok { IfOk result (λ new.
+        completed (T.content text.now) line keyword.now moment ≡ Ok (T.content new)) }
+    ensures err { IfErr result (λ fault.
+        fault ≢ memory_fault → completed (T.content text.now) line keyword.now moment ≡ Err fault) }
     ensures few { AtMost (length (sections (T.content text.now))) meter.old meter.new }
+    ensures reads { AtMostOneRead (length (sections (T.content text.now))) meter.old meter.new }
 {
-    Err(Fault::Plain(Code::Memory))
+    let file = Sections::of(alloc, meter, text)?;
+    let Some(place) = file.begun_by(line) else {
+        return Err(Fault::Plain(Code::Heading));
+    };
+    complete_section(alloc, meter, &file, place, keyword, moment)
+}
+
+// The text with the heading of the section at a place completed.
+fn complete_section<T: Text>(
+    alloc: Global,
+    meter: &mut Meter,
+    file: &Sections<'_, T>,
+    place: usize,
+    keyword: &str,
+    moment: Moment,
+) -> Result<T, Fault>
+    requires within { place < length (sections file.now) }
+    ensures value { AnswersAs T.content result (completed_by file.now
+        (section_parts (section_start file.now place) moment (file_settings file.now) keyword.now
+        (entry_there file.now place))) }
+    ensures counts { meter.new ≡ ticked Read meter.old }
+{
+    let entry = file.entry(alloc, meter, place)?;
+    let Some(head) = &entry.head else {
+        return Err(Fault::Plain(Code::Heading));
+    };
+    // For the proof alone: its contract says that the text is UTF-8.
+    let _text = file.text();
+    let plan = plan_of(file.settings(), entry.planning.get(), keyword, moment)?;
+    complete_entry(alloc, file, place, &entry, head.keyword, plan)
+}
+
+// The text with a plan written into the entry of the section at a place, whose heading has this keyword.
+fn complete_entry<T: Text>(
+    alloc: Global,
+    file: &Sections<'_, T>,
+    place: usize,
+    entry: &Entry,
+    old: Option<Span>,
+    plan: Plan,
+) -> Result<T, Fault>
+    requires within { place < length (sections file.now) }
+    requires entry { entry.now ≡ entry_there file.now place }
+    requires headed { IsSome entry.now.head }
+    requires plan { CanWrite entry.now.text (spec.keyword_span (heading_line entry.now) old) plan }
+    ensures value { AnswersAs T.content result (sized (with_parts file.now
+        (plan_parts (section_start file.now place) (heading_line entry.now) old (file_settings file.now) plan))) }
+{
+    let text = file.text();
+    let span = keyword_span(entry.line(), old);
+    let mut ins = String::new(alloc);
+    push_keyword(&mut ins, file.settings().keyword_word(plan.keyword), old)?;
+    let end = push_shifts(alloc, &mut ins, entry, span, plan)?;
+    let at = file.start(place) + span.at;
+    changed(text, at, end - span.at, ins.as_str())
+}
+
+// The text with a part of it replaced.
+fn changed<T: Text>(text: &T, at: u32, len: u32, ins: &str) -> Result<T, Fault>
+    requires part { IsTextPart (T.content text.now) (record { at = at; len = len }) }
+    ensures value { AnswersAs T.content result (sized (replace (T.content text.now) at len ins.now)) }
+{
+    let mut new = text.share()?;
+    new.edit(at as u64, len as u64, ins)?;
+    Ok(new)
+}
+
+// How many bytes of white space stand at the front.
+fn leading_spaces(text: &[u8]) -> usize
+    ensures within { result ≤ length text.now }
+    ensures value { result ≡ prefix_len is_space text.now }
+{
+    text.iter()
+        .take_while(|b| matches!(**b, b' ' | b'\t' | b'\r'))
+        .count()
+}
+
+// Where the keyword of a heading line stands, or goes.
+fn keyword_span(line: &[u8], old: Option<Span>) -> Span
+    requires fits { length line.now < 2 ^ 32 }
+    ensures value { result ≡ spec.keyword_span line.now old }
+{
+    if let Some(span) = old {
+        return span;
+    }
+    let stars = leading_stars(line);
+    Span {
+        at: (stars + leading_spaces(&line[stars..])) as u32,
+        len: 0,
+    }
+}
+
+// Puts bytes that are text at the end.
+fn push_bytes(out: &mut String, bytes: &[u8]) -> Result<(), AllocError>
+    requires utf8 { IsUtf8 bytes.now }
+    ensures ok { OnOk result (string_bytes out.new ≡ string_bytes out.old ++ bytes.now) }
+{
+    match str::from_utf8(bytes) {
+        Ok(text) => {
+            out.push_str(text)?;
+            Ok(())
+        }
+        Err(_) => Ok(()),
+    }
+}
+
+// Puts a keyword at the end, and a space behind it where the heading has none so far.
+fn push_keyword(out: &mut String, word: &[u8], old: Option<Span>) -> Result<(), AllocError>
+    requires utf8 { IsUtf8 word.now }
+    ensures ok { OnOk result (string_bytes out.new
+        ≡ string_bytes out.old ++ (word.now ++ spec.gap_behind old)) }
+{
+    push_bytes(out, word)?;
+    match old {
+        Some(_) => Ok(()),
+        None => {
+            out.push_str(" ")?;
+            Ok(())
+        }
+    }
+}
+
+// Puts what follows the keyword's part of an entry's text at the end, up to the last stamp of a plan, with the stamps
+// shifted; where that ends.
+fn push_shifts(
+    alloc: Global,
+    out: &mut String,
+    entry: &Entry,
+    keyword: Span,
+    plan: Plan,
+) -> Result<u32, Fault>
+    requires plan { CanWrite entry.now.text keyword plan }
+    requires fits { length entry.now.text < 2 ^ 32 }
+    ensures ok { OnOk result (string_bytes out.new
+        ≡ string_bytes out.old ++ plan_text entry.now.text keyword plan) }
+    ensures end { IfOk result (λ end. end ≡ plan_end keyword plan) }
+    ensures memory { IsOkUnless result memory_fault }
+{
+    let (first, second) = plan.shifts;
+    let end = push_shift(alloc, out, entry, keyword.at + keyword.len, first)?;
+    push_shift(alloc, out, entry, end, second)
+}
+
+// Puts what stands in an entry's text from a place up to a stamp at the end, and the stamp shifted; where that ends.
+fn push_shift(
+    alloc: Global,
+    out: &mut String,
+    entry: &Entry,
+    from: u32,
+    shift: Option<Shift>,
+) -> Result<u32, Fault>
+    requires utf8 { IsUtf8 entry.now.text }
+    requires fits { length entry.now.text < 2 ^ 32 }
+    requires from { IsCharBoundary entry.now.text from }
+    requires behind { IsBehind entry.now.text from shift }
+    ensures ok { OnOk result (string_bytes out.new
+        ≡ string_bytes out.old ++ shift_text entry.now.text from shift) }
+    ensures end { IfOk result (λ end. end ≡ shift_end from shift) }
+    ensures cut { IfOk result (λ end. IsCharBoundary entry.now.text end) }
+    ensures memory { IsOkUnless result memory_fault }
+{
+    let Some(Shift { span, stamp }) = shift else {
+        return Ok(from);
+    };
+    let kept = Span {
+        at: from,
+        len: span.at - from,
+    };
+    push_bytes(out, entry.part(kept))?;
+    out.push_str(print_stamp(alloc, &stamp)?.as_str())?;
+    Ok(span.at + span.len)
 }

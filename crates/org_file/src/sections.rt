@@ -1,16 +1,22 @@
 //! The sections of a text.
-ghost use Rattle.std.specs.Prelude.{◌≡◌, ◌+◌, ◌++◌, ◌≤◌, ℕ, map, length, IfOk, OnOk, OnErr, IsOkUnless};
+ghost use Rattle.std.specs.Prelude.{◌≡◌, ◌+◌, ◌++◌, ◌<◌, ◌≤◌, ℕ, false, None, map, length, IfSome, IfOk, OnOk, OnErr, IsOkUnless};
 ghost use Rattle.std.specs.List.{All};
+ghost use Rattle.std.specs.Str.{IsUtf8};
 ghost use Rattle.org_base.specs.Codes.{memory_fault};
+ghost use Rattle.org_base.specs.Counts.{ticked};
+ghost use Rattle.org_base.specs.declared.meter.Tick.TheVariants.{Read};
 ghost use Rattle.org_class.specs.Classes.{setting_lines, text_classes};
 ghost use Rattle.org_class.specs.Sections.{bytes_in, sections};
 ghost use Rattle.org_class.specs.Ticks.{classified};
+ghost use Rattle.org_file.specs.Begun.{IsBegunBy, entry_there, section_start};
+ghost use Rattle.org_file.specs.Completion.{has_heading};
 ghost use Rattle.org_file.specs.Counts.{have_read};
 ghost use Rattle.org_file.specs.Outline.{file_entries, file_settings};
+ghost use Rattle.org_text.specs.Replace.{max_bytes};
 
 use org_base::{Fault, Meter, Texts};
 use org_class::{Classes, SectionSpans, classify, push_setting_lines, sections};
-use org_entry::read_entry;
+use org_entry::{Entry, read_entry};
 use org_outline::Entries;
 use org_settings::Settings;
 use org_text::Text;
@@ -84,6 +90,68 @@ impl<'a, T: Text> Sections<'a, T> {
             entries.push(entry)?;
         }
         Ok(entries)
+    }
+
+    // The place of the section that begins with a line, from 0; None where none does. Lines count from 1.
+    pub(crate) fn begun_by(&self, line: u64) -> Option<usize>
+        ensures some { IfSome result (λ place. IsBegunBy self.now line place) }
+        ensures none { result ≡ None → has_heading self.now line ≡ false }
+    {
+        let mut before = line.checked_sub(1)?;
+        for (place, classes) in self.classes.iter().enumerate() {
+            if before == 0 {
+                return Some(place);
+            }
+            before = before.checked_sub(classes.count() as u64)?;
+        }
+        None
+    }
+
+    // What the section at a place says, read once as the meter counts, where memory is refused too.
+    pub(crate) fn entry(
+        &self,
+        alloc: Global,
+        meter: &mut Meter,
+        place: usize,
+    ) -> Result<Entry, Fault>
+        requires within { place < length (sections self.now) }
+        ensures value { IfOk result (λ entry. entry ≡ entry_there self.now place) }
+        ensures counts { meter.new ≡ ticked Read meter.old }
+        ensures memory { IsOkUnless result memory_fault }
+    {
+        read_entry(
+            alloc,
+            meter,
+            self.text,
+            self.spans.as_slice()[place],
+            &self.classes[place],
+            &self.settings,
+        )
+    }
+
+    // Where the section at a place begins.
+    pub(crate) fn start(&self, place: usize) -> u32
+        requires within { place < length (sections self.now) }
+        ensures value { result ≡ section_start self.now place }
+    {
+        self.spans.as_slice()[place].at
+    }
+
+    // The text, of which callers learn that it is UTF-8 and not too long.
+    pub(crate) fn text(&self) -> &T
+        ensures value { T.content result.now ≡ self.now }
+        ensures utf8 { IsUtf8 self.now }
+        ensures small { length self.now ≤ max_bytes }
+    {
+        let _len = self.text.len();
+        self.text
+    }
+
+    // The file's settings.
+    pub(crate) fn settings(&self) -> &Settings
+        ensures value { result.now ≡ file_settings self.now }
+    {
+        &self.settings
     }
 
     // The file's settings.

@@ -82,3 +82,7 @@ keyword_done ks place = (get_or ks place (record { word = []; done = false; firs
 -- the place of the first keyword of the sequence that holds the one at a place
 abbrev pub keyword_first : List Keyword → ℕ → ℕ
 keyword_first ks place = (get_or ks place (record { word = []; done = false; first = 0 })).first
+
+-- the word of the keyword at a place; empty where there is none
+abbrev pub keyword_word : List Keyword → ℕ → List ℕ
+keyword_word ks place = (get_or ks place (record { word = []; done = false; first = 0 })).word

@@ -1,7 +1,7 @@
 //! The keywords of a file.
 ghost use Rattle.std.specs.Prelude.{◌≡◌, ◌<◌, [], map, length, IfOk, IfSome, OnOk, IsOkUnless};
 ghost use Rattle.org_base.specs.Codes.{memory_fault};
-ghost use Rattle.org_settings.specs.Keywords.{add_word, add_words, add_sequence, add_line, standard_keywords, is_keyword_line, keyword_place, keyword_done, keyword_first};
+ghost use Rattle.org_settings.specs.Keywords.{add_word, add_words, add_sequence, add_line, standard_keywords, is_keyword_line, keyword_place, keyword_done, keyword_first, keyword_word};
 
 use crate::pieces::words;
 use crate::sequence::{done_from, is_named, without_parens};
@@ -129,6 +129,16 @@ impl Keywords {
         match self.by_word.get_index(place) {
             Some((_, standing)) => standing.first,
             None => 0,
+        }
+    }
+
+    /// The word of the keyword at a place; empty where there is none.
+    pub(crate) fn word(&self, place: usize) -> &[u8]
+        ensures value { result.now ≡ keyword_word self.now place }
+    {
+        match self.by_word.get_index(place) {
+            Some((word, _)) => word.as_slice(),
+            None => &[],
         }
     }
 

@@ -2,7 +2,7 @@
 ghost use Rattle.std.specs.Prelude.{◌≡◌, ◌<◌, ◌≤◌, length, option_map, Option, List, ℕ, IfOk, IfSome, IsOkUnless};
 ghost use Rattle.org_base.specs.Codes.{memory_fault};
 ghost use Rattle.org_base.specs.Properties.{value_in};
-ghost use Rattle.org_settings.specs.Keywords.{keyword_place, keyword_done, keyword_first};
+ghost use Rattle.org_settings.specs.Keywords.{keyword_place, keyword_done, keyword_first, keyword_word};
 ghost use Rattle.org_settings.specs.Priority.{greatest_priority};
 ghost use Rattle.org_settings.specs.Settings.{settings_of};
 
@@ -92,6 +92,13 @@ impl Settings {
         ensures value { result ≡ keyword_first self.now.keywords place }
     {
         self.keywords.first_of_sequence(place)
+    }
+
+    /// The word of the keyword at a place; empty where there is none.
+    pub fn keyword_word(&self, place: usize) -> &[u8]
+        ensures value { result.now ≡ keyword_word self.now.keywords place }
+    {
+        self.keywords.word(place)
     }
 
     /// The tags that all headings of the file have, in order, each as often as it is named (Org manual 9.6, "Tag
