@@ -10,14 +10,10 @@ use Rattle.org_sum.specs.Measures.{amount, clock_minutes}
 use Rattle.org_sum.specs.Measures as measures
 use Rattle.org_sum.specs.Sums.{own, own_at, sum_below, total}
 use Rattle.org_sum.specs.Texts.{AreOfText}
-use Rattle.org_clocktable.specs.Counted.{clocks_at, clocks_from}
+use Rattle.org_clocktable.specs.Counted.{clocks_at, clocks_from, placed}
 use Rattle.org_clocktable.specs.Marks.{AreInOrder, minutes_before, minutes_of}
 use Rattle.org_clocktable.specs.declared.marks.PlacedClock.{PlacedClock}
 use Rattle.org_clocktable.proofs.MarkLemmas.{before_none, lt_true}
-
--- clocks of one place
-abbrev placed : ℕ → List ClockLine → List PlacedClock
-placed i clocks = map (λ (clock : ClockLine). record { place = i; clock = clock }) clocks
 
 placed_in_order : (i : ℕ) (clocks : List ClockLine) (rest : List PlacedClock) → AreInOrder i rest → AreInOrder i (placed i clocks ++ rest)
 placed_in_order i [] rest order = order

@@ -23,9 +23,13 @@ pub record IsCounted (entries : List Entry) (counted : List Bool) : Type 0 where
   pub count : length counted ≡ length entries
   pub text : AreOfText entries
 
--- the clocks of the entry at a place, if it is a heading that counts
+-- clocks of the entry at a place
+abbrev pub placed : ℕ → List ClockLine → List PlacedClock
+placed i clocks = map (λ (clock : ClockLine). record { place = i; clock = clock }) clocks
+
+-- those of the entry at a place, if it is a heading that counts
 abbrev pub clocks_at : ℕ → Bool → Entry → List PlacedClock
-clocks_at i counts e = if is_some (level_of e) && counts then map (λ (clock : ClockLine). record { place = i; clock = clock }) e.clocks else []
+clocks_at i counts e = if is_some (level_of e) && counts then placed i e.clocks else []
 
 -- those of entries, the first of which stands at a place
 abbrev pub clocks_from : ℕ → List Entry → List Bool → List PlacedClock

@@ -4,9 +4,8 @@ ghost use Rattle.std.specs.List.{All, range_with_len};
 ghost use Rattle.std.specs.Option.{option_map};
 ghost use Rattle.org_base.specs.Codes.{memory_fault};
 ghost use Rattle.org_clocktable.specs.Clocked.{AreOf};
-ghost use Rattle.org_clocktable.specs.Counted.{clocks_at, clocks_from, counted_of, file_sum, heading_sum, matching_of, whole_of, IsCounted};
+ghost use Rattle.org_clocktable.specs.Counted.{clocks_at, clocks_from, counted_of, file_sum, heading_sum, matching_of, whole_of, placed, IsCounted};
 ghost use Rattle.org_clocktable.specs.Marks.{before};
-ghost use Rattle.org_drawer.specs.declared.clock.ClockLine.{ClockLine as Clock};
 ghost use Rattle.org_inherit.specs.Scope.{Scope};
 ghost use Rattle.org_sum.specs.Measures.{effort_minutes};
 ghost use Rattle.org_sum.specs.Texts.{AreOfText};
@@ -137,7 +136,7 @@ fn push_all(
     place: usize,
     own: &[ClockLine],
 ) -> Result<(), AllocError>
-    ensures { OnOk result (clocks.new.items ≡ clocks.old.items ++ map (λ (clock : Clock). record { place = place; clock = clock }) own.now) }
+    ensures { OnOk result (clocks.new.items ≡ clocks.old.items ++ placed place own.now) }
 {
     for clock in own {
         clocks.push(PlacedClock {
