@@ -1,6 +1,6 @@
 -- The rows of a day (Org manual 9.6, Timestamps; Deadlines and Scheduling; Weekly/daily agenda; kinds, delays and warnings:
 -- profile).
-use Rattle.std.specs.Prelude.{ℕ, ◌+◌, ◌-◌, ◌*◌, ◌/◌, ◌==◌, nat_lt, nat_le, Bool, true, false, not, ◌&&◌, ◌||◌, if◌then◌else◌, List, [], ◌∷◌, ◌++◌, Option, Some, None, is_none, map}
+use Rattle.std.specs.Prelude.{◌≡◌, ℕ, ◌≤◌, ◌+◌, ◌-◌, ◌*◌, ◌/◌, ◌==◌, nat_lt, nat_le, Bool, true, false, not, ◌&&◌, ◌||◌, if◌then◌else◌, List, [], ◌∷◌, ◌++◌, Option, Some, None, is_none, map}
 use Rattle.std.specs.List.{flat_map}
 use Rattle.org_cal.specs.declared.unit.Unit.{Unit as TimeUnit}
 use Rattle.org_cal.specs.declared.unit.Unit.TheVariants.{Hour, Day, Week, Month, Year}
@@ -133,3 +133,10 @@ pub record AgendaView : Type 0 where
   pub today : ℕ
   pub first : ℕ
   pub count : ℕ
+
+abbrev pub agenda_of : List Source → ℕ → ℕ → ℕ → AgendaView
+agenda_of sources today first count = record { sources = sources; today = today; first = first; count = count }
+
+-- some stamps give the rows that all give, on each day from one to another
+abbrev pub GiveAllRows : List Source → ℕ → ℕ → ℕ → List Source → Type 0
+GiveAllRows all today from to some = (day : ℕ) → from ≤ day → day ≤ to → day_rows some today day ≡ day_rows all today day

@@ -55,9 +55,16 @@ abbrev pub head_sources : Scope → ℕ → ℕ → Entry → Option Head → Li
 head_sources scope file i e None = []
 head_sources scope file i e (Some head) = if is_hidden scope.entries i then [] else entry_sources (owner_of scope file i e head) e
 
+abbrev pub heading_sources : Scope → ℕ → ℕ → Entry → List Source
+heading_sources scope file i e = head_sources scope file i e e.head
+
+-- those of entries, the first of which stands at a place, and those of a file
 abbrev pub sources_from : Scope → ℕ → ℕ → List Entry → List Source
 sources_from scope file i [] = []
 sources_from scope file i (e ∷ es) = head_sources scope file i e e.head ++ sources_from scope file (i + 1) es
+
+abbrev pub file_sources : Scope → ℕ → List Source
+file_sources scope file = sources_from scope file 0 scope.entries
 
 -- those of files, the first of which stands at a place
 abbrev pub sources_of : ℕ → List Scope → List Source

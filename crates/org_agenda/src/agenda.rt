@@ -1,7 +1,7 @@
 //! The agenda of some days.
 ghost use Rattle.std.specs.Prelude.{◌≡◌, ◌+◌, ◌<◌, ◌≤◌, IfOk, IsOkUnless};
 ghost use Rattle.org_base.specs.Codes.{memory_fault};
-ghost use Rattle.org_agenda.specs.Days.{day_rows};
+ghost use Rattle.org_agenda.specs.Days.{agenda_of, day_rows};
 
 use crate::days::rows_at;
 use crate::places::Places;
@@ -47,7 +47,7 @@ impl Agenda {
         count: u32,
     ) -> Result<Agenda, Fault>
         requires within { first + count ≤ 3_652_060 }
-        ensures value { IfOk result (λ agenda. agenda ≡ record { sources = sources.items; today = today; first = first; count = count }) }
+        ensures value { IfOk result (λ agenda. agenda ≡ agenda_of sources.items today first count) }
         ensures memory { IsOkUnless result memory_fault }
     {
         let places = spread(alloc, sources.as_slice(), today, first, count)?;

@@ -1,13 +1,12 @@
 //! Of which headings of a file an expression holds.
-ghost use Rattle.std.specs.Prelude.{◌≡◌, ◌<◌, Some, length, slice_get, IfOk, IsOkUnless};
+ghost use Rattle.std.specs.Prelude.{◌≡◌, ◌<◌, length, IfOk, IsOkUnless};
 ghost use Rattle.org_base.specs.Codes.{memory_fault};
 ghost use Rattle.org_agenda.specs.Headings.{heading_holds};
-ghost use Rattle.org_agenda.specs.Holding.{entry_holds, holds_of};
+ghost use Rattle.org_agenda.specs.Holding.{holds_of, SaysWhether};
 ghost use Rattle.org_agenda.specs.Verdicts.{AreVerdicts};
 ghost use Rattle.org_inherit.specs.Tags.{all_tags};
 ghost use Rattle.org_match.specs.Asked.{tag_verdicts};
 ghost use Rattle.org_match.specs.Holds.{tag_items};
-ghost use Rattle.org_entry.specs.declared.entry.Entry.{Entry as AnyEntry};
 
 use crate::facts::HeadingFacts;
 use crate::verdicts::Verdicts;
@@ -49,7 +48,7 @@ fn entry_holds(
 ) -> Result<bool, Fault>
     requires known { AreVerdicts testing.old inherit.now known.now }
     requires within { place < length inherit.now.entries }
-    ensures value { (e : AnyEntry) → slice_get inherit.now.entries place ≡ Some e → IfOk result (λ yes. yes ≡ entry_holds testing.old moment.now inherit.now place e e.head) }
+    ensures value { SaysWhether testing.old moment.now inherit.now place result }
     ensures same { testing.new ≡ testing.old }
     ensures memory { IsOkUnless result memory_fault }
 {

@@ -4,7 +4,7 @@ ghost use Rattle.org_base.specs.Codes.{memory_fault};
 ghost use Rattle.org_entry.specs.Entry.{heading_line};
 ghost use Rattle.org_head.specs.Head.{head_of};
 ghost use Rattle.org_agenda.specs.Headings.{AllHaveHeads, HaveHeads};
-ghost use Rattle.org_agenda.specs.Sources.{entry_sources, head_sources, owner_of, plain_sources, put, source_at, sources_from, sources_of, with_planned, with_planning};
+ghost use Rattle.org_agenda.specs.Sources.{entry_sources, file_sources, head_sources, heading_sources, owner_of, plain_sources, put, source_at, sources_of, with_planned, with_planning};
 ghost use Rattle.org_agenda.specs.declared.source.Source.{Source as AnySource};
 
 use crate::facts::{HeadingFacts, is_finished};
@@ -40,7 +40,7 @@ fn push_file(
     inherit: &Inherit<'_>,
 ) -> Result<(), AllocError>
     requires heads { HaveHeads inherit.now.settings inherit.now.entries }
-    ensures ok { OnOk result (sources.new.items ≡ sources.old.items ++ sources_from inherit.now file 0 inherit.now.entries) }
+    ensures ok { OnOk result (sources.new.items ≡ sources.old.items ++ file_sources inherit.now file) }
 {
     let outline = inherit.outline();
     for place in 0..outline.count() {
@@ -59,7 +59,7 @@ fn push_entry(
 ) -> Result<(), AllocError>
     requires heads { HaveHeads inherit.now.settings inherit.now.entries }
     requires is { slice_get inherit.now.entries place ≡ Some entry.now }
-    ensures ok { OnOk result (sources.new.items ≡ sources.old.items ++ head_sources inherit.now file place entry.now entry.now.head) }
+    ensures ok { OnOk result (sources.new.items ≡ sources.old.items ++ heading_sources inherit.now file place entry.now) }
 {
     match &entry.head {
         Some(head) => push_heading(sources, own, file, inherit, place, entry, head),

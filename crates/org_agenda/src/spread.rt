@@ -25,7 +25,7 @@ pub(crate) fn spread(
     first: Day,
     count: u32,
 ) -> Result<Places, AllocError>
-    requires { first + count ≤ 3_652_060 }
+    requires { first + count ≤ NEVER }
     ensures value { IfOk result (λ places. AreSpread sources.now today first places sources.now) }
     ensures count { IfOk result (λ places. length places ≡ count) }
 {
@@ -46,7 +46,7 @@ fn give(
     first: Day,
 ) -> Result<(), AllocError>
     requires is { slice_get sources.now place ≡ Some source.now }
-    requires within { first + length places.old ≤ 3_652_060 }
+    requires within { first + length places.old ≤ NEVER }
     ensures ok { OnOk result (GiveMore sources.now today first places.old places.new source.now) }
     ensures count { OnOk result (length places.new ≡ length places.old) }
 {

@@ -1,7 +1,7 @@
 //! Which stamps an agenda looks at.
-ghost use Rattle.std.specs.Prelude.{◌≡◌, ◌≤◌, ℕ, List, IfOk, IsOkUnless};
+ghost use Rattle.std.specs.Prelude.{List, IfOk, IsOkUnless};
 ghost use Rattle.org_base.specs.Codes.{memory_fault};
-ghost use Rattle.org_agenda.specs.Days.{day_rows};
+ghost use Rattle.org_agenda.specs.Days.{GiveAllRows};
 ghost use Rattle.org_agenda.specs.declared.source.Source.{Source as AnySource};
 
 use crate::source::Source;
@@ -17,7 +17,7 @@ pub trait Stamps {
     /// The stamps to look at for the days from one to another, in order: on each of these days they give the rows that all
     /// stamps give. Want of memory is the only refusal.
     fn near(&self, alloc: Global, from: Day, to: Day, today: Day) -> Result<Vec<Source>, Fault>
-        ensures rows { IfOk result (λ found. (day : ℕ) → from ≤ day → day ≤ to → day_rows found.items today day ≡ day_rows (sources self.now) today day) }
+        ensures rows { IfOk result (λ found. GiveAllRows (sources self.now) today from to found.items) }
         ensures memory { IsOkUnless result memory_fault };
 }
 

@@ -1,61 +1,107 @@
--- Entries without clocks have no minutes, so they needn't be asked.
-use Rattle.std.proofs.Common.{◌≡◌, ◌∙◌, ℕ, zero, suc, ◌<◌, Bool, true, false, ◌&&◌, ◌||◌, ◌==◌, if◌then◌else◌, is_some, List, [], ◌∷◌, length, map, get_or, refl, sym, ap, arith}
-use Rattle.std.specs.Prelude.{None, Option, Some, nat_le, nat_lt}
-use Rattle.std.specs.List.{range_with_len}
-use Rattle.std.proofs.lemmas.Bool.Decides.{nat_tests}
+-- The clocks of a file's headings, one by one.
+use Rattle.std.proofs.Common.{◌≡◌, ◌∙◌, ℕ, zero, suc, ◌+◌, ◌<◌, ◌≤◌, ◌^◌, Bool, true, false, ◌&&◌, if◌then◌else◌, is_some, List, [], ◌∷◌, ◌++◌, length, drop, map, get_or, refl, sym, ap, arith}
+use Rattle.std.specs.Prelude.{nat_lt}
+use Rattle.std.proofs.lemmas.List.Sums.{sum_by-cons}
+use Rattle.org_drawer.specs.Clock.{minutes_in}
 use Rattle.org_drawer.specs.declared.clock.ClockLine.{ClockLine}
 use Rattle.org_entry.specs.declared.entry.Entry.{Entry}
-use Rattle.org_outline.specs.Laws.{is_above}
-use Rattle.org_outline.specs.Levels.{level_of, levels}
-use Rattle.org_sum.specs.Measures.{clock_minutes, minutes_of}
-use Rattle.org_sum.specs.Sums.{own_at, subtree_sums, sum_below, whole_sum}
-use Rattle.org_clocktable.specs.Counted.{clocked_of, has_clocks}
-use Rattle.org_clocktable.specs.Table.{level_rows}
+use Rattle.org_outline.specs.Levels.{level_of}
+use Rattle.org_sum.specs.Measures.{amount, clock_minutes}
+use Rattle.org_sum.specs.Measures as measures
+use Rattle.org_sum.specs.Sums.{own, own_at, sum_below, total}
+use Rattle.org_sum.specs.Texts.{AreOfText}
+use Rattle.org_clocktable.specs.Counted.{clocks_at, clocks_from, placed}
+use Rattle.org_clocktable.specs.Marks.{AreInOrder, minutes_before, minutes_of}
+use Rattle.org_clocktable.specs.declared.marks.PlacedClock.{PlacedClock}
+use Rattle.org_clocktable.proofs.MarkLemmas.{before_none, lt_true}
 
-no_minutes : (days : ℕ × ℕ) (clocks : List ClockLine) → nat_lt 0 (length clocks) ≡ false → minutes_of days clocks ≡ 0
-no_minutes days [] none = refl
-no_minutes days (c ∷ cs) none =
-    let some : nat_lt 0 (length (c ∷ cs)) ≡ true = grind (arith, nat_tests) in
-    let both : true ≡ false = sym some ∙ none in
-    absurd cc
+placed_in_order : (i : ℕ) (clocks : List ClockLine) (rest : List PlacedClock) → AreInOrder i rest → AreInOrder i (placed i clocks ++ rest)
+placed_in_order i [] rest order = order
+placed_in_order i (c ∷ cs) rest order = (omega arith, placed_in_order i cs rest order)
 
-own_here : (days : ℕ × ℕ) (e : Entry) (heading counts clocks : Bool) → has_clocks e ≡ clocks →
-    (if heading && (counts && clocks) then clock_minutes days e else 0) ≡ (if heading && counts then clock_minutes days e else 0)
+sooner : (a b : ℕ) (cs : List PlacedClock) → a ≤ b → AreInOrder b cs → AreInOrder a cs
+sooner a b [] le order = tt
+sooner a b (c ∷ cs) le order = (omega (arith, le, order.0), order.1)
+
+at_in_order : (t : Bool) (i : ℕ) (clocks : List ClockLine) (rest : List PlacedClock) → AreInOrder i rest → AreInOrder i ((if t then placed i clocks else []) ++ rest)
+at_in_order true i clocks rest order = placed_in_order i clocks rest order
+at_in_order false i clocks rest order = order
+
+pub clocks_in_order : (i : ℕ) (es : List Entry) (cs : List Bool) → AreInOrder i (clocks_from i es cs)
+clocks_in_order i [] cs = tt
+clocks_in_order i (e ∷ es) [] = tt
+clocks_in_order i (e ∷ es) (c ∷ cs) =
+    at_in_order (is_some (level_of e) && c) i e.clocks (clocks_from (i + 1) es cs) (sooner i (i + 1) (clocks_from (i + 1) es cs) (omega arith) (clocks_in_order (i + 1) es cs))
+
+-- what they have before a place behind theirs
+placed_before : (days : ℕ × ℕ) (i x : ℕ) (clocks : List ClockLine) (rest : List PlacedClock) → i < x →
+    minutes_before days (placed i clocks ++ rest) x ≡ measures.minutes_of days clocks + minutes_before days rest x
+placed_before days i x [] rest lt = omega arith
+placed_before days i x (c ∷ cs) rest lt =
+    let here : (if nat_lt i x then minutes_in c days else 0) ≡ minutes_in c days = ap (λ t. if t then minutes_in c days else 0) (lt_true i x lt) in
+    omega (arith, here, placed_before days i x cs rest lt, sum_by-cons (λ (d : ClockLine). minutes_in d days) c cs)
+
+at_before : (days : ℕ × ℕ) (t : Bool) (i x : ℕ) (e : Entry) (rest : List PlacedClock) → i < x →
+    minutes_before days ((if t then placed i e.clocks else []) ++ rest) x ≡ (if t then clock_minutes days e else 0) + minutes_before days rest x
 unfolding clock_minutes
-own_here days e false counts clocks is = refl
-own_here days e true false clocks is = refl
-own_here days e true true true is = refl
-own_here days e true true false is = sym (no_minutes days e.clocks is)
+at_before days true i x e rest lt = placed_before days i x e.clocks rest lt
+at_before days false i x e rest lt = omega arith
 
-own_same : (days : ℕ × ℕ) (es : List Entry) (cs : List Bool) (j : ℕ) → own_at (clock_minutes days) es (clocked_of es cs) j ≡ own_at (clock_minutes days) es cs j
-own_same days [] cs j = refl
-own_same days (e ∷ es) [] j = refl
-own_same days (e ∷ es) (c ∷ cs) zero = own_here days e (is_some (level_of e)) c (has_clocks e) refl
-own_same days (e ∷ es) (c ∷ cs) (suc j) = own_same days es cs j
+sum_first : (f : ℕ → ℕ) (n : ℕ) → sum_below f (suc n) ≡ f 0 + sum_below (λ j. f (suc j)) n
+sum_first f zero = omega arith
+sum_first f (suc n) = omega (arith, sum_first f n)
 
-pub whole_same : (days : ℕ × ℕ) (es : List Entry) (cs : List Bool) → whole_sum (clock_minutes days) es (clocked_of es cs) ≡ whole_sum (clock_minutes days) es cs
-whole_same days es cs = λ k. sum_below (λ j. own_same days es cs j k) (length es)
+sum_none : (n : ℕ) → sum_below (λ j. 0) n ≡ 0
+sum_none zero = refl
+sum_none (suc n) = omega (arith, sum_none n)
 
-pub subtrees_same : (days : ℕ × ℕ) (es : List Entry) (cs : List Bool) → subtree_sums (clock_minutes days) es (clocked_of es cs) ≡ subtree_sums (clock_minutes days) es cs
-subtrees_same days es cs = λ k. map (λ i. sum_below (λ j. if (j == i) || is_above (levels es) i j then own_same days es cs j k else 0) (length es)) (range_with_len 0 (length es))
+-- the sum up to a place is that of the headings before it
+pub before_from : (days : ℕ × ℕ) (i : ℕ) (es : List Entry) (cs : List Bool) (n x : ℕ) → x ≡ i + n →
+    minutes_before days (clocks_from i es cs) x ≡ sum_below (own_at (clock_minutes days) es cs) n
+before_from days i [] cs n x is = sym (sum_none n)
+before_from days i (e ∷ es) [] n x is = sym (sum_none n)
+before_from days i (e ∷ es) (c ∷ cs) zero x is =
+    before_none days i (clocks_from i (e ∷ es) (c ∷ cs)) x (clocks_in_order i (e ∷ es) (c ∷ cs)) (omega (arith, is))
+before_from days i (e ∷ es) (c ∷ cs) (suc n) x is =
+    at_before days (is_some (level_of e) && c) i x e (clocks_from (i + 1) es cs) (omega (arith, is))
+    ∙ ap (λ m. own (clock_minutes days) e c + m) (before_from days (i + 1) es cs n x (omega (arith, is)))
+    ∙ sym (sum_first (own_at (clock_minutes days) (e ∷ es) (c ∷ cs)) n)
 
-pub length-clocked_of : (es : List Entry) (cs : List Bool) → length cs ≡ length es → length (clocked_of es cs) ≡ length es
-length-clocked_of [] cs same = refl
-length-clocked_of (e ∷ es) [] same = absurd (omega arith)
-length-clocked_of (e ∷ es) (c ∷ cs) same = ap suc (length-clocked_of es cs (omega arith))
+-- that of all clocks is the sum up to the end
+placed_of : (days : ℕ × ℕ) (i : ℕ) (clocks : List ClockLine) (rest : List PlacedClock) →
+    minutes_of days (placed i clocks ++ rest) ≡ measures.minutes_of days clocks + minutes_of days rest
+placed_of days i [] rest = omega arith
+placed_of days i (c ∷ cs) rest = omega (arith, placed_of days i cs rest, sum_by-cons (λ (d : ClockLine). minutes_in d days) c cs)
 
-pub clocked_at : (es : List Entry) (cs : List Bool) (i : ℕ) (d : Entry) → i < length es → length cs ≡ length es →
-    get_or (clocked_of es cs) i false ≡ (get_or cs i false && has_clocks (get_or es i d))
-clocked_at [] cs i d lt same = absurd (omega arith)
-clocked_at (e ∷ es) [] i d lt same = absurd (omega arith)
-clocked_at (e ∷ es) (c ∷ cs) zero d lt same = refl
-clocked_at (e ∷ es) (c ∷ cs) (suc i) d lt same = clocked_at es cs i d (omega arith) (omega arith)
+at_of : (days : ℕ × ℕ) (t : Bool) (i : ℕ) (e : Entry) (rest : List PlacedClock) →
+    minutes_of days ((if t then placed i e.clocks else []) ++ rest) ≤ clock_minutes days e + minutes_of days rest
+unfolding clock_minutes
+at_of days true i e rest = omega (arith, placed_of days i e.clocks rest)
+at_of days false i e rest = omega arith
 
-and_false : (b : Bool) → (b && false) ≡ false
-and_false true = refl
-and_false false = refl
+all_of : (days : ℕ × ℕ) (i : ℕ) (es : List Entry) (cs : List Bool) → minutes_of days (clocks_from i es cs) ≤ total (clock_minutes days) es
+all_of days i [] cs = omega arith
+all_of days i (e ∷ es) [] = omega arith
+all_of days i (e ∷ es) (c ∷ cs) =
+    omega (arith, at_of days (is_some (level_of e) && c) i e (clocks_from (i + 1) es cs), all_of days (i + 1) es cs)
 
--- a heading without clocks has no row
-pub no_row : (most file i effort : ℕ) (level : Option ℕ) → level_rows most file i 0 effort level ≡ []
-no_row most file i effort None = refl
-no_row most file i effort (Some level) = rw (and_false (nat_le level most)) refl
+-- they are small: a text has few minutes
+pub small_of : (first last : ℕ) (es : List Entry) (cs : List Bool) → AreOfText es → total (clock_minutes (first, last)) es < 2 ^ 55 →
+    minutes_of (first, last) (clocks_from 0 es cs) < 2 ^ 63
+small_of first last es cs of small = omega (arith, all_of (first, last) 0 es cs, small)
+
+-- one entry more
+pub clocks_more : (i : ℕ) (es : List Entry) (cs : List Bool) (e : Entry) (k : ℕ) → k < length es → length cs ≡ length es → e ≡ get_or es k e →
+    clocks_from (i + k) (drop k es) (drop k cs) ≡ clocks_at (i + k) (get_or cs k false) e ++ clocks_from (i + (k + 1)) (drop (k + 1) es) (drop (k + 1) cs)
+clocks_more i [] cs e k lt same is = absurd (omega (arith, lt))
+clocks_more i (x ∷ xs) [] e k lt same is = absurd (omega (arith, same))
+clocks_more i (x ∷ xs) (c ∷ cs) e zero lt same is =
+    let next : i + zero + 1 ≡ i + (zero + 1) = omega arith in
+    (λ j. clocks_at (i + zero) c (sym is j) ++ clocks_from (next j) xs cs)
+clocks_more i (x ∷ xs) (c ∷ cs) e (suc k) lt same is =
+    let a : i + suc k ≡ (i + 1) + k = omega arith in
+    let b : (i + 1) + (k + 1) ≡ i + (suc k + 1) = omega arith in
+    let d : suc (k + 1) ≡ suc k + 1 = omega arith in
+    (λ j. clocks_from (a j) (drop k xs) (drop k cs))
+    ∙ clocks_more (i + 1) xs cs e k (omega (arith, lt)) (omega (arith, same)) is
+    ∙ (λ j. clocks_at (sym a j) (get_or cs k false) e ++ clocks_from (b j) (drop (d j) (x ∷ xs)) (drop (d j) (c ∷ cs)))

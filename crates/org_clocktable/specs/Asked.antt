@@ -36,6 +36,10 @@ abbrev pub text_if : Option (List ℕ) → Option (Option (List ℕ))
 text_if None = Some None
 text_if (Some expression) = option_map Some (as_text expression)
 
+-- the expression from a place of the text on, if there is one
+abbrev pub expression_from : List ℕ → Option ℕ → Option (Option (List ℕ))
+expression_from text at = text_if (option_map (λ at. drop at text) at)
+
 -- what options ask for, of their expression, block and level
 abbrev pub asked_in : List ℕ → Draft → Option (List ℕ) → ℕ × ℕ → ℕ → Asked (List ℕ)
 asked_in text options expression days most = record {
@@ -53,7 +57,7 @@ days_in text today options = option_and_then (λ at. block_of (word_at text at) 
 
 -- what they ask for; none where block or level is missing, or where there is no such block
 abbrev pub asked_by : List ℕ → ℕ → Draft → Option (Asked (List ℕ))
-asked_by text today options = option_and_then (λ expression. option_and_then (λ days. option_map (asked_in text options expression days) options.level) (days_in text today options)) (text_if (option_map (λ at. drop at text) options.match_at))
+asked_by text today options = option_and_then (λ expression. option_and_then (λ days. option_map (asked_in text options expression days) options.level) (days_in text today options)) (expression_from text options.match_at)
 
 -- what a text asks for; none where it isn't in the grammar of options
 abbrev pub asked_of : List ℕ → ℕ → Option (Asked (List ℕ))

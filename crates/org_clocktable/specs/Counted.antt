@@ -1,13 +1,16 @@
 -- Files with the headings that count in a clock table (Org manual 9.6, The clock table; that clocks and efforts of headings
 -- of which `match=` doesn't hold count 0, and that hidden headings count: profile).
-use Rattle.std.specs.Prelude.{◌≡◌, ◌<◌, ◌^◌, ℕ, ◌+◌, Bool, true, ◌&&◌, nat_lt, List, [], ◌∷◌, Option, None, Some, length, replicate}
+use Rattle.std.specs.Prelude.{◌≡◌, ◌<◌, ◌^◌, ℕ, ◌+◌, Bool, true, ◌&&◌, if◌then◌else◌, is_some, List, [], ◌∷◌, ◌++◌, Option, None, Some, length, map, replicate}
 use Rattle.org_agenda.specs.Holding.{holds_of}
 use Rattle.org_cal.specs.declared.moment.Moment.{Moment}
+use Rattle.org_clocktable.specs.declared.marks.PlacedClock.{PlacedClock}
+use Rattle.org_drawer.specs.declared.clock.ClockLine.{ClockLine}
 use Rattle.org_entry.specs.declared.entry.Entry.{Entry}
 use Rattle.org_expression.specs.Grammar.{Expr}
 use Rattle.org_inherit.specs.Scope.{Scope}
-use Rattle.org_sum.specs.Measures.{effort_minutes}
-use Rattle.org_sum.specs.Sums.{subtree_sum, subtree_sums, whole_sum}
+use Rattle.org_outline.specs.Levels.{level_of}
+use Rattle.org_sum.specs.Measures.{clock_minutes, effort_minutes}
+use Rattle.org_sum.specs.Sums.{own_at, subtree_sum, subtree_sums, sum_below, whole_sum}
 use Rattle.org_sum.specs.Texts.{AreOfText}
 
 -- a file's entries, and which of them count
@@ -20,20 +23,24 @@ pub record IsCounted (entries : List Entry) (counted : List Bool) : Type 0 where
   pub count : length counted ≡ length entries
   pub text : AreOfText entries
 
--- an entry with clocks
-abbrev pub has_clocks : Entry → Bool
-has_clocks e = nat_lt 0 (length e.clocks)
+-- clocks of the entry at a place
+abbrev pub placed : ℕ → List ClockLine → List PlacedClock
+placed i clocks = map (λ (clock : ClockLine). record { place = i; clock = clock }) clocks
 
--- which of the entries that count have clocks: no others have minutes in any days
-abbrev pub clocked_of : List Entry → List Bool → List Bool
-clocked_of [] cs = []
-clocked_of (e ∷ es) [] = []
-clocked_of (e ∷ es) (c ∷ cs) = (c && has_clocks e) ∷ clocked_of es cs
+-- those of the entry at a place, if it is a heading that counts
+abbrev pub clocks_at : ℕ → Bool → Entry → List PlacedClock
+clocks_at i counts e = if is_some (level_of e) && counts then placed i e.clocks else []
 
--- what is worked out of a file once for a table: which of the entries that count have clocks, and the efforts
-pub record IsPrepared (entries : List Entry) (counted with_clocks : List Bool) (sums : List ℕ) (sum : ℕ) : Type 0 where
+-- those of entries, the first of which stands at a place
+abbrev pub clocks_from : ℕ → List Entry → List Bool → List PlacedClock
+clocks_from i [] cs = []
+clocks_from i (e ∷ es) [] = []
+clocks_from i (e ∷ es) (c ∷ cs) = clocks_at i c e ++ clocks_from (i + 1) es cs
+
+-- what is worked out of a file once for a table: the clocks of the headings that count, and the efforts
+pub record IsPrepared (entries : List Entry) (counted : List Bool) (placed : List PlacedClock) (sums : List ℕ) (sum : ℕ) : Type 0 where
   pub is : IsCounted entries counted
-  pub clocked : with_clocks ≡ clocked_of entries counted
+  pub clocks : placed ≡ clocks_from 0 entries counted
   pub efforts : sums ≡ subtree_sums effort_minutes entries counted
   pub effort : sum ≡ whole_sum effort_minutes entries counted
   pub below : sum < 2 ^ 55
@@ -58,6 +65,10 @@ file_sum f file = whole_sum f file.entries file.counted
 -- what a heading has with what is below it
 abbrev pub heading_sum : (Entry → ℕ) → Counted → ℕ → ℕ
 heading_sum f file i = subtree_sum f file.entries file.counted i
+
+-- what the clocks of headings before a place have in some days
+abbrev pub clocks_before : ℕ × ℕ → Counted → ℕ → ℕ
+clocks_before days file place = sum_below (own_at (clock_minutes days) file.entries file.counted) place
 
 -- what all files have
 abbrev pub total : (Entry → ℕ) → List Counted → ℕ

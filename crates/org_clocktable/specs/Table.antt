@@ -4,7 +4,8 @@ use Rattle.org_entry.specs.declared.entry.Entry.{Entry}
 use Rattle.org_clocktable.specs.Counted.{Counted, file_sum, heading_sum, total}
 use Rattle.org_clocktable.specs.declared.row.Of.TheVariants.{All, File, Heading}
 use Rattle.org_clocktable.specs.declared.row.TableRow.{TableRow}
-use Rattle.org_outline.specs.Levels.{level_of}
+use Rattle.org_outline.specs.Levels.{level_of, levels}
+use Rattle.org_outline.specs.Tree.{level_at}
 use Rattle.org_sum.specs.Measures.{clock_minutes, effort_minutes}
 
 -- the line of the entry at a place with these sums, if it is a heading of at most this level with clocks in the days
@@ -12,6 +13,10 @@ abbrev pub level_rows : ℕ → ℕ → ℕ → ℕ → ℕ → Option ℕ → L
 level_rows most file i clock effort None = []
 level_rows most file i clock effort (Some level) =
     if nat_le level most && nat_lt 0 clock then record { of = Heading file i level; clock = clock; effort = effort } ∷ [] else []
+
+-- that of the entry at a place of a file
+abbrev pub rows_at : ℕ × ℕ → ℕ → ℕ → Counted → ℕ → List TableRow
+rows_at days most file counted i = level_rows most file i (heading_sum (clock_minutes days) counted i) (heading_sum effort_minutes counted i) (level_at (levels counted.entries) i)
 
 -- those of entries, the first of which stands at a place
 abbrev pub rows_from : ℕ × ℕ → ℕ → ℕ → Counted → ℕ → List Entry → List TableRow

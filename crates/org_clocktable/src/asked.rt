@@ -2,7 +2,7 @@
 ghost use Rattle.std.specs.Prelude.{◌≡◌, ◌<◌, ◌^◌, drop, length};
 ghost use Rattle.std.specs.Option.{option_map};
 ghost use Rattle.org_cal.specs.Blocks.{block_of};
-ghost use Rattle.org_clocktable.specs.Asked.{as_text, asked_by, asked_of, text_if, word_at};
+ghost use Rattle.org_clocktable.specs.Asked.{as_text, asked_by, asked_of, expression_from, word_at};
 
 use crate::options::{Draft, read_options, word_len};
 use org_cal::{Day, Period, Step};
@@ -98,7 +98,7 @@ fn file_at(text: &[u8], at: Option<usize>) -> Option<&[u8]>
 
 // The expression from a place on, if there is one; None where it is no text.
 fn expression_at(text: &[u8], at: Option<usize>) -> Option<Option<&str>>
-    ensures value { option_map (λ expression. option_map (λ text. text.now) expression) result ≡ text_if (option_map (λ at. drop at text.now) at) }
+    ensures value { option_map (λ e. option_map (λ text. text.now) e) result ≡ expression_from text.now at }
 {
     match at {
         Some(at) => {

@@ -1,21 +1,25 @@
 //! Files with the headings that count.
-ghost use Rattle.std.specs.Prelude.{◌≡◌, ◌&&◌, ◌<◌, ◌^◌, length, map, IfOk, IsOkUnless};
+ghost use Rattle.std.specs.Prelude.{◌≡◌, ◌<◌, ◌^◌, ◌++◌, length, map, IfOk, IsOkUnless, OnOk};
 ghost use Rattle.std.specs.List.{All, range_with_len};
 ghost use Rattle.std.specs.Option.{option_map};
 ghost use Rattle.org_base.specs.Codes.{memory_fault};
-ghost use Rattle.org_clocktable.specs.Counted.{clocked_of, counted_of, file_sum, has_clocks, heading_sum, matching_of, whole_of, IsCounted};
+ghost use Rattle.org_clocktable.specs.Clocked.{AreOf};
+ghost use Rattle.org_clocktable.specs.Counted.{clocks_at, clocks_from, counted_of, file_sum, heading_sum, matching_of, whole_of, placed, IsCounted};
+ghost use Rattle.org_clocktable.specs.Marks.{before};
 ghost use Rattle.org_inherit.specs.Scope.{Scope};
-ghost use Rattle.org_sum.specs.Measures.{amount, clock_minutes, effort_minutes};
+ghost use Rattle.org_sum.specs.Measures.{effort_minutes};
 ghost use Rattle.org_sum.specs.Texts.{AreOfText};
 
+use crate::marks::{Marks, PlacedClock};
 use org_agenda::holds_of;
 use org_base::Fault;
 use org_cal::{Moment, Period};
+use org_drawer::ClockLine;
 use org_entry::Entry;
 use org_inherit::{Inherit, Inherits};
 use org_match::{Match, Testing};
 use org_outline::Outline;
-use org_sum::{Measure, clock_sums, effort_sums, whole_sum};
+use org_sum::{Measure, effort_sums, whole_sum};
 use std::alloc::{AllocError, Global};
 use std::marker::Model;
 
@@ -24,8 +28,8 @@ use std::marker::Model;
 pub struct CountedFile<'a> {
     outline: &'a Outline,
     counted: Vec<bool>,
-    // Which of the entries that count have clocks, and the efforts: these are the same at each step of a table.
-    clocked: Vec<bool>,
+    // The clocks of the headings that count, and the efforts: these are the same at each step of a table.
+    clocks: Vec<PlacedClock>,
     efforts: Vec<u64>,
     effort: u64,
 }
@@ -37,7 +41,7 @@ impl<'a> Model for CountedFile<'a> {
 
     ghost view = { λ c. record { entries = c.outline.now; counted = c.counted.items } };
 
-    ghost invariant = { λ c. IsPrepared c.outline.now c.counted.items c.clocked.items c.efforts.items c.effort };
+    ghost invariant = { λ c. IsPrepared c.outline.now c.counted.items c.clocks.items c.efforts.items c.effort };
 }
 
 impl<'a> CountedFile<'a> {
@@ -51,13 +55,13 @@ impl<'a> CountedFile<'a> {
         ensures value { IfOk result (λ file. file ≡ record { entries = outline.now; counted = counted.items }) }
         ensures memory { IsOkUnless result memory_fault }
     {
-        let clocked = clocked_of(alloc, outline, counted.as_slice())?;
+        let clocks = clocks_of(alloc, outline, counted.as_slice())?;
         let efforts = effort_sums(alloc, outline, counted.as_slice())?;
         let effort = whole_sum(&Measure::Efforts, outline, counted.as_slice());
         Ok(CountedFile {
             outline,
             counted,
-            clocked,
+            clocks,
             efforts,
             effort,
         })
@@ -70,23 +74,23 @@ impl<'a> CountedFile<'a> {
         self.outline
     }
 
-    // What the whole file has.
-    pub(crate) fn sum(&self, measure: &Measure) -> u64
-        ensures value { result ≡ file_sum (amount measure.now) self.now }
-        ensures below { result < 2 ^ 55 }
+    // What its clocks have in a period.
+    pub(crate) fn marks(&self, alloc: Global, period: &Period) -> Result<Marks, AllocError>
+        ensures days { IfOk result (λ marks. marks.days ≡ (period.now.first, period.now.last)) }
+        ensures sums { IfOk result (λ marks. AreOf marks self.now) }
+        ensures below { IfOk result (λ marks. before marks (length self.now.entries) < 2 ^ 55) }
     {
-        match measure {
-            Measure::Clocks(_) => whole_sum(measure, self.outline, self.clocked.as_slice()),
-            Measure::Efforts => self.effort,
-        }
+        // For the proof alone: the period ends on a day.
+        let _last = period.last.number();
+        Marks::of(alloc, self.clocks.as_slice(), period)
     }
 
-    // The clock sum of each heading.
-    pub(crate) fn clock_sums(&self, alloc: Global, period: &Period) -> Result<Vec<u64>, Fault>
-        ensures value { IfOk result (λ sums. sums.items ≡ map (heading_sum (clock_minutes (period.now.first, period.now.last)) self.now) (range_with_len 0 (length self.now.entries))) }
-        ensures memory { IsOkUnless result memory_fault }
+    // The effort of the whole file.
+    pub(crate) fn effort(&self) -> u64
+        ensures value { result ≡ file_sum effort_minutes self.now }
+        ensures below { result < 2 ^ 55 }
     {
-        clock_sums(alloc, self.outline, *period, self.clocked.as_slice())
+        self.effort
     }
 
     // The effort sum of each heading.
@@ -97,22 +101,50 @@ impl<'a> CountedFile<'a> {
     }
 }
 
-// Which of the entries that count have clocks.
-fn clocked_of(alloc: Global, outline: &Outline, counted: &[bool]) -> Result<Vec<bool>, AllocError>
+// The clocks of the headings that count, in order.
+fn clocks_of(
+    alloc: Global,
+    outline: &Outline,
+    counted: &[bool],
+) -> Result<Vec<PlacedClock>, AllocError>
     requires count { length counted.now ≡ length outline.now }
-    ensures { IfOk result (λ clocked. clocked.items ≡ clocked_of outline.now counted.now) }
+    ensures { IfOk result (λ clocks. clocks.items ≡ clocks_from 0 outline.now counted.now) }
 {
-    let mut clocked = Vec::with_capacity(alloc, counted.len())?;
+    let mut clocks = Vec::new(alloc);
     for place in 0..outline.count() {
-        clocked.push(is_clocked(counted[place], outline.entry(place)))?;
+        push_clocks(&mut clocks, place, counted[place], outline.entry(place))?;
     }
-    Ok(clocked)
+    Ok(clocks)
 }
 
-fn is_clocked(counts: bool, entry: &Entry) -> bool
-    ensures { result ≡ (counts && has_clocks entry.now) }
+fn push_clocks(
+    clocks: &mut Vec<PlacedClock>,
+    place: usize,
+    counts: bool,
+    entry: &Entry,
+) -> Result<(), AllocError>
+    ensures { OnOk result (clocks.new.items ≡ clocks.old.items ++ clocks_at place counts entry.now) }
 {
-    counts && !entry.clocks.as_slice().is_empty()
+    if !counts || entry.head.is_none() {
+        return Ok(());
+    }
+    push_all(clocks, place, entry.clocks.as_slice())
+}
+
+fn push_all(
+    clocks: &mut Vec<PlacedClock>,
+    place: usize,
+    own: &[ClockLine],
+) -> Result<(), AllocError>
+    ensures { OnOk result (clocks.new.items ≡ clocks.old.items ++ placed place own.now) }
+{
+    for clock in own {
+        clocks.push(PlacedClock {
+            place,
+            clock: *clock,
+        })?;
+    }
+    Ok(())
 }
 
 /// The files, each with the headings that count in a clock table: all, or those of which the expression holds at the moment.

@@ -4,6 +4,7 @@
 mod asked;
 mod counted;
 pub mod laws;
+mod marks;
 mod options;
 mod row;
 mod rows;

@@ -1,23 +1,24 @@
 //! The rows of a clock table.
-ghost use Rattle.std.specs.Prelude.{◌≡◌, ◌≤◌, ◌++◌, length, IfOk, OnOk, IsOkUnless};
+ghost use Rattle.std.specs.Prelude.{◌≡◌, ◌<◌, ◌≤◌, ◌^◌, ◌++◌, length, reverse, IfOk, OnOk, IsOkUnless};
 ghost use Rattle.org_base.specs.Codes.{memory_fault};
-ghost use Rattle.org_clocktable.specs.Counted.{total};
-ghost use Rattle.org_clocktable.specs.Table.{file_rows, files_rows, level_rows, rows_from, step_rows};
+ghost use Rattle.org_clocktable.specs.Clocked.{AreOf, IsHeadingOrEnd, IsLastClocked};
+ghost use Rattle.org_clocktable.specs.Counted.{file_sum, total};
+ghost use Rattle.org_clocktable.specs.Marks.{IsLater};
+ghost use Rattle.org_clocktable.specs.Table.{file_rows, files_rows, level_rows, rows_at, rows_from, step_rows};
 ghost use Rattle.org_outline.specs.Levels.{level_of};
-ghost use Rattle.org_sum.specs.Measures.{amount};
+ghost use Rattle.org_sum.specs.Measures.{clock_minutes, effort_minutes};
 
 use crate::counted::CountedFile;
+use crate::marks::Marks;
 use crate::row::{Of, TableRow};
 use org_base::Fault;
 use org_cal::Period;
 use org_entry::Entry;
-use org_sum::Measure;
-use std::alloc::Global;
+use std::alloc::{AllocError, Global};
 
 /// The rows of a clock table over a period (Org manual 9.6, "The clock table"): the total; then each file with clocks in the
-/// period, followed by its headings of at most this level that have some. They are at most 256 files. Want of memory is the
-/// only refusal.
-#[tactic(auto, unfolding(crate::specs::Table::step_rows))]
+/// period, followed by its headings of at most this level that have some. They are at most 256 files. Each clock is looked at
+/// once, and then only headings with minutes in the period, their own or below them. Want of memory is the only refusal.
 pub fn step_rows(
     alloc: Global,
     period: &Period,
@@ -28,47 +29,69 @@ pub fn step_rows(
     ensures value { IfOk result (λ rows. rows.items ≡ step_rows (period.now.first, period.now.last) most files.now) }
     ensures memory { IsOkUnless result memory_fault }
 {
-    let clock = total(&Measure::Clocks(*period), files);
-    let effort = total(&Measure::Efforts, files);
-    let mut rows = Vec::new(alloc);
-    rows.push(TableRow {
-        of: Of::All,
-        clock,
-        effort,
-    })?;
-    push_files(alloc, &mut rows, period, most, files)?;
+    let rows = rows_of(alloc, period, most, files)?;
     Ok(rows)
 }
 
-// What all files have.
-fn total(measure: &Measure, files: &[CountedFile<'_>]) -> u64
+// The same; the total is known behind the files.
+#[tactic(auto, unfolding(crate::specs::Table::step_rows))]
+fn rows_of(
+    alloc: Global,
+    period: &Period,
+    most: u32,
+    files: &[CountedFile<'_>],
+) -> Result<Vec<TableRow>, AllocError>
     requires few { length files.now ≤ 256 }
-    ensures value { result ≡ total (amount measure.now) files.now }
+    ensures { IfOk result (λ rows. rows.items ≡ step_rows (period.now.first, period.now.last) most files.now) }
+{
+    let effort = total_effort(files);
+    let mut rows = Vec::new(alloc);
+    let clock = push_files(alloc, &mut rows, period, most, files)?;
+    rows.insert(
+        0,
+        TableRow {
+            of: Of::All,
+            clock,
+            effort,
+        },
+    )?;
+    Ok(rows)
+}
+
+// The efforts of all files.
+fn total_effort(files: &[CountedFile<'_>]) -> u64
+    requires few { length files.now ≤ 256 }
+    ensures { result ≡ total effort_minutes files.now }
 {
     let mut sum = 0;
     for file in files {
-        let own = file.sum(measure);
-        sum += own;
+        let effort = file.effort();
+        sum += effort;
     }
     sum
 }
 
+// Puts the rows of files behind others; answers what the clocks of all have.
 fn push_files(
     alloc: Global,
     rows: &mut Vec<TableRow>,
     period: &Period,
     most: u32,
     files: &[CountedFile<'_>],
-) -> Result<(), Fault>
-    ensures ok { OnOk result (rows.new.items ≡ rows.old.items ++ files_rows (period.now.first, period.now.last) most 0 files.now) }
-    ensures memory { IsOkUnless result memory_fault }
+) -> Result<u64, AllocError>
+    requires few { length files.now ≤ 256 }
+    ensures sum { IfOk result (λ sum. sum ≡ total (clock_minutes (period.now.first, period.now.last)) files.now) }
+    ensures rows { OnOk result (rows.new.items ≡ rows.old.items ++ files_rows (period.now.first, period.now.last) most 0 files.now) }
 {
+    let mut sum = 0;
     for (place, file) in files.iter().enumerate() {
-        push_file(alloc, rows, period, most, place, file)?;
+        let own = push_file(alloc, rows, period, most, place, file)?;
+        sum += own;
     }
-    Ok(())
+    Ok(sum)
 }
 
+// Puts the rows of a file behind others; answers what its clocks have.
 fn push_file(
     alloc: Global,
     rows: &mut Vec<TableRow>,
@@ -76,53 +99,114 @@ fn push_file(
     most: u32,
     place: usize,
     file: &CountedFile<'_>,
-) -> Result<(), Fault>
-    ensures ok { OnOk result (rows.new.items ≡ rows.old.items ++ file_rows (period.now.first, period.now.last) most place file.now) }
-    ensures memory { IsOkUnless result memory_fault }
+) -> Result<u64, AllocError>
+    ensures sum { IfOk result (λ sum. sum ≡ file_sum (clock_minutes (period.now.first, period.now.last)) file.now) }
+    ensures below { IfOk result (λ sum. sum < 2 ^ 55) }
+    ensures rows { OnOk result (rows.new.items ≡ rows.old.items ++ file_rows (period.now.first, period.now.last) most place file.now) }
 {
-    let clock = file.sum(&Measure::Clocks(*period));
+    let marks = file.marks(alloc, period)?;
+    let clock = marks.before(file.outline().count());
     if clock == 0 {
-        return Ok(());
+        return Ok(0);
     }
-    let effort = file.sum(&Measure::Efforts);
     rows.push(TableRow {
         of: Of::File(place),
         clock,
-        effort,
+        effort: file.effort(),
     })?;
-    push_headings(alloc, rows, period, most, place, file)?;
-    Ok(())
+    push_headings(alloc, rows, most, place, file, &marks)?;
+    Ok(clock)
 }
 
 fn push_headings(
     alloc: Global,
     rows: &mut Vec<TableRow>,
-    period: &Period,
     most: u32,
     at: usize,
     file: &CountedFile<'_>,
-) -> Result<(), Fault>
-    ensures ok { OnOk result (rows.new.items ≡ rows.old.items ++ rows_from (period.now.first, period.now.last) most at file.now 0 file.now.entries) }
-    ensures memory { IsOkUnless result memory_fault }
+    marks: &Marks,
+) -> Result<(), AllocError>
+    requires { AreOf marks.now file.now }
+    ensures { OnOk result (rows.new.items ≡ rows.old.items ++ rows_from marks.now.days most at file.now 0 file.now.entries) }
 {
-    let clocks = file.clock_sums(alloc, period)?;
-    let efforts = file.efforts();
-    let outline = file.outline();
-    for place in 0..outline.count() {
-        push_heading(
-            rows,
-            most,
-            at,
-            place,
-            outline.entry(place),
-            clocks[place],
-            efforts[place],
-        )?;
-    }
+    let mut found = headings_up(alloc, most, at, file, marks)?;
+    found.reverse();
+    rows.extend_from_slice(found.as_slice())?;
     Ok(())
 }
 
+// The rows of a file's headings, the last first.
+fn headings_up(
+    alloc: Global,
+    most: u32,
+    at: usize,
+    file: &CountedFile<'_>,
+    marks: &Marks,
+) -> Result<Vec<TableRow>, AllocError>
+    requires { AreOf marks.now file.now }
+    ensures { IfOk result (λ rows. reverse rows.items ≡ rows_from marks.now.days most at file.now 0 file.now.entries) }
+{
+    let mut rows = Vec::new(alloc);
+    let mut below = file.outline().count();
+    while let Some(place) = heading_before(file, marks, below) {
+        push_heading(&mut rows, most, at, place, file, marks)?;
+        below = place;
+    }
+    Ok(rows)
+}
+
+// The last heading before another one, or before the end, that may have minutes: the parent of that one, or the last with
+// clocks of its own. What stands behind both has none, since all subtrees that begin there end before that heading.
+fn heading_before(file: &CountedFile<'_>, marks: &Marks, below: usize) -> Option<usize>
+    requires marks { AreOf marks.now file.now }
+    requires heading { IsHeadingOrEnd file.now.entries below }
+    ensures { IsLastClocked marks.now.days file.now below result }
+{
+    let outline = file.outline();
+    let own = marks.last_before(below);
+    if below == outline.count() {
+        return own;
+    }
+    later(outline.parent(below), own)
+}
+
+fn later(a: Option<usize>, b: Option<usize>) -> Option<usize>
+    ensures { IsLater a b result }
+{
+    match (a, b) {
+        (Some(a), Some(b)) => if a < b { Some(b) } else { Some(a) },
+        (Some(a), None) => Some(a),
+        (None, b) => b,
+    }
+}
+
+// Puts the row of a heading behind others, if it has one.
 fn push_heading(
+    rows: &mut Vec<TableRow>,
+    most: u32,
+    at: usize,
+    place: usize,
+    file: &CountedFile<'_>,
+    marks: &Marks,
+) -> Result<(), AllocError>
+    requires marks { AreOf marks.now file.now }
+    requires within { place < length file.now.entries }
+    ensures { OnOk result (rows.new.items ≡ rows.old.items ++ rows_at marks.now.days most at file.now place) }
+{
+    let outline = file.outline();
+    let clock = marks.before(outline.end_of(place)) - marks.before(place);
+    push_row(
+        rows,
+        most,
+        at,
+        place,
+        outline.entry(place),
+        clock,
+        file.efforts()[place],
+    )
+}
+
+fn push_row(
     rows: &mut Vec<TableRow>,
     most: u32,
     file: usize,
@@ -130,18 +214,13 @@ fn push_heading(
     entry: &Entry,
     clock: u64,
     effort: u64,
-) -> Result<(), Fault>
-    ensures ok { OnOk result (rows.new.items ≡ rows.old.items ++ level_rows most file place clock effort (level_of entry.now)) }
-    ensures memory { IsOkUnless result memory_fault }
+) -> Result<(), AllocError>
+    ensures { OnOk result (rows.new.items ≡ rows.old.items ++ level_rows most file place clock effort (level_of entry.now)) }
 {
-    // Most headings have no clocks at a step, so that is asked first.
-    if clock == 0 {
-        return Ok(());
-    }
     let Some(head) = &entry.head else {
         return Ok(());
     };
-    if head.level <= most {
+    if clock > 0 && head.level <= most {
         rows.push(TableRow {
             of: Of::Heading(file, place, head.level),
             clock,

@@ -1,5 +1,5 @@
 //! Columns of a view.
-ghost use Rattle.std.specs.Prelude.{◌≡◌, ◌^◌, ◌<◌, ◌++◌, string_bytes, OnOk, OnErr, IsOkUnless};
+ghost use Rattle.std.specs.Prelude.{◌≡◌, ◌^◌, ◌+◌, ◌<◌, ◌≤◌, ◌++◌, replicate, string_bytes, string_capacity, string_len, OnOk, OnErr, IsOkUnless};
 ghost use Rattle.org_base.specs.Codes.{memory_fault};
 ghost use Rattle.org_layout.specs.Columns.{padded, shown};
 
@@ -15,13 +15,57 @@ pub fn pad(out: &mut String, text: &str, column: usize) -> Result<(), Fault>
     ensures err { OnErr result (string_bytes out.new ≡ string_bytes out.old) }
     ensures memory { IsOkUnless result memory_fault }
 {
+    push_padded(out, text, column)?;
+    Ok(())
+}
+
+// The same.
+pub(crate) fn push_padded(out: &mut String, text: &str, column: usize) -> Result<(), AllocError>
+    requires column { column < 2 ^ 32 }
+    ensures ok { OnOk result (string_bytes out.new ≡ string_bytes out.old ++ padded text.now column) }
+    ensures err { OnErr result (string_bytes out.new ≡ string_bytes out.old) }
+{
     let spaces = column.saturating_sub(text.width()).max(1);
     out.reserve(text.len() + spaces)?;
     out.push_str(text).unwrap();
-    for _space in 0..spaces {
-        out.push(' ').unwrap();
-    }
+    fill(out, spaces);
     Ok(())
+}
+
+// Appends so many spaces.
+pub(crate) fn push_spaces(out: &mut String, count: usize) -> Result<(), AllocError>
+    ensures { OnOk result (string_bytes out.new ≡ string_bytes out.old ++ replicate count 32) }
+{
+    out.reserve(count)?;
+    fill(out, count);
+    Ok(())
+}
+
+// Appends so many spaces, for which there is room.
+fn fill(out: &mut String, spaces: usize)
+    requires { string_len out.old + spaces ≤ string_capacity out.old }
+    ensures { string_bytes out.new ≡ string_bytes out.old ++ replicate spaces 32 }
+{
+    for _eight in 0..spaces / 8 {
+        out.push_str("        ").unwrap();
+    }
+    out.push_str(few_spaces(spaces % 8)).unwrap();
+}
+
+fn few_spaces(count: usize) -> &'static str
+    requires { count < 8 }
+    ensures { result.now ≡ replicate count 32 }
+{
+    match count {
+        0 => "",
+        1 => " ",
+        2 => "  ",
+        3 => "   ",
+        4 => "    ",
+        5 => "     ",
+        6 => "      ",
+        _ => "       ",
+    }
 }
 
 // Appends bytes of a file. All texts of files are UTF-8; of other bytes nothing is shown.

@@ -2,9 +2,10 @@
 ghost use Rattle.std.specs.Prelude.{◌≡◌, ◌<◌, ◌+◌, ◌++◌, string_bytes, IfOk, OnOk, OnErr, IsOkUnless};
 ghost use Rattle.org_base.specs.Codes.{memory_fault};
 ghost use Rattle.org_layout.specs.Days.{agenda_lines, day_columns, day_line, day_lines, end_text, label_text, row_lines, times_text};
+ghost use Rattle.org_layout.specs.Lines.{row_line};
 
-use crate::column::pad;
-use crate::line::push_row;
+use crate::column::push_padded;
+use crate::line::{LineTexts, push_row};
 use org_agenda::{Agenda, Row, RowKind};
 use org_base::Fault;
 use org_cal::{Day, TimeOfDay, day_name, push_date, push_time, push_two};
@@ -84,50 +85,79 @@ fn push_rows(
     ensures ok { OnOk result (string_bytes out.new ≡ string_bytes out.old ++ row_lines inherits.now rows.now) }
     ensures memory { IsOkUnless result memory_fault }
 {
-    let mut head = Vec::new(alloc);
+    let mut texts = DayTexts::new(alloc);
     for row in rows {
-        let columns = columns_of(alloc, row)?;
-        push_row(
-            alloc,
-            out,
-            &mut head,
-            columns.as_str(),
-            inherits,
-            row.file,
-            row.heading,
-        )?;
+        push_day_row(alloc, out, &mut texts, inherits, row)?;
     }
     Ok(())
 }
 
-// The times in a column of 12, and the label.
-#[tactic(auto, unfolding(crate::specs::Days::day_columns))]
-fn columns_of(alloc: Global, row: &Row) -> Result<String, Fault>
-    ensures value { IfOk result (λ text. string_bytes text ≡ day_columns row.now) }
-    ensures memory { IsOkUnless result memory_fault }
-{
-    let times = times_of(alloc, row.start, row.end)?;
-    let mut text = String::new(alloc);
-    pad(&mut text, times.as_str(), 12)?;
-    push_label(&mut text, row.kind, row.number, row.of)?;
-    Ok(text)
+// The texts of which the lines of a day are made, kept from row to row.
+#[derive(Drop)]
+struct DayTexts {
+    times: String,
+    columns: String,
+    line: LineTexts,
 }
 
-fn times_of(
+impl DayTexts {
+    fn new(alloc: Global) -> DayTexts {
+        DayTexts {
+            times: String::new(alloc),
+            columns: String::new(alloc),
+            line: LineTexts::new(alloc),
+        }
+    }
+}
+
+fn push_day_row(
     alloc: Global,
-    start: Option<TimeOfDay>,
-    end: Option<TimeOfDay>,
-) -> Result<String, Fault>
-    ensures value { IfOk result (λ text. string_bytes text ≡ times_text start end) }
+    out: &mut String,
+    texts: &mut DayTexts,
+    inherits: &Inherits<'_>,
+    row: &Row,
+) -> Result<(), Fault>
+    ensures ok { OnOk result (string_bytes out.new ≡ string_bytes out.old ++ row_line (day_columns row.now) inherits.now row.now.file row.now.heading) }
     ensures memory { IsOkUnless result memory_fault }
 {
-    let mut text = String::new(alloc);
+    write_columns(&mut texts.columns, &mut texts.times, row)?;
+    push_row(
+        alloc,
+        out,
+        &mut texts.line,
+        texts.columns.as_str(),
+        inherits,
+        row.file,
+        row.heading,
+    )
+}
+
+// Writes the times in a column of 12, and the label.
+#[tactic(auto, unfolding(crate::specs::Days::day_columns))]
+fn write_columns(columns: &mut String, times: &mut String, row: &Row) -> Result<(), Fault>
+    ensures ok { OnOk result (string_bytes columns.new ≡ day_columns row.now) }
+    ensures memory { IsOkUnless result memory_fault }
+{
+    columns.clear();
+    write_times(times, row.start, row.end)?;
+    push_padded(columns, times.as_str(), 12)?;
+    push_label(columns, row.kind, row.number, row.of)
+}
+
+fn write_times(
+    times: &mut String,
+    start: Option<TimeOfDay>,
+    end: Option<TimeOfDay>,
+) -> Result<(), Fault>
+    ensures ok { OnOk result (string_bytes times.new ≡ times_text start end) }
+    ensures memory { IsOkUnless result memory_fault }
+{
+    times.clear();
     let Some(start) = start else {
-        return Ok(text);
+        return Ok(());
     };
-    push_time(&mut text, start)?;
-    push_end(&mut text, end)?;
-    Ok(text)
+    push_time(times, start)?;
+    push_end(times, end)
 }
 
 fn push_end(out: &mut String, end: Option<TimeOfDay>) -> Result<(), Fault>

@@ -1,20 +1,38 @@
 //! The line of a heading.
 ghost use Rattle.std.specs.Prelude.{◌≡◌, ◌++◌, ◌<◌, length, string_bytes, OnOk, IsOkUnless};
 ghost use Rattle.org_base.specs.Codes.{memory_fault};
-ghost use Rattle.org_layout.specs.Lines.{category_column, entry_line, row_line, scope_line};
+ghost use Rattle.org_inherit.specs.Tags.{all_tags};
+ghost use Rattle.org_layout.specs.Columns.{shown};
+ghost use Rattle.org_layout.specs.Lines.{category_column, entry_line, entry_text, row_line, scope_line};
 
-use crate::column::{pad, push_bytes};
+use crate::column::{push_bytes, push_padded};
 use crate::head::write_entry;
 use org_base::Fault;
 use org_entry::Entry;
 use org_inherit::{Inherit, Inherits};
-use std::alloc::Global;
+use std::alloc::{AllocError, Global};
+
+// The texts of which the lines of rows are made, kept from row to row, so that a row takes no memory of its own.
+#[derive(Drop)]
+pub(crate) struct LineTexts {
+    category: String,
+    head: Vec<u8>,
+}
+
+impl LineTexts {
+    pub(crate) fn new(alloc: Global) -> LineTexts {
+        LineTexts {
+            category: String::new(alloc),
+            head: Vec::new(alloc),
+        }
+    }
+}
 
 // Appends the line of the heading of an entry of a file, by their places, with further columns behind the category's.
 pub(crate) fn push_row(
     alloc: Global,
     out: &mut String,
-    head: &mut Vec<u8>,
+    texts: &mut LineTexts,
     columns: &str,
     inherits: &Inherits<'_>,
     file: usize,
@@ -26,13 +44,13 @@ pub(crate) fn push_row(
     if file >= inherits.count() {
         return Ok(());
     }
-    push_heading(alloc, out, head, columns, inherits.get(file), heading)
+    push_heading(alloc, out, texts, columns, inherits.get(file), heading)
 }
 
 fn push_heading(
     alloc: Global,
     out: &mut String,
-    head: &mut Vec<u8>,
+    texts: &mut LineTexts,
     columns: &str,
     inherit: &Inherit<'_>,
     place: usize,
@@ -47,7 +65,7 @@ fn push_heading(
     push_line(
         alloc,
         out,
-        head,
+        texts,
         columns,
         inherit,
         place,
@@ -58,7 +76,7 @@ fn push_heading(
 fn push_line(
     alloc: Global,
     out: &mut String,
-    head: &mut Vec<u8>,
+    texts: &mut LineTexts,
     columns: &str,
     inherit: &Inherit<'_>,
     place: usize,
@@ -68,24 +86,40 @@ fn push_line(
     ensures ok { OnOk result (string_bytes out.new ≡ string_bytes out.old ++ entry_line columns.now inherit.now place entry.now) }
     ensures memory { IsOkUnless result memory_fault }
 {
-    push_category(alloc, out, inherit.category(place))?;
+    push_category(out, &mut texts.category, inherit.category(place))?;
     out.push_str(columns)?;
+    push_entry(alloc, out, &mut texts.head, inherit, place, entry)?;
+    out.push_str("\n")?;
+    Ok(())
+}
+
+// Appends what is shown of a heading.
+fn push_entry(
+    alloc: Global,
+    out: &mut String,
+    head: &mut Vec<u8>,
+    inherit: &Inherit<'_>,
+    place: usize,
+    entry: &Entry,
+) -> Result<(), Fault>
+    requires within { place < length inherit.now.entries }
+    ensures ok { OnOk result (string_bytes out.new ≡ string_bytes out.old ++ shown (entry_text entry.now (all_tags inherit.now place))) }
+    ensures memory { IsOkUnless result memory_fault }
+{
     let tags = inherit.all_tags(place)?;
     write_entry(alloc, head, entry, &tags)?;
     push_bytes(out, head.as_slice())?;
-    out.push_str("\n")?;
     Ok(())
 }
 
 // Appends two spaces and the category's column.
 #[tactic(auto, unfolding(crate::specs::Lines::category_column))]
-fn push_category(alloc: Global, out: &mut String, category: &[u8]) -> Result<(), Fault>
-    ensures ok { OnOk result (string_bytes out.new ≡ string_bytes out.old ++ category_column category.now) }
-    ensures memory { IsOkUnless result memory_fault }
+fn push_category(out: &mut String, name: &mut String, category: &[u8]) -> Result<(), AllocError>
+    ensures { OnOk result (string_bytes out.new ≡ string_bytes out.old ++ category_column category.now) }
 {
-    let mut name = String::new(alloc);
-    push_bytes(&mut name, category)?;
+    name.clear();
+    push_bytes(name, category)?;
     name.push_str(":")?;
     out.push_str("  ")?;
-    pad(out, name.as_str(), 12)
+    push_padded(out, name.as_str(), 12)
 }

@@ -3,7 +3,7 @@ ghost use Rattle.std.specs.Prelude.{◌≡◌, ◌++◌, string_bytes, IfOk, OnO
 ghost use Rattle.org_base.specs.Codes.{memory_fault};
 ghost use Rattle.org_layout.specs.Lines.{list_lines};
 
-use crate::line::push_row;
+use crate::line::{LineTexts, push_row};
 use org_agenda::Row;
 use org_base::Fault;
 use org_inherit::Inherits;
@@ -32,12 +32,12 @@ fn list_of(alloc: Global, rows: &[Row], inherits: &Inherits<'_>) -> Result<Strin
     ensures memory { IsOkUnless result memory_fault }
 {
     let mut text = String::new(alloc);
-    let mut head = Vec::new(alloc);
+    let mut texts = LineTexts::new(alloc);
     for row in rows {
         push_row(
             alloc,
             &mut text,
-            &mut head,
+            &mut texts,
             "",
             inherits,
             row.file,

@@ -1,9 +1,9 @@
 //! The text of a clock table.
-ghost use Rattle.std.specs.Prelude.{◌≡◌, ◌<◌, ◌++◌, length, replicate, slice_index_or, string_bytes, IfOk, OnOk, OnErr, IsOkUnless};
+ghost use Rattle.std.specs.Prelude.{◌≡◌, ◌<◌, ◌++◌, length, slice_index_or, string_bytes, IfOk, OnOk, OnErr, IsOkUnless};
 ghost use Rattle.org_base.specs.Codes.{memory_fault};
 ghost use Rattle.org_layout.specs.Tables.{effort_column, file_name, file_title, name_text, step_line, step_lines, sum_column, table_line, table_lines, title_at, title_of};
 
-use crate::column::{pad, push_bytes};
+use crate::column::{push_bytes, push_padded, push_spaces};
 use org_base::Fault;
 use org_cal::{Period, push_date, push_two};
 use org_clocktable::{Of, TableRow};
@@ -44,11 +44,27 @@ fn table_of(
 {
     let mut text = String::new(alloc);
     push_step(&mut text, period)?;
+    push_rows(alloc, &mut text, inherits, with_effort, rows)?;
+    Ok(text)
+}
+
+fn push_rows(
+    alloc: Global,
+    out: &mut String,
+    inherits: &Inherits<'_>,
+    with_effort: bool,
+    rows: &[TableRow],
+) -> Result<(), Fault>
+    ensures ok { OnOk result (string_bytes out.new ≡ string_bytes out.old ++ table_lines with_effort inherits.now rows.now) }
+    ensures memory { IsOkUnless result memory_fault }
+{
+    // The text of a sum, kept from row to row.
+    let mut sum = String::new(alloc);
     for place in 0..rows.len() {
         let row = row_at(rows, place);
         push_row(
-            alloc,
-            &mut text,
+            out,
+            &mut sum,
             inherits,
             with_effort,
             row.of,
@@ -56,7 +72,7 @@ fn table_of(
             row.effort,
         )?;
     }
-    Ok(text)
+    Ok(())
 }
 
 fn row_at(rows: &[TableRow], place: usize) -> TableRow
@@ -80,8 +96,8 @@ fn push_step(out: &mut String, period: &Period) -> Result<(), Fault>
 
 #[tactic(auto, unfolding(crate::specs::Tables::table_line))]
 fn push_row(
-    alloc: Global,
     out: &mut String,
+    sum: &mut String,
     inherits: &Inherits<'_>,
     with_effort: bool,
     of: Of,
@@ -91,34 +107,40 @@ fn push_row(
     ensures ok { OnOk result (string_bytes out.new ≡ string_bytes out.old ++ table_line with_effort inherits.now of clock effort) }
     ensures memory { IsOkUnless result memory_fault }
 {
-    push_sum(alloc, out, clock)?;
-    push_effort(alloc, out, with_effort, effort)?;
+    push_sum(out, sum, clock)?;
+    push_effort(out, sum, with_effort, effort)?;
     push_name(out, inherits, of)?;
     out.push_str("\n")?;
     Ok(())
 }
 
-fn push_effort(alloc: Global, out: &mut String, with_effort: bool, effort: u64) -> Result<(), Fault>
+fn push_effort(
+    out: &mut String,
+    sum: &mut String,
+    with_effort: bool,
+    effort: u64,
+) -> Result<(), Fault>
     ensures ok { OnOk result (string_bytes out.new ≡ string_bytes out.old ++ effort_column with_effort effort) }
     ensures memory { IsOkUnless result memory_fault }
 {
     if with_effort {
-        push_sum(alloc, out, effort)
+        push_sum(out, sum, effort)
     } else {
         Ok(())
     }
 }
 
 #[tactic(auto, unfolding(crate::specs::Tables::sum_column))]
-fn push_sum(alloc: Global, out: &mut String, minutes: u64) -> Result<(), Fault>
+fn push_sum(out: &mut String, sum: &mut String, minutes: u64) -> Result<(), Fault>
     ensures ok { OnOk result (string_bytes out.new ≡ string_bytes out.old ++ sum_column minutes) }
     ensures memory { IsOkUnless result memory_fault }
 {
     let hours = minutes / 60;
-    let mut text = String::new(alloc);
-    write!(text, "{hours}:")?;
-    push_two(&mut text, (minutes % 60) as u8)?;
-    pad(out, text.as_str(), 9)
+    sum.clear();
+    write!(sum, "{hours}:")?;
+    push_two(sum, (minutes % 60) as u8)?;
+    push_padded(out, sum.as_str(), 9)?;
+    Ok(())
 }
 
 #[tactic(auto, unfolding(crate::specs::Tables::name_text))]
@@ -130,19 +152,9 @@ fn push_name(out: &mut String, inherits: &Inherits<'_>, of: Of) -> Result<(), Fa
         Of::All => out.push_str("*")?,
         Of::File(file) => push_bytes(out, file_name(inherits, file))?,
         Of::Heading(file, place, level) => {
-            push_spaces(out, 2 * level as u64)?;
+            push_spaces(out, 2 * level as usize)?;
             push_bytes(out, file_title(inherits, file, place))?;
         }
-    }
-    Ok(())
-}
-
-fn push_spaces(out: &mut String, count: u64) -> Result<(), Fault>
-    ensures ok { OnOk result (string_bytes out.new ≡ string_bytes out.old ++ replicate count 32) }
-    ensures memory { IsOkUnless result memory_fault }
-{
-    for _space in 0..count {
-        out.push(' ')?;
     }
     Ok(())
 }

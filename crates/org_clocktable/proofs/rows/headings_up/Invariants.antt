@@ -1,0 +1,14 @@
+-- The rows from a heading on, or none from the end on.
+use Rattle.std.proofs.Common.{◌≡◌, drop, reverse}
+use Rattle.org_clocktable.specs.Clocked.{IsHeadingOrEnd}
+use Rattle.org_clocktable.specs.Table.{rows_from}
+use Rattle.org_clocktable.proofs.rows.headings_up.Given as goal
+
+abbrev pub invariant-loop-place : goal.invariant-loop-place
+invariant-loop-place l = record {
+  rows : reverse l.rows.items ≡ rows_from l.marks.days l.most l.at l.file l.below (drop l.below l.file.entries);
+  stop : IsHeadingOrEnd l.file.entries l.below;
+}
+
+abbrev pub decreases-loop-place : goal.decreases-loop-place
+decreases-loop-place l = l.below
