@@ -44,7 +44,7 @@ named_with : (name text : List ℕ) (serial : ℕ) (fs : List FileView) (file : 
 named_with name text serial [] file is = absurd cc
 named_with name text serial (f ∷ fs) file is =
     elim (bytes_eq name f.name) as (λ b. bytes_eq name f.name ≡ b → cond b (Some f) (file_named name fs) ≡ Some file →
-        file_named name (cond b (record f { text = text; serial = serial } ∷ fs) (f ∷ with_text name text serial fs)) ≡ Some (record file { text = text; serial = serial })) [
+    file_named name (cond b (record f { text = text; serial = serial } ∷ fs) (f ∷ with_text name text serial fs)) ≡ Some (record file { text = text; serial = serial })) [
       | true ↦ λ e k. rw e (ap (λ (g : FileView). Some (record g { text = text; serial = serial })) (same_file f file k))
       | false ↦ λ e k. rw e (named_with name text serial fs file k)
     ] refl is
@@ -197,15 +197,27 @@ given_in before start none =
       edits = λ session name serial at del ins next accepted.
           let made = put_is name s (edited at del ins (text_seen session name serial s.world.files)) next accepted in
           let had = edited_of at del ins (text_seen session name serial s.world.files) made.text made.is in
-          let found = seen session name serial s.world.files had.0 had.1 in
-          (found.file, made.text, named_in name s.world.files _ found.file given found.named, name_of_named name s.world.files found.file found.named, found.with_serial,
-            ap (λ t. edited at del ins (Ok t)) found.has ∙ had.2, made.puts found.file found.named);
+          let found = seen session name serial s.world.files had.0 had.1 in (
+            found.file,
+            made.text,
+            named_in name s.world.files _ found.file given found.named,
+            name_of_named name s.world.files found.file found.named,
+            found.with_serial,
+            ap (λ t. edited at del ins (Ok t)) found.has ∙ had.2,
+            made.puts found.file found.named,
+          );
       completes = λ session name serial line keyword next accepted.
           let made = put_is name s (completed_at line keyword s.world.moment (text_seen session name serial s.world.files)) next accepted in
           let had = completed_of s line keyword (text_seen session name serial s.world.files) made.text made.is in
-          let found = seen session name serial s.world.files had.0 had.1 in
-          (found.file, made.text, named_in name s.world.files _ found.file given found.named, name_of_named name s.world.files found.file found.named, found.with_serial,
-            ap (λ t. completed t line keyword s.world.moment) found.has ∙ had.2, made.puts found.file found.named);
+          let found = seen session name serial s.world.files had.0 had.1 in (
+            found.file,
+            made.text,
+            named_in name s.world.files _ found.file given found.named,
+            name_of_named name s.world.files found.file found.named,
+            found.with_serial,
+            ap (λ t. completed t line keyword s.world.moment) found.has ∙ had.2,
+            made.puts found.file found.named,
+          );
       one = λ file other. one_of (files_given before start) start.serial _ file other (all_rise before start);
     }
 

@@ -4,7 +4,9 @@ ghost use Rattle.org_wire.specs.Lines.{cut_at};
 ghost use Rattle.org_wire.specs.Stream.{add_line, agenda_line, at_line, clock_line, complete_line, drop_line, edit_line, first_number, inherit_line, line_of, match_line, number_of, pin_line, pinned_line, seen_of, text_line, todo_line, unpin_line, view_line};
 ghost use Rattle.org_wire.specs.Parsed.{IsWithin, said};
 
-use crate::words::{SeenWords, are_words, cut, first_number, is_utf8, is_word, moment, name, number, one_word, seen};
+use crate::words::{
+    SeenWords, are_words, cut, first_number, is_utf8, is_word, moment, name, number, one_word, seen,
+};
 use org_cal::Moment;
 
 /// What a line says. A view has a session where it is asked of what that one keeps.

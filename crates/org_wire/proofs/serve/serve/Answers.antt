@@ -53,7 +53,7 @@ returns-in-Match g c =
     let s = c.args.engine.now.state in
     record {
       value = rw c.in-Match.is (shows _ _ _ _ _ c.ask-in-Match.result
-        (λ question asks. (question, subst (λ t. AsksOf (λ today q. AsksMatch t q) (step.world_asked c.in-Match.session s.world s.pins) question) c.as_str-in-Match.ensures.value asks, refl)) c.ask-in-Match.ensures.value);
+          (λ question asks. (question, subst (λ t. AsksOf (λ today q. AsksMatch t q) (step.world_asked c.in-Match.session s.world s.pins) question) c.as_str-in-Match.ensures.value asks, refl)) c.ask-in-Match.ensures.value);
     }
 
 pub returns-in-Agenda : goal.returns-in-Agenda
@@ -61,7 +61,7 @@ returns-in-Agenda g c =
     let s = c.args.engine.now.state in
     record {
       value = rw c.in-Agenda.is (shows _ _ _ _ _ c.ask-in-Agenda.result
-        (λ question asks. (question, subst (λ t. AsksOf (λ today q. q ≡ asked_agenda t c.in-Agenda.days) (step.world_asked c.in-Agenda.session s.world s.pins) question) c.as_str-in-Agenda.ensures.value asks, refl)) c.ask-in-Agenda.ensures.value);
+          (λ question asks. (question, subst (λ t. AsksOf (λ today q. q ≡ asked_agenda t c.in-Agenda.days) (step.world_asked c.in-Agenda.session s.world s.pins) question) c.as_str-in-Agenda.ensures.value asks, refl)) c.ask-in-Agenda.ensures.value);
     }
 
 pub returns-in-Clock : goal.returns-in-Clock
@@ -69,5 +69,5 @@ returns-in-Clock g c =
     let s = c.args.engine.now.state in
     record {
       value = rw c.in-Clock.is (shows _ _ _ _ _ c.ask-in-Clock.result
-        (λ question asks. (question, subst (λ t. AsksOf (λ today q. AsksTable t today q) (step.world_asked c.in-Clock.session s.world s.pins) question) c.as_str-in-Clock.ensures.value asks, refl)) c.ask-in-Clock.ensures.value);
+          (λ question asks. (question, subst (λ t. AsksOf (λ today q. AsksTable t today q) (step.world_asked c.in-Clock.session s.world s.pins) question) c.as_str-in-Clock.ensures.value asks, refl)) c.ask-in-Clock.ensures.value);
     }
