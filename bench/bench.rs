@@ -3,6 +3,7 @@
 //!     bench measure PROGRAM      the table: both programs in turn, the least of several runs
 //!     bench parts PARTS PROGRAM  parts of the engine on their own, by the program `org_measure`, and the program, which keeps
 //!                                texts in pieces, beside streams of that, over texts in one string each
+//!     bench changes PROGRAM      the rows of edits and pins alone
 //!     bench plain                answers the commands `add`, `text`, `todo`, `agenda`, some `match` and some `clock` of standard
 //!                                input
 //!     bench typed                answers the commands `add`, `edit`, `pin` and `unpin` of standard input, over one file
@@ -37,6 +38,7 @@ fn main() -> io::Result<()> {
         Some("parts") => parts(&args[2], &args[3], &args[0]),
         Some("plain") => plain(),
         Some("typed") => edits::plain(),
+        Some("changes") => measure_changes(&args[2], &args[0]),
         Some("text") => io::stdout().write_all(text(args[2].parse().unwrap()).as_bytes()),
         Some("cost") => print_cost(&args[2], &args[3..]),
         Some("list") => {
@@ -263,6 +265,12 @@ fn measure(program: &str, own: &str) -> io::Result<()> {
     measure_question(program, own, &stream, "a clock of 9,000 years", &clocks::long_clock(), question)?;
     measure_edits(program, own, &stream)?;
     std::fs::remove_dir_all(&folder)
+}
+
+fn measure_changes(program: &str, own: &str) -> io::Result<()> {
+    let path = std::env::temp_dir().join(format!("orgviews-changes-{}", std::process::id()));
+    measure_edits(program, own, &path.to_string_lossy())?;
+    std::fs::remove_file(&path)
 }
 
 // Edits and pins of a session, of texts of three sizes. What adding the text takes is taken off.

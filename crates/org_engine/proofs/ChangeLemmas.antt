@@ -9,7 +9,7 @@ use Rattle.org_base.specs.declared.fault.Fault.{Fault}
 use Rattle.org_base.specs.declared.fault.Fault.TheVariants as fault
 use Rattle.org_file.specs.Completion.{completed}
 use Rattle.org_text.specs.Replace.{refusal_of, replace}
-use Rattle.org_engine.specs.Step.{Answers, Complete, EditFile, Puts, Refused, Reply, changes, completed_at, edited, file_named, is_session, put, refused, step, text_at, text_seen}
+use Rattle.org_engine.specs.Step.{Answers, Complete, EditFile, Puts, Refused, Reply, changes, completed_at, edited, file_named, is_session, put, text_at, text_seen}
 use Rattle.org_engine.specs.World.{FileView, State}
 
 -- a text was seen only of a file that is there

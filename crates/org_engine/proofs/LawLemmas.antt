@@ -1,6 +1,6 @@
 -- Pins and serials over lists of commands.
 use Rattle.std.proofs.Common.{◌≡◌, ◌+◌, ◌<◌, ◌≤◌, ℕ, List, [], ◌∷◌, ◌++◌, Bool, true, false, cond, refl, ap, sym, ◌∙◌, arith, eqb}
-use Rattle.std.specs.Prelude.{Option, None, Some, Result, Ok, Err, nat_le, not, ◌==◌}
+use Rattle.std.specs.Prelude.{Option, None, Some, Result, Ok, Err, nat_le}
 use Rattle.org_base.specs.declared.code.Code.TheVariants as code
 use Rattle.org_base.specs.declared.fault.Fault.{Fault}
 use Rattle.org_base.specs.declared.fault.Fault.TheVariants as fault

@@ -1,16 +1,16 @@
 -- Which text an accepted change works on.
-use Rattle.std.proofs.Common.{◌≡◌, ◌∙◌, ◌+◌, ◌<◌, ◌≤◌, ◌⊎◌, ℕ, List, [], ◌∷◌, ◌++◌, Bool, true, false, cond, map, refl, ap, sym, subst, arith, inl, inr}
+use Rattle.std.proofs.Common.{◌≡◌, ◌∙◌, ◌+◌, ◌<◌, ℕ, List, [], ◌∷◌, Bool, true, false, cond, map, refl, ap, sym, subst, arith, inl, inr}
 use Rattle.std.proofs.lemmas.Bool.{eqb-true}
 use Rattle.std.proofs.lemmas.List.{map-append}
 use Rattle.std.proofs.lemmas.Slice.Eq.{bytes_eq-Decides}
 use Rattle.std.specs.Option.{option_to_list}
-use Rattle.std.specs.Prelude.{None, Option, Some, Result, Ok, Err, bytes_eq, is_some, nat_le, ◌==◌}
+use Rattle.std.specs.Prelude.{None, Option, Some, Result, Ok, Err, bytes_eq, nat_le, ◌==◌}
 use Rattle.org_base.specs.declared.code.Code.TheVariants as code
 use Rattle.org_base.specs.declared.fault.Fault.{Fault}
 use Rattle.org_base.specs.declared.fault.Fault.TheVariants as fault
 use Rattle.org_file.specs.Completion.{completed}
 use Rattle.org_engine.specs.Laws.{AllIn, IsIn, WorksOnGiven, WorksOnTextSeen, after_all, file_given, files_given}
-use Rattle.org_engine.specs.Step.{Command, AddFile, At, Ask, Complete, DropFile, EditFile, Inherit, Outcome, PinWorld, Reply, Serial, TextOf, Unpin, added, changes, completed_at, dropped, edited, file_named, is_session, last_serial, pinned_by, put, refused, step, text_at, text_seen, unpinned_by, with_text, world_of}
+use Rattle.org_engine.specs.Step.{Command, AddFile, At, Ask, Complete, DropFile, EditFile, Inherit, Outcome, PinWorld, Serial, TextOf, Unpin, added, changes, completed_at, dropped, edited, file_named, is_session, last_serial, pinned_by, put, refused, step, text_at, text_seen, unpinned_by, with_text, world_of}
 use Rattle.org_engine.specs.World.{FileView, State, WorldView}
 use Rattle.org_engine.proofs.GivenLemmas.{texts_are_given}
 use Rattle.org_engine.proofs.LawLemmas.{Between, between_append, next_state}

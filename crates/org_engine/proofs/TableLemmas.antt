@@ -1,6 +1,6 @@
 -- Clock tables over the files of a world.
 use Rattle.std.proofs.Common.{◌≡◌, ◌≢◌, ◌∙◌, ℕ, zero, suc, ◌+◌, ◌<◌, ◌≤◌, Bool, true, false, cond, List, [], ◌∷◌, ◌++◌, length, drop, map, refl, sym, ap, arith, append_assoc, append-nil, inl, inr, ◌⊎◌, Bor}
-use Rattle.std.specs.Prelude.{None, Option, Some, bytes_eq, chars, filter, is_some, slice_get}
+use Rattle.std.specs.Prelude.{None, Option, Some, bytes_eq, is_some, slice_get}
 use Rattle.std.specs.List.{All, concat}
 use Rattle.std.proofs.lemmas.List.{drop_all, drop_more}
 use Rattle.std.proofs.lemmas.Option.{get_or_from_slice_get}

@@ -1,5 +1,5 @@
 -- Laws of what commands do, one after another (profile).
-use Rattle.std.specs.Prelude.{◌⊎◌, ◌≡◌, ◌<◌, ℕ, List, [], ◌∷◌, ◌++◌, Option, Some, Result, Ok}
+use Rattle.std.specs.Prelude.{◌⊎◌, ◌≡◌, ◌<◌, ℕ, List, [], ◌∷◌, ◌++◌, Some, Result, Ok}
 use Rattle.std.specs.Option.{option_to_list}
 use Rattle.org_base.specs.declared.fault.Fault.{Fault}
 use Rattle.org_file.specs.Completion.{completed}

@@ -2,7 +2,6 @@ use Rattle.std.proofs.Common.{◌≡◌, ◌∙◌, ap, sym, true}
 use Rattle.std.specs.Prelude.{Ok}
 use Rattle.std.specs.Str.{is_utf8}
 use Rattle.std.proofs.lemmas.Str.{is_utf8-from_IsUtf8}
-use Rattle.org_text.specs.Replace.{replace}
 use Rattle.org_engine.proofs.ChangeLemmas.{edited_bad, edited_made, edited_not}
 use Rattle.org_engine.proofs.StepLemmas.{not_utf8}
 use Rattle.org_engine.proofs.seen.edited.Goals as goal

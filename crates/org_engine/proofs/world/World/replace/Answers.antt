@@ -1,4 +1,4 @@
-use Rattle.std.proofs.Common.{◌≡◌, ◌∙◌, ap, arith, length, sym, true, true≢false}
+use Rattle.std.proofs.Common.{◌≡◌, ◌∙◌, arith, sym, true, true≢false}
 use Rattle.std.specs.Prelude.{is_some}
 use Rattle.indexmap.specs.Layout.{length-set_value_at}
 use Rattle.org_engine.specs.Files.{files_of}

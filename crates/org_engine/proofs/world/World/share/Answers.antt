@@ -1,4 +1,3 @@
-use Rattle.std.proofs.Common.{◌∙◌}
 use Rattle.org_engine.proofs.FilesLemmas.{files_of-clone}
 use Rattle.org_engine.proofs.world.World.share.Goals as goal
 
