@@ -5,3 +5,6 @@ pub mod PayloadLemmas
 pub mod RunLemmas
 pub mod ServeLemmas
 pub mod NumberLemmas
+pub mod SpelledWords
+pub mod SpelledLines
+pub mod SpelledBack

@@ -1,0 +1,195 @@
+-- A line that is spelled so is read so.
+use Rattle.std.proofs.Common.{◌≡◌, ◌≢◌, ◌∙◌, ℕ, ◌<◌, true, not, inl, inr, List, [], ◌∷◌, ◌++◌, length, refl, sym, ap, subst, arith}
+use Rattle.std.specs.Prelude.{◌==◌, if◌then◌else◌, codes, decimal, Option, Some, None}
+use Rattle.std.specs.List.{All, list_all}
+use Rattle.std.proofs.lemmas.Bool.Decides.{nat_tests}
+use Rattle.std.proofs.lemmas.List.Elements.{All-cons, All-head, All-nil, All-tail}
+use Rattle.std.proofs.lemmas.Str.{is_utf8-from_IsUtf8}
+use Rattle.org_base.specs.FileName.{is_name_byte}
+use Rattle.org_cal.specs.Texts.{date_of, time_of}
+use Rattle.org_wire.specs.Laws.{LinesAreSpelled}
+use Rattle.org_wire.specs.Lines.{cut_at}
+use Rattle.org_wire.specs.Spelled.{AreKeywords, AreNames, IsFrameLine, IsLineOf, IsName, IsNumber, IsSeen, IsView, IsViewWith, IsWord, keyword_parts, parted, seen_parts, spaced}
+use Rattle.org_wire.specs.Stream.{Bad, Framed, Line, Plainly, add_line, agenda_line, at_line, complete_at, complete_line, dated_line, edit_at, edit_del, edit_line, first_number, inherit_line, is_name, is_one_word, line_of, moment_of, number_of, pin_line, pinned_line, seen_name, seen_of, seen_serial, seen_session, sized, todo_line, unpin_line, view_line, words_from}
+use Rattle.org_wire.specs.declared.command.Command.{Command}
+use Rattle.org_wire.specs.declared.command.Command.TheVariants.{Add, Agenda, At, Clock, Complete, Drop, Edit, Inherit, Match, Pin, Text, Todo, Unpin}
+use Rattle.org_wire.specs.declared.command.Frame.{Frame}
+use Rattle.org_wire.specs.declared.command.Frame.TheVariants as frame
+use Rattle.org_wire.specs.declared.command.Seen.{Seen}
+use Rattle.org_wire.proofs.NumberLemmas.{numbers_are_spelled}
+use Rattle.org_wire.proofs.SpelledLines.{Spelled, both, spelled_so}
+use Rattle.org_wire.proofs.SpelledWords.{apart, cut_back, first_back, parted_more, words_back}
+
+-- tests that hold
+all_pass : (text : List ℕ) → All (λ b. b ≢ 32) text → list_all (λ b. not (b == 32)) text ≡ true
+all_pass [] others = refl
+all_pass (b ∷ text) others =
+    let P : ℕ → Type 0 = λ b. b ≢ 32 in
+    rw (apart b 32 (All-head P b text others)) (all_pass text (All-tail P b text others))
+
+some_length : (text : List ℕ) → 0 < length text → not (length text == 0) ≡ true
+some_length [] some = absurd (omega (arith, some))
+some_length (b ∷ text) some = grind (arith, nat_tests)
+
+name_so : (word : List ℕ) → IsName word → is_name word ≡ true
+name_so word is = rw (is.0, is_utf8-from_IsUtf8 word is.1) refl
+
+word_so : (word : List ℕ) → IsWord word → is_one_word word ≡ true
+word_so word is = rw (some_length word is.0.0, all_pass word is.0.1, is_utf8-from_IsUtf8 word is.1) refl
+
+number_so : (n : ℕ) → IsNumber n → number_of (decimal n) ≡ Some n
+number_so n le = (numbers_are_spelled (decimal n) n).1 (refl, le)
+
+-- no space stands in a name
+bytes_apart : (word : List ℕ) → list_all is_name_byte word ≡ true → All (λ b. b ≢ 32) word
+bytes_apart [] e = All-nil (λ b. b ≢ 32)
+bytes_apart (b ∷ word) e =
+    let p = both (is_name_byte b) (list_all is_name_byte word) e in
+    let other : b ≢ 32 = grind (arith, nat_tests, p.0) in
+    All-cons (λ b. b ≢ 32) b word other (bytes_apart word p.1)
+
+name_apart : (word : List ℕ) → IsName word → All (λ b. b ≢ 32) word
+name_apart word is = bytes_apart word (both _ _ is.0).1
+
+-- commands of one name or one number
+name_line : (command : List ℕ → Command) (name : List ℕ) → IsName name → (if is_name name then Plainly (command name) else Bad) ≡ Plainly (command name)
+name_line command name is = rw (name_so name is) refl
+
+drop_back : (name : List ℕ) → IsName name → line_of (codes "drop" ++ (32 ∷ name)) ≡ Plainly (Drop name)
+unfolding line_of
+drop_back name is = name_line Drop name is
+
+text_back : (name : List ℕ) → IsName name → line_of (codes "text" ++ (32 ∷ name)) ≡ Plainly (Text name)
+unfolding line_of
+text_back name is = name_line Text name is
+
+pin_back : (n : ℕ) → IsNumber n → line_of (codes "pin" ++ (32 ∷ decimal n)) ≡ Plainly (Pin n)
+unfolding line_of
+pin_back n le = ap pin_line (number_so n le)
+
+unpin_back : (n : ℕ) → IsNumber n → line_of (codes "unpin" ++ (32 ∷ decimal n)) ≡ Plainly (Unpin n)
+unfolding line_of
+unpin_back n le = ap unpin_line (number_so n le)
+
+-- `inherit`
+inherit_back : (names : List (List ℕ)) → AreNames names → line_of (spaced (codes "inherit" ∷ names)) ≡ Plainly (Inherit names)
+unfolding line_of
+inherit_back [] is = refl
+inherit_back (name ∷ names) is =
+    let text : List ℕ = spaced (name ∷ names) in
+    let w = words_back 32 (name ∷ names) (omega arith) is.0 in
+    let read : inherit_line text ≡ Plainly (Inherit (words_from 32 [] text)) = rw (is_utf8-from_IsUtf8 text is.1, w.0) refl in
+    read ∙ ap (λ ns. Plainly (Inherit ns)) w.1
+
+-- `at`
+at_back : (date time : List ℕ) → IsWord date → IsWord time → line_of (codes "at" ++ (32 ∷ (date ++ (32 ∷ time)))) ≡ Plainly (At (moment_of (date_of date) (time_of time)))
+unfolding line_of
+at_back date time d t =
+    let both_words : at_line (Some (record { before = date; after = time })) ≡ Plainly (At (moment_of (date_of date) (time_of time))) = rw (word_so date d, word_so time t) refl in
+    ap at_line (cut_back 32 date time d.0.1) ∙ both_words
+
+-- `add`
+add_back : (name : List ℕ) (size : ℕ) → IsName name → IsNumber size → line_of (codes "add" ++ (32 ∷ (name ++ (32 ∷ decimal size)))) ≡ Framed (frame.Add name) size
+unfolding line_of
+add_back name size is le =
+    let named : add_line (Some (record { before = name; after = decimal size })) ≡ sized (frame.Add name) (number_of (decimal size)) = rw (name_so name is) refl in
+    ap add_line (cut_back 32 name (decimal size) (name_apart name is)) ∙ named ∙ ap (sized (frame.Add name)) (number_so size le)
+
+-- what a session saw
+seen_back : (seen : Seen) (rest : List ℕ) → IsSeen seen → seen_of (decimal seen.session ++ (32 ∷ (seen.name ++ (32 ∷ (decimal seen.serial ++ (32 ∷ rest)))))) ≡ Some (seen, rest)
+seen_back seen rest is =
+    let last : List ℕ = decimal seen.serial ++ (32 ∷ rest) in
+    let named : seen_name seen.session (Some (record { before = seen.name; after = last })) ≡ seen_serial seen.session seen.name (first_number (cut_at 32 last)) = rw (name_so seen.name is.1) refl in
+    ap seen_session (first_back seen.session (seen.name ++ (32 ∷ last)) is.0)
+    ∙ ap (seen_name seen.session) (cut_back 32 seen.name last (name_apart seen.name is.1))
+    ∙ named
+    ∙ ap (seen_serial seen.session seen.name) (first_back seen.serial rest is.2)
+
+complete_back : (seen : Seen) (place : ℕ) (keyword : List ℕ) → IsSeen seen → IsNumber place → IsWord keyword →
+    line_of (spaced (codes "complete" ∷ (seen_parts seen ++ (decimal place ∷ (keyword ∷ []))))) ≡ Plainly (Complete seen place keyword)
+unfolding line_of
+complete_back seen place keyword is le word =
+    let rest : List ℕ = decimal place ++ (32 ∷ keyword) in
+    let last : complete_at seen (Some (place, keyword)) ≡ Plainly (Complete seen place keyword) = rw (word_so keyword word) refl in
+    ap complete_line (seen_back seen rest is) ∙ ap (complete_at seen) (first_back place keyword le) ∙ last
+
+edit_back : (seen : Seen) (at del size : ℕ) → IsSeen seen → IsNumber at → IsNumber del → IsNumber size →
+    line_of (spaced (codes "edit" ∷ (seen_parts seen ++ (decimal at ∷ (decimal del ∷ (decimal size ∷ [])))))) ≡ Framed (frame.Edit seen at del) size
+unfolding line_of
+edit_back seen at del size is a d n =
+    let more : List ℕ = decimal del ++ (32 ∷ decimal size) in
+    ap edit_line (seen_back seen (decimal at ++ (32 ∷ more)) is)
+    ∙ ap (edit_at seen) (first_back at more a)
+    ∙ ap (edit_del seen at) (first_back del (decimal size) d)
+    ∙ ap (sized (frame.Edit seen at del)) (number_so size n)
+
+-- a view, asked of the current world and of what a session keeps
+pinned_back : (session : ℕ) (view : List ℕ) → IsNumber session → line_of (codes "pinned" ++ (32 ∷ (decimal session ++ (32 ∷ view)))) ≡ view_line (Some session) view
+unfolding line_of
+pinned_back session view le = ap pinned_line (first_back session view le)
+
+view_back : (session : Option ℕ) (parts : List (List ℕ)) (line : List ℕ) (l : Line) → 0 < length parts → line_of (spaced parts) ≡ view_line None (spaced parts) →
+    view_line session (spaced parts) ≡ l → IsView session parts line → line_of line ≡ l
+view_back None parts line l some first says is = ap line_of is ∙ first ∙ says
+view_back (Some session) parts line l some first says is =
+    let whole : line ≡ codes "pinned" ++ (32 ∷ (decimal session ++ (32 ∷ spaced parts))) = is.0 ∙ ap (λ t. codes "pinned" ++ (32 ∷ t)) (parted_more 32 (decimal session) parts some) in
+    ap line_of whole ∙ pinned_back session (spaced parts) is.1 ∙ says
+
+todo_back : (session : Option ℕ) (keywords : List (List ℕ)) (line : List ℕ) → IsView session (codes "todo" ∷ keyword_parts keywords) line → AreKeywords keywords → line_of line ≡ Plainly (Todo session keywords)
+unfolding line_of
+todo_back session [] line is all = view_back session (codes "todo" ∷ []) line (Plainly (Todo session [])) (omega arith) refl refl is
+todo_back session (k ∷ ks) line is all =
+    let text : List ℕ = parted 124 (k ∷ ks) in
+    let w = words_back 124 (k ∷ ks) (omega arith) all.0 in
+    let read : todo_line session text ≡ Plainly (Todo session (words_from 124 [] text)) = rw (is_utf8-from_IsUtf8 text all.2, all_pass text all.1, w.0) refl in
+    view_back session (codes "todo" ∷ (text ∷ [])) line (Plainly (Todo session (k ∷ ks))) (omega arith) refl (read ∙ ap (λ ns. Plainly (Todo session ns)) w.1) is
+
+match_back : (session : Option ℕ) (text line : List ℕ) → IsViewWith session (codes "match") text line → line_of line ≡ Plainly (Match session text)
+unfolding line_of
+match_back session text line (inl is) =
+    let read : view_line session (codes "match" ++ (32 ∷ text)) ≡ Plainly (Match session text) = rw (is_utf8-from_IsUtf8 text is.1) refl in
+    view_back session (codes "match" ∷ (text ∷ [])) line (Plainly (Match session text)) (omega arith) refl read is.0
+match_back session text line (inr is) =
+    view_back session (codes "match" ∷ []) line (Plainly (Match session [])) (omega arith) refl refl is.0 ∙ ap (λ t. Plainly (Match session t)) (sym is.1)
+
+clock_back : (session : Option ℕ) (text line : List ℕ) → IsViewWith session (codes "clock") text line → line_of line ≡ Plainly (Clock session text)
+unfolding line_of
+clock_back session text line (inl is) =
+    let read : view_line session (codes "clock" ++ (32 ∷ text)) ≡ Plainly (Clock session text) = rw (is_utf8-from_IsUtf8 text is.1) refl in
+    view_back session (codes "clock" ∷ (text ∷ [])) line (Plainly (Clock session text)) (omega arith) refl read is.0
+clock_back session text line (inr is) =
+    view_back session (codes "clock" ∷ []) line (Plainly (Clock session [])) (omega arith) refl refl is.0 ∙ ap (λ t. Plainly (Clock session t)) (sym is.1)
+
+agenda_back : (session : Option ℕ) (date line : List ℕ) (days : ℕ) → IsView session (codes "agenda" ∷ (date ∷ (decimal days ∷ []))) line → IsWord date → IsNumber days → line_of line ≡ Plainly (Agenda session date days)
+unfolding line_of
+agenda_back session date line days is word le =
+    let text : List ℕ = date ++ (32 ∷ decimal days) in
+    let dated : agenda_line session (Some (record { before = date; after = decimal days })) ≡ dated_line session date (number_of (decimal days)) = rw (word_so date word) refl in
+    let read : view_line session (codes "agenda" ++ (32 ∷ text)) ≡ Plainly (Agenda session date days) =
+    ap (agenda_line session) (cut_back 32 date (decimal days) word.0.1) ∙ dated ∙ ap (dated_line session date) (number_so days le) in
+    view_back session (codes "agenda" ∷ (date ∷ (decimal days ∷ []))) line (Plainly (Agenda session date days)) (omega arith) refl read is
+
+plain_back : (line : List ℕ) (command : Command) → IsLineOf command line → line_of line ≡ Plainly command
+plain_back line (Add name bytes) is = absurd is
+plain_back line (Drop name) is = ap line_of is.0 ∙ drop_back name is.1
+plain_back line (Edit seen at del bytes) is = absurd is
+plain_back line (Complete seen place keyword) is = ap line_of is.0 ∙ complete_back seen place keyword is.1 is.2 is.3
+plain_back line (Inherit names) is = ap line_of is.0 ∙ inherit_back names is.1
+plain_back line (At moment) is = ap line_of is.2 ∙ at_back is.0 is.1 is.3 is.4 ∙ ap (λ m. Plainly (At m)) (sym is.5)
+plain_back line (Pin session) is = ap line_of is.0 ∙ pin_back session is.1
+plain_back line (Unpin session) is = ap line_of is.0 ∙ unpin_back session is.1
+plain_back line (Text name) is = ap line_of is.0 ∙ text_back name is.1
+plain_back line (Todo session keywords) is = todo_back session keywords line is.0 is.1
+plain_back line (Match session text) is = match_back session text line is
+plain_back line (Agenda session date days) is = agenda_back session date line days is.0 is.1 is.2
+plain_back line (Clock session text) is = clock_back session text line is
+
+framed_back : (line : List ℕ) (frame : Frame) (size : ℕ) → IsFrameLine frame size line → line_of line ≡ Framed frame size
+framed_back line (frame.Add name) size is = ap line_of is.0 ∙ add_back name size is.1 is.2
+framed_back line (frame.Edit seen at del) size is = ap line_of is.0 ∙ edit_back seen at del size is.1 is.2 is.3 is.4
+
+pub lines_are_spelled : LinesAreSpelled
+lines_are_spelled = record {
+  plain = λ line command. (λ e. subst (λ (l : Line). Spelled l line) e (spelled_so line), plain_back line command);
+  framed = λ line frame size. (λ e. subst (λ (l : Line). Spelled l line) e (spelled_so line), framed_back line frame size);
+}

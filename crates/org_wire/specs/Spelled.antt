@@ -1,0 +1,96 @@
+-- How the stream's lines are spelled, without the reader's steps (profile).
+use Rattle.std.specs.Prelude.{◌≡◌, ◌≢◌, ◌⊎◌, ℕ, ◌<◌, ◌≤◌, true, List, [], ◌∷◌, ◌++◌, Option, None, Some, codes, decimal, length}
+use Rattle.std.specs.List.{All}
+use Rattle.std.specs.Str.{IsUtf8}
+use Rattle.org_base.specs.FileName.{is_file_name}
+use Rattle.org_cal.specs.Texts.{date_of, time_of}
+use Rattle.org_cal.specs.declared.moment.Moment.{Moment}
+use Rattle.org_wire.specs.Stream.{moment_of, most_number}
+use Rattle.org_wire.specs.declared.command.Command.{Command}
+use Rattle.org_wire.specs.declared.command.Command.TheVariants.{Add, Agenda, At, Clock, Complete, Drop, Edit, Inherit, Match, Pin, Text, Todo, Unpin}
+use Rattle.org_wire.specs.declared.command.Frame.{Frame}
+use Rattle.org_wire.specs.declared.command.Frame.TheVariants as frame
+use Rattle.org_wire.specs.declared.command.Seen.{Seen}
+
+-- parts with one byte between
+abbrev pub parted : ℕ → List (List ℕ) → List ℕ
+parted gap [] = []
+parted gap (part ∷ []) = part
+parted gap (part ∷ (next ∷ parts)) = part ++ (gap ∷ parted gap (next ∷ parts))
+
+-- the same, with a space between
+abbrev pub spaced : List (List ℕ) → List ℕ
+spaced parts = parted 32 parts
+
+-- not empty, and without a byte
+abbrev pub IsApart : ℕ → List ℕ → Type 0
+IsApart gap word = (0 < length word) × All (λ b. b ≢ gap) word
+
+-- a word: UTF-8, not empty, without a space
+abbrev pub IsWord : List ℕ → Type 0
+IsWord word = IsApart 32 word × IsUtf8 word
+
+-- a file's name: a word of at most 255 bytes without control characters
+abbrev pub IsName : List ℕ → Type 0
+IsName name = (is_file_name name ≡ true) × IsUtf8 name
+
+-- a number that isn't too large; it is spelled by its decimal text
+abbrev pub IsNumber : ℕ → Type 0
+IsNumber n = n ≤ most_number
+
+-- what a session saw: `S NAME SERIAL`
+abbrev pub seen_parts : Seen → List (List ℕ)
+seen_parts seen = decimal seen.session ∷ (seen.name ∷ (decimal seen.serial ∷ []))
+
+abbrev pub IsSeen : Seen → Type 0
+IsSeen seen = IsNumber seen.session × IsName seen.name × IsNumber seen.serial
+
+-- the parts of a view, with `pinned S` in front where it is asked of what a session keeps
+abbrev pub IsView : Option ℕ → List (List ℕ) → List ℕ → Type 0
+IsView None parts line = line ≡ spaced parts
+IsView (Some session) parts line = (line ≡ spaced (codes "pinned" ∷ (decimal session ∷ parts))) × IsNumber session
+
+-- a view whose text is the rest of its line; an empty one may stand there or not
+abbrev pub IsViewWith : Option ℕ → List ℕ → List ℕ → List ℕ → Type 0
+IsViewWith session word text line =
+    (IsView session (word ∷ (text ∷ [])) line × IsUtf8 text) ⊎ (IsView session (word ∷ []) line × (text ≡ []))
+
+-- keywords: one part, with bars between; none without a keyword
+abbrev pub keyword_parts : List (List ℕ) → List (List ℕ)
+keyword_parts [] = []
+keyword_parts (keyword ∷ keywords) = parted 124 (keyword ∷ keywords) ∷ []
+
+-- keywords that are asked for: none of them empty, with no space and no bar in them
+abbrev pub AreKeywords : List (List ℕ) → Type 0
+AreKeywords keywords = All (IsApart 124) keywords × All (λ b. b ≢ 32) (parted 124 keywords) × IsUtf8 (parted 124 keywords)
+
+-- names to inherit
+abbrev pub AreNames : List (List ℕ) → Type 0
+AreNames names = All (IsApart 32) names × IsUtf8 (spaced names)
+
+-- the moment that two words spell, if they do
+abbrev pub IsAt : Option Moment → List ℕ → Type 0
+IsAt moment line = (date : List ℕ) × (time : List ℕ) × (line ≡ spaced (codes "at" ∷ (date ∷ (time ∷ [])))) × IsWord date × IsWord time × (moment ≡ moment_of (date_of date) (time_of time))
+
+-- the line of a command without a payload
+abbrev pub IsLineOf : Command → List ℕ → Type 0
+IsLineOf (Add name bytes) line = ⊥
+IsLineOf (Drop name) line = (line ≡ spaced (codes "drop" ∷ (name ∷ []))) × IsName name
+IsLineOf (Edit seen at del bytes) line = ⊥
+IsLineOf (Complete seen place keyword) line =
+    (line ≡ spaced (codes "complete" ∷ (seen_parts seen ++ (decimal place ∷ (keyword ∷ []))))) × IsSeen seen × IsNumber place × IsWord keyword
+IsLineOf (Inherit names) line = (line ≡ spaced (codes "inherit" ∷ names)) × AreNames names
+IsLineOf (At moment) line = IsAt moment line
+IsLineOf (Pin session) line = (line ≡ spaced (codes "pin" ∷ (decimal session ∷ []))) × IsNumber session
+IsLineOf (Unpin session) line = (line ≡ spaced (codes "unpin" ∷ (decimal session ∷ []))) × IsNumber session
+IsLineOf (Text name) line = (line ≡ spaced (codes "text" ∷ (name ∷ []))) × IsName name
+IsLineOf (Todo session keywords) line = IsView session (codes "todo" ∷ keyword_parts keywords) line × AreKeywords keywords
+IsLineOf (Match session text) line = IsViewWith session (codes "match") text line
+IsLineOf (Agenda session date days) line = IsView session (codes "agenda" ∷ (date ∷ (decimal days ∷ []))) line × IsWord date × IsNumber days
+IsLineOf (Clock session text) line = IsViewWith session (codes "clock") text line
+
+-- the line of a command before its payload of so many bytes
+abbrev pub IsFrameLine : Frame → ℕ → List ℕ → Type 0
+IsFrameLine (frame.Add name) size line = (line ≡ spaced (codes "add" ∷ (name ∷ (decimal size ∷ [])))) × IsName name × IsNumber size
+IsFrameLine (frame.Edit seen at del) size line =
+    (line ≡ spaced (codes "edit" ∷ (seen_parts seen ++ (decimal at ∷ (decimal del ∷ (decimal size ∷ [])))))) × IsSeen seen × IsNumber at × IsNumber del × IsNumber size
