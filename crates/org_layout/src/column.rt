@@ -68,6 +68,19 @@ fn few_spaces(count: usize) -> &'static str
     }
 }
 
+// Appends a whole text. Behind nothing it stands as it is, so that a long one isn't held twice.
+pub(crate) fn push_whole(out: &mut String, text: String) -> Result<(), AllocError>
+    ensures ok { OnOk result (string_bytes out.new ≡ string_bytes out.old ++ string_bytes text) }
+    ensures err { OnErr result (string_bytes out.new ≡ string_bytes out.old) }
+{
+    if out.is_empty() {
+        *out = text;
+    } else {
+        out.push_str(text.as_str())?;
+    }
+    Ok(())
+}
+
 // Appends bytes of a file. All texts of files are UTF-8; of other bytes nothing is shown.
 pub(crate) fn push_bytes(out: &mut String, bytes: &[u8]) -> Result<(), AllocError>
     ensures { OnOk result (string_bytes out.new ≡ string_bytes out.old ++ shown bytes.now) }

@@ -1,16 +1,18 @@
 //! The text of an agenda.
 ghost use Rattle.std.specs.Prelude.{◌≡◌, ◌<◌, ◌+◌, ◌++◌, string_bytes, IfOk, OnOk, OnErr, IsOkUnless};
 ghost use Rattle.org_base.specs.Codes.{memory_fault};
+ghost use Rattle.org_cal.specs.Texts.{time_text};
+ghost use Rattle.org_layout.specs.Columns.{padded};
 ghost use Rattle.org_layout.specs.Days.{agenda_lines, day_columns, day_line, day_lines, end_text, label_text, row_lines, times_text};
 ghost use Rattle.org_layout.specs.Lines.{row_line};
 
-use crate::column::push_padded;
+use crate::column::{push_padded, push_spaces, push_whole};
 use crate::line::{LineTexts, push_row};
 use org_agenda::{Agenda, Row, RowKind};
 use org_base::Fault;
 use org_cal::{Day, TimeOfDay, day_name, push_date, push_time, push_two};
 use org_inherit::Inherits;
-use std::alloc::Global;
+use std::alloc::{AllocError, Global};
 
 /// Appends the days of an agenda: a line of each, `YYYY-MM-DD Ddd Www` with its ISO week, and a line for each row of that
 /// day: two spaces, the category with a colon in a column of 12, the times in another, the label and a space if there is a
@@ -27,7 +29,7 @@ pub fn agenda_text(
     ensures memory { IsOkUnless result memory_fault }
 {
     let text = agenda_of(alloc, inherits, agenda)?;
-    out.push_str(text.as_str())?;
+    push_whole(out, text)?;
     Ok(())
 }
 
@@ -85,7 +87,7 @@ fn push_rows(
     ensures ok { OnOk result (string_bytes out.new ≡ string_bytes out.old ++ row_lines inherits.now rows.now) }
     ensures memory { IsOkUnless result memory_fault }
 {
-    let mut texts = DayTexts::new(alloc);
+    let mut texts = DayTexts::new(alloc)?;
     for row in rows {
         push_day_row(alloc, out, &mut texts, inherits, row)?;
     }
@@ -101,12 +103,12 @@ struct DayTexts {
 }
 
 impl DayTexts {
-    fn new(alloc: Global) -> DayTexts {
-        DayTexts {
+    fn new(alloc: Global) -> Result<DayTexts, AllocError> {
+        Ok(DayTexts {
             times: String::new(alloc),
             columns: String::new(alloc),
-            line: LineTexts::new(alloc),
-        }
+            line: LineTexts::new(alloc)?,
+        })
     }
 }
 
@@ -139,23 +141,35 @@ fn write_columns(columns: &mut String, times: &mut String, row: &Row) -> Result<
     ensures memory { IsOkUnless result memory_fault }
 {
     columns.clear();
-    write_times(times, row.start, row.end)?;
-    push_padded(columns, times.as_str(), 12)?;
+    push_times(columns, times, row.start, row.end)?;
     push_label(columns, row.kind, row.number, row.of)
 }
 
-fn write_times(
+// Appends the times in a column of 12.
+fn push_times(
+    columns: &mut String,
     times: &mut String,
     start: Option<TimeOfDay>,
     end: Option<TimeOfDay>,
 ) -> Result<(), Fault>
-    ensures ok { OnOk result (string_bytes times.new ≡ times_text start end) }
+    ensures ok { OnOk result (string_bytes columns.new ≡ string_bytes columns.old ++ padded (times_text start end) 12) }
+    ensures memory { IsOkUnless result memory_fault }
+{
+    match start {
+        None => push_spaces(columns, 12)?,
+        Some(start) => {
+            write_times(times, start, end)?;
+            push_padded(columns, times.as_str(), 12)?;
+        }
+    }
+    Ok(())
+}
+
+fn write_times(times: &mut String, start: TimeOfDay, end: Option<TimeOfDay>) -> Result<(), Fault>
+    ensures ok { OnOk result (string_bytes times.new ≡ time_text start ++ end_text end) }
     ensures memory { IsOkUnless result memory_fault }
 {
     times.clear();
-    let Some(start) = start else {
-        return Ok(());
-    };
     push_time(times, start)?;
     push_end(times, end)
 }

@@ -3,6 +3,7 @@
 //! A view's text is that of its rows, each with what its heading says in the outlines that the rows are over.
 #![tactic(auto)]
 
+mod category;
 mod column;
 mod day;
 mod head;

@@ -5,26 +5,27 @@ ghost use Rattle.org_inherit.specs.Tags.{all_tags};
 ghost use Rattle.org_layout.specs.Columns.{shown};
 ghost use Rattle.org_layout.specs.Lines.{category_column, entry_line, entry_text, row_line, scope_line};
 
-use crate::column::{push_bytes, push_padded};
+use crate::category::CategoryColumn;
+use crate::column::push_bytes;
 use crate::head::write_entry;
 use org_base::Fault;
 use org_entry::Entry;
 use org_inherit::{Inherit, Inherits};
 use std::alloc::{AllocError, Global};
 
-// The texts of which the lines of rows are made, kept from row to row, so that a row takes no memory of its own.
+// What the lines of rows are made of, kept from row to row, so that a row takes no memory of its own.
 #[derive(Drop)]
 pub(crate) struct LineTexts {
-    category: String,
+    category: CategoryColumn,
     head: Vec<u8>,
 }
 
 impl LineTexts {
-    pub(crate) fn new(alloc: Global) -> LineTexts {
-        LineTexts {
-            category: String::new(alloc),
+    pub(crate) fn new(alloc: Global) -> Result<LineTexts, AllocError> {
+        Ok(LineTexts {
+            category: CategoryColumn::of(alloc, b"")?,
             head: Vec::new(alloc),
-        }
+        })
     }
 }
 
@@ -86,7 +87,7 @@ fn push_line(
     ensures ok { OnOk result (string_bytes out.new ≡ string_bytes out.old ++ entry_line columns.now inherit.now place entry.now) }
     ensures memory { IsOkUnless result memory_fault }
 {
-    push_category(out, &mut texts.category, inherit.category(place))?;
+    push_category(alloc, out, &mut texts.category, inherit.category(place))?;
     out.push_str(columns)?;
     push_entry(alloc, out, &mut texts.head, inherit, place, entry)?;
     out.push_str("\n")?;
@@ -112,14 +113,16 @@ fn push_entry(
     Ok(())
 }
 
-// Appends two spaces and the category's column.
-#[tactic(auto, unfolding(crate::specs::Lines::category_column))]
-fn push_category(out: &mut String, name: &mut String, category: &[u8]) -> Result<(), AllocError>
+// Appends the column of a category, which is made where the row before has another one.
+fn push_category(
+    alloc: Global,
+    out: &mut String,
+    column: &mut CategoryColumn,
+    category: &[u8],
+) -> Result<(), AllocError>
     ensures { OnOk result (string_bytes out.new ≡ string_bytes out.old ++ category_column category.now) }
 {
-    name.clear();
-    push_bytes(name, category)?;
-    name.push_str(":")?;
-    out.push_str("  ")?;
-    push_padded(out, name.as_str(), 12)
+    column.change(alloc, category)?;
+    out.push_str(column.text())?;
+    Ok(())
 }

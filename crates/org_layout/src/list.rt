@@ -3,6 +3,7 @@ ghost use Rattle.std.specs.Prelude.{◌≡◌, ◌++◌, string_bytes, IfOk, OnO
 ghost use Rattle.org_base.specs.Codes.{memory_fault};
 ghost use Rattle.org_layout.specs.Lines.{list_lines};
 
+use crate::column::push_whole;
 use crate::line::{LineTexts, push_row};
 use org_agenda::Row;
 use org_base::Fault;
@@ -23,7 +24,7 @@ pub fn list_text(
     ensures memory { IsOkUnless result memory_fault }
 {
     let text = list_of(alloc, rows, inherits)?;
-    out.push_str(text.as_str())?;
+    push_whole(out, text)?;
     Ok(())
 }
 
@@ -32,7 +33,7 @@ fn list_of(alloc: Global, rows: &[Row], inherits: &Inherits<'_>) -> Result<Strin
     ensures memory { IsOkUnless result memory_fault }
 {
     let mut text = String::new(alloc);
-    let mut texts = LineTexts::new(alloc);
+    let mut texts = LineTexts::new(alloc)?;
     for row in rows {
         push_row(
             alloc,
