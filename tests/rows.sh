@@ -2,9 +2,9 @@
 # Runs the worked streams of tests/rows over a program. Those that name nothing but a moment are run with one and with 1,000
 # background steps behind each command too, and over a second program, where it is named, that keeps each text in one
 # string, as the first keeps it in pieces. NAME is standard input, or NAME.make a script that writes it where it is long;
-# NAME.args the arguments, one a line, NAME.stdout what has to be written, NAME.status the exit status (0 where
-# there is no such file), NAME.stderr what has to stand on standard error (anything where there is no such file). Says
-# which differ; the last line counts.
+# NAME.args the arguments, one a line, NAME.files a script that writes files into the folder that the program is then run in,
+# NAME.stdout what has to be written, NAME.status the exit status (0 where there is no such file), NAME.stderr what has to
+# stand on standard error (anything where there is no such file). Says which differ; the last line counts.
 program=$(cd "$(dirname "$1")" && pwd)/$(basename "$1")
 if [ ! -x "$program" ]; then
     echo "rows: there is no program $1"
@@ -26,7 +26,9 @@ failed=0
 out=$(mktemp) || exit 2
 err=$(mktemp) || exit 2
 made=$(mktemp) || exit 2
-trap 'rm -f "$out" "$err" "$made"' EXIT
+room=$(mktemp -d) || exit 2
+rows=$PWD
+trap 'rm -rf "$out" "$err" "$made" "$room"' EXIT
 for expected in *.stdout; do
     name=${expected%.stdout}
     input=$name
@@ -45,7 +47,11 @@ for expected in *.stdout; do
     done < "$name.args"
     status=0
     [ -f "$name.status" ] && status=$(cat "$name.status")
-    "$program" "$@" < "$input" > "$out" 2> "$err"
+    if [ -f "$name.files" ]; then
+        (cd "$room" && sh "$rows/$name.files" && "$program" "$@") < "$input" > "$out" 2> "$err"
+    else
+        "$program" "$@" < "$input" > "$out" 2> "$err"
+    fi
     got=$?
     if [ "$got" -ne "$status" ]; then
         echo "$name: status $got, wanted $status"

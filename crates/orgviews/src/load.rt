@@ -1,4 +1,8 @@
 //! Files that the arguments name.
+ghost use Rattle.std.specs.Prelude.{◌≡◌, ◌<◌, ◌≤◌, IfErr, IfOk, IfSome, OnErr, length};
+ghost use Rattle.org_base.specs.declared.code.Code.TheVariants.{Size};
+ghost use Rattle.org_text.specs.Replace.{max_bytes};
+ghost use Rattle.orgviews.specs.declared.load.LoadError.TheVariants.{Refused};
 
 use org_base::Code;
 use org_engine::Engine;
@@ -27,13 +31,15 @@ impl LoadError {
     }
 }
 
-/// Reads a file whole and adds it under its path.
+/// Reads a file whole and adds it under its path. After a refusal the engine has the files that it had.
 pub fn load<R: Files, T: Text>(
     rt: &R,
     alloc: Global,
     engine: &mut Engine<T>,
     path: &str,
-) -> Result<(), LoadError> {
+) -> Result<(), LoadError>
+    ensures err { OnErr result (engine.new.state ≡ engine.old.state) }
+{
     let bytes = read_file(rt, alloc, path)?;
     match engine.add(path, bytes.as_slice()) {
         Ok(_) => Ok(()),
@@ -41,21 +47,28 @@ pub fn load<R: Files, T: Text>(
     }
 }
 
-// The bytes of a file, which is refused as soon as it shows more than a text may have.
+// The bytes of a file.
 fn read_file<R: Files>(rt: &R, alloc: Global, path: &str) -> Result<Vec<u8>, LoadError> {
-    let Ok(file) = fs::open(rt, path) else {
-        return Err(LoadError::Read);
-    };
+    match fs::open(rt, path) {
+        Ok(mut file) => read_whole(alloc, &mut file),
+        Err(_) => Err(LoadError::Read),
+    }
+}
+
+// The bytes that a reader has left, which are refused as soon as they show to be more than a text may have.
+fn read_whole<R: Read>(alloc: Global, reader: &mut R) -> Result<Vec<u8>, LoadError>
+    ensures ok { IfOk result (λ bytes. IfSome (R.remaining reader.old) (λ all. bytes.items ≡ all)) }
+    ensures short { IfOk result (λ bytes. length bytes.items ≤ max_bytes) }
+    ensures err { IfErr result (λ error.
+        error ≡ Refused Size → IfSome (R.remaining reader.old) (λ all. max_bytes < length all)) }
+{
     let mut bytes = Vec::new(alloc);
-    match file.take(MAX_BYTES as u64 + 1).read_to_end(&mut bytes) {
-        Ok(_) => {}
+    match reader.take(MAX_BYTES as u64 + 1).read_to_end(&mut bytes) {
+        Ok(_) if bytes.len() > MAX_BYTES => Err(LoadError::Refused(Code::Size)),
+        Ok(_) => Ok(bytes),
         Err(error) if error.kind() == io::ErrorKind::OutOfMemory => {
-            return Err(LoadError::Refused(Code::Memory));
+            Err(LoadError::Refused(Code::Memory))
         }
-        Err(_) => return Err(LoadError::Read),
+        Err(_) => Err(LoadError::Read),
     }
-    if bytes.len() > MAX_BYTES {
-        return Err(LoadError::Refused(Code::Size));
-    }
-    Ok(bytes)
 }
