@@ -1,5 +1,5 @@
 //! Days and times as text.
-ghost use Rattle.std.specs.Prelude.{◌≡◌, ◌++◌, ◌<◌, OnOk, IsOkUnless, string_bytes};
+ghost use Rattle.std.specs.Prelude.{◌≡◌, ◌+◌, ◌<◌, ◌≤◌, [], ◌∷◌, ◌++◌, OnOk, OnErr, IsOkUnless, string_bytes, string_capacity, string_len};
 ghost use Rattle.org_base.specs.Codes.{memory_fault};
 ghost use Rattle.org_cal.specs.Parts.{weekday_of};
 ghost use Rattle.org_cal.specs.Texts as texts;
@@ -8,40 +8,70 @@ use crate::day::Day;
 use crate::time_of_day::TimeOfDay;
 use org_base::Fault;
 
-/// Appends a number below 100 in two digits. Where memory is refused a front of them may have been appended.
+/// Appends a number below 100 in two digits. Want of memory is the only refusal, and leaves `out` as it was.
 pub fn push_two(out: &mut String, number: u8) -> Result<(), Fault>
     requires below { number < 100 }
     ensures ok { OnOk result (string_bytes out.new ≡ string_bytes out.old ++ texts.two number) }
+    ensures err { OnErr result (string_bytes out.new ≡ string_bytes out.old) }
     ensures memory { IsOkUnless result memory_fault }
 {
-    out.push(char::from(b'0' + number / 10))?;
-    out.push(char::from(b'0' + number % 10))?;
+    out.reserve(2)?;
+    put_two(out, number);
     Ok(())
 }
 
-/// Appends `YYYY-MM-DD`. Where memory is refused a front of it may have been appended.
+/// Appends `YYYY-MM-DD`. Want of memory is the only refusal, and leaves `out` as it was.
 pub fn push_date(out: &mut String, day: Day) -> Result<(), Fault>
     ensures ok { OnOk result (string_bytes out.new ≡ string_bytes out.old ++ texts.date_text day) }
+    ensures err { OnErr result (string_bytes out.new ≡ string_bytes out.old) }
     ensures memory { IsOkUnless result memory_fault }
 {
     let (year, month, date) = day.parts();
-    push_two(out, (year / 100) as u8)?;
-    push_two(out, (year % 100) as u8)?;
-    out.push_str("-")?;
-    push_two(out, month)?;
-    out.push_str("-")?;
-    push_two(out, date)
+    out.reserve(10)?;
+    put_two(out, (year / 100) as u8);
+    put_two(out, (year % 100) as u8);
+    put_byte(out, b'-');
+    put_two(out, month);
+    put_byte(out, b'-');
+    put_two(out, date);
+    Ok(())
 }
 
-/// Appends `HH:MM`. Where memory is refused a front of it may have been appended.
+/// Appends `HH:MM`. Want of memory is the only refusal, and leaves `out` as it was.
 pub fn push_time(out: &mut String, time: TimeOfDay) -> Result<(), Fault>
     ensures ok { OnOk result (string_bytes out.new ≡ string_bytes out.old ++ texts.time_text time) }
+    ensures err { OnErr result (string_bytes out.new ≡ string_bytes out.old) }
     ensures memory { IsOkUnless result memory_fault }
 {
     let minutes = time.minutes();
-    push_two(out, (minutes / 60) as u8)?;
-    out.push_str(":")?;
-    push_two(out, (minutes % 60) as u8)
+    out.reserve(5)?;
+    put_two(out, (minutes / 60) as u8);
+    put_byte(out, b':');
+    put_two(out, (minutes % 60) as u8);
+    Ok(())
+}
+
+// Appends two digits, for which there is room.
+fn put_two(out: &mut String, number: u8)
+    requires below { number < 100 }
+    requires room { string_len out.old + 2 ≤ string_capacity out.old }
+    ensures value { string_bytes out.new ≡ string_bytes out.old ++ texts.two number }
+    ensures len { string_len out.new ≡ string_len out.old + 2 }
+    ensures room { string_capacity out.old ≤ string_capacity out.new }
+{
+    put_byte(out, b'0' + number / 10);
+    put_byte(out, b'0' + number % 10);
+}
+
+// Appends an ASCII character, for which there is room.
+fn put_byte(out: &mut String, byte: u8)
+    requires ascii { byte < 128 }
+    requires room { string_len out.old < string_capacity out.old }
+    ensures value { string_bytes out.new ≡ string_bytes out.old ++ byte ∷ [] }
+    ensures len { string_len out.new ≡ string_len out.old + 1 }
+    ensures room { string_capacity out.old ≤ string_capacity out.new }
+{
+    out.push(char::from(byte)).unwrap();
 }
 
 /// The day's English name, `Mon` to `Sun`.
