@@ -56,6 +56,7 @@ impl<D> Counted<D> {
 impl<R: Read> Counted<R> {
     /// One read. After an error the reader holds the bytes that it held.
     pub(crate) fn read(&mut self, buf: &mut [u8]) -> io::Result<usize>
+        requires fresh { self.old.failed ≡ 0 }
         ensures bound { ReadsAtMost result buf.new }
         ensures bytes { ReadConsumes (R.remaining self.old.inner) (R.remaining self.new.inner) result buf.new }
         ensures calls { self.new.calls ≡ one_more self.old.calls }

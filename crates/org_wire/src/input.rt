@@ -1,5 +1,5 @@
 //! What is read of a stream.
-ghost use Rattle.std.specs.Prelude.{◌≡◌, [], ◌++◌, true, IfOk, IfSome, List, ℕ, IsOkUnless};
+ghost use Rattle.std.specs.Prelude.{◌≡◌, [], ◌++◌, true, IfOk, IfSome, List, OnErr, ℕ, IsOkUnless};
 ghost use Rattle.org_base.specs.Codes.{memory_fault};
 
 use crate::command::{Command, Frame, Next, framed};
@@ -82,6 +82,7 @@ impl<'a, R: Read> Input<'a, R> {
         ensures reader { IfOk result (λ input. input.reader.now ≡ reader.old) }
         ensures room { IfOk result (λ input. input.room ≡ []) }
         ensures same_reference { IfOk result (λ input. input.reader.ghost_name ≡ reader.entry.ghost_name) }
+        ensures err { OnErr result (reader.new ≡ reader.old) }
         ensures memory { IsOkUnless result memory_fault }
     {
         let line = LineBuffer::new(alloc)?;
@@ -124,6 +125,7 @@ impl<'a, R: Read> Input<'a, R> {
 
     // Reads where nothing is there.
     fn make_ready(&mut self) -> Ready
+        requires fresh { self.old.reader.now.failed ≡ 0 }
         ensures value { MakesReady result self.new.room (left R.remaining self.old) (left R.remaining self.new) }
         ensures counted { CountsReady result self.old.reader.now self.new.reader.now }
         ensures falls { ReadyFalls result (ahead self.old) (ahead self.new) }
@@ -146,6 +148,7 @@ impl<'a, R: Read> Input<'a, R> {
 
     // Takes the next byte.
     fn next_byte(&mut self) -> Byte
+        requires fresh { self.old.reader.now.failed ≡ 0 }
         ensures taken { TakesByte result (left R.remaining self.old) (left R.remaining self.new) }
         ensures counted { CountsByte result self.old.reader.now self.new.reader.now }
         ensures falls { ByteFalls result (ahead self.old) (ahead self.new) }
@@ -165,6 +168,7 @@ impl<'a, R: Read> Input<'a, R> {
 
     /// Reads up to the next LF, which it takes too, and keeps the line before it. Of a long line the rest is skipped.
     pub(crate) fn read_line(&mut self) -> LineEnd
+        requires fresh { self.old.reader.now.failed ≡ 0 }
         ensures line { ReadsLine result (left R.remaining self.old) self.new.line (left R.remaining self.new) }
         ensures counted { CountsLine result self.old.reader.now self.new.reader.now }
         ensures falls { LineFalls result (ahead self.old) (ahead self.new) }
@@ -203,6 +207,7 @@ impl<'a, R: Read> Input<'a, R> {
 
     // Reads so many bytes, a run at a time. Where they find no memory they are read and thrown away.
     fn read_payload(&mut self, size: usize) -> Payload
+        requires fresh { self.old.reader.now.failed ≡ 0 }
         ensures value { ReadsPayload result size (left R.remaining self.old) (left R.remaining self.new) }
         ensures counted { CountsPayload result self.old.reader.now self.new.reader.now }
         ensures falls { PayloadFalls result (ahead self.old) (ahead self.new) }
@@ -237,6 +242,7 @@ impl<'a, R: Read> Input<'a, R> {
 
     // The command of a frame, whose payload follows. Without a frame there was no memory for it.
     fn read_frame(&mut self, frame: Option<Frame>, size: u64) -> Next
+        requires fresh { self.old.reader.now.failed ≡ 0 }
         ensures value { (said : Frame) → IfSome frame (λ f. f ≡ said) → IfSome (left R.remaining self.old) (λ bytes.
             IsRead (after_line (Framed said size) bytes) result (left R.remaining self.new)) }
         ensures counted { CountsNext result self.old.reader.now self.new.reader.now }
@@ -261,6 +267,7 @@ impl<'a, R: Read> Input<'a, R> {
 
     /// The command of the line that was read, with its payload.
     pub(crate) fn read_whole(&mut self) -> Next
+        requires fresh { self.old.reader.now.failed ≡ 0 }
         ensures value { IfSome (left R.remaining self.old) (λ bytes.
             IsRead (after_line (line_of self.old.line) bytes) result (left R.remaining self.new)) }
         ensures counted { CountsNext result self.old.reader.now self.new.reader.now }

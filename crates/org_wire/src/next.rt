@@ -12,8 +12,9 @@ use std::io::Read;
 /// Reads the next command with its payload, as the stream's grammar says (profile). Refusals in order: `Cut` for a
 /// missing LF, `Long`, `Command`, `Size` for a payload that is announced too long (nothing of it is taken), `Cut` for a
 /// missing payload; want of memory may stand for a whole command alone, whose bytes are taken all the same. A failed
-/// read is last, and isn't tried again.
+/// read is last, and isn't tried again: no call of the reader has failed before.
 pub fn read_command<R: Read>(input: &mut Input<'_, R>) -> Next
+    requires fresh { input.old.reader.now.failed ≡ 0 }
     ensures value { IfSome (left R.remaining input.old) (λ bytes.
         IsRead (reading_of bytes) result (left R.remaining input.new)) }
     ensures counted { CountsNext result input.old.reader.now input.new.reader.now }

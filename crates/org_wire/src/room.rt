@@ -80,7 +80,8 @@ impl Room {
 
     /// One read, where nothing is there. Answers whether bytes came; after an error there are none.
     pub(crate) fn fill<R: Read>(&mut self, reader: &mut Counted<R>) -> io::Result<bool>
-        requires { self.old ≡ [] }
+        requires empty { self.old ≡ [] }
+        requires fresh { reader.old.failed ≡ 0 }
         ensures ok { OnOk result (Consumes (R.remaining reader.old.inner) (R.remaining reader.new.inner) self.new) }
         ensures more { IfOk result (λ more. more ≡ true → 0 < length self.new) }
         ensures end { IfOk result (λ more. more ≡ false → (self.new ≡ []) × IsAtEnd (R.remaining reader.new.inner)) }
