@@ -26,7 +26,7 @@ pub index_of : (i : ℕ) → month_index (i / 12) (i % 12 + 1) ≡ i
 index_of i = omega arith
 
 -- the days of one month ascend
-in_month : (i d e : ℕ) → 12 ≤ i → i ≤ 119_999 → 1 ≤ d → d ≤ e → day_of_month i d ≤ day_of_month i e
+pub in_month : (i d e : ℕ) → 12 ≤ i → i ≤ 119_999 → 1 ≤ d → d ≤ e → day_of_month i d ≤ day_of_month i e
 in_month i d e low high one le =
     let y = i / 12 in
     let m = i % 12 + 1 in

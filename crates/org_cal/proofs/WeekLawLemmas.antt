@@ -12,7 +12,7 @@ use Rattle.org_cal.proofs.DayLemmas.{day_count-first}
 use Rattle.org_cal.proofs.PartLemmas.{after_all, year_holds, year_is}
 
 -- the week's Thursday lies in its year
-thursday_in : (day : ℕ) → IsDay day → (1 ≤ iso_year day) × (iso_year day ≤ 9999) × (day_number (iso_year day) 1 1 ≤ monday_of day + 3) × (monday_of day + 3 < day_number (iso_year day + 1) 1 1)
+pub thursday_in : (day : ℕ) → IsDay day → (1 ≤ iso_year day) × (iso_year day ≤ 9999) × (day_number (iso_year day) 1 1 ≤ monday_of day + 3) × (monday_of day + 3 < day_number (iso_year day + 1) 1 1)
 thursday_in day h = year_holds (monday_of day + 3) (omega (arith, h), omega (arith, h))
 
 mondays : (a b : ℕ) → IsDay a → IsDay b → AreOfOneWeek a b → monday_of a ≡ monday_of b

@@ -1,7 +1,9 @@
--- Laws of days and weeks (Gregorian calendar; ISO 8601, week dates).
-use Rattle.std.specs.Prelude.{◌≡◌, ◌↔◌, ◌⊎◌, ℕ, ◌+◌, ◌<◌, ◌≤◌}
+-- Laws of days, weeks and blocks of time (Gregorian calendar; ISO 8601, week dates; Org manual 9.6, The clock table).
+use Rattle.std.specs.Prelude.{◌≡◌, ◌↔◌, ◌⊎◌, ℕ, ◌+◌, ◌<◌, ◌≤◌, List, Some}
 use Rattle.std.specs.Int.{IsInRange}
+use Rattle.org_cal.specs.Blocks.{block_of}
 use Rattle.org_cal.specs.Days.{IsDay, IsYearMonthDay, day_number}
+use Rattle.org_cal.specs.Named.{Block, Names, HasDays}
 use Rattle.org_cal.specs.Parts.{year_of, month_of, month_day_of, weekday_of}
 use Rattle.org_cal.specs.Weeks.{monday_of, iso_year, iso_week}
 
@@ -46,3 +48,8 @@ abbrev pub WeeksGoOn : Type 0
 WeeksGoOn = (day : ℕ) → IsDay day → IsDay (day + 7) →
     ((iso_year (day + 7) ≡ iso_year day) × (iso_week (day + 7) ≡ iso_week day + 1))
     ⊎ ((iso_year (day + 7) ≡ iso_year day + 1) × (iso_week (day + 7) ≡ 1))
+
+-- a text gives days exactly where it names a block that has them: those, and no others, lie there
+abbrev pub BlocksAreNamed : Type 0
+BlocksAreNamed = (text : List ℕ) (today first last : ℕ) → IsDay today →
+    (block_of text today ≡ Some (first, last)) ↔ ((block : Block) × Names text today block × HasDays block first last)

@@ -4,6 +4,7 @@ pub mod Days
 pub mod Faults
 pub mod Laws
 pub mod Minutes
+pub mod Named
 pub mod Parts
 pub mod Pieces
 pub mod Texts

@@ -1,5 +1,5 @@
 //! Laws of the definitions. Each is a function without parameters whose contract is the law.
-ghost use Rattle.org_cal.specs.Laws.{DatesHaveNumbers, FirstWeekHasFourth, FirstWeekHasThursday, NumbersHaveDates, WeeksGoOn, WeeksHaveMondays, WeeksHaveSevenDays};
+ghost use Rattle.org_cal.specs.Laws.{BlocksAreNamed, DatesHaveNumbers, FirstWeekHasFourth, FirstWeekHasThursday, NumbersHaveDates, WeeksGoOn, WeeksHaveMondays, WeeksHaveSevenDays};
 
 /// Each day's number is that of its year, month and day of the month.
 pub fn numbers_have_dates()
@@ -35,4 +35,10 @@ pub fn first_week_has_thursday()
 /// The week after a week is the next of its year, or the first of the next year (ISO 8601).
 pub fn weeks_go_on()
     ensures { WeeksGoOn }
+{}
+
+/// A text gives days exactly where it names a block of time that has them: those, and no others, lie in the year, the
+/// month, the quarter, the week or the day that it names (Org manual 9.6, The clock table; ISO 8601).
+pub fn blocks_are_named()
+    ensures { BlocksAreNamed }
 {}

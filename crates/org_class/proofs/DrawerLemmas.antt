@@ -7,7 +7,7 @@ use Rattle.org_class.specs.Drawers.{is_node, is_drawer_open, is_drawer_end, clos
 use Rattle.org_class.specs.Laws.{DrawersAreFound, OthersAreBodies}
 use Rattle.org_class.specs.declared.class.Class.TheVariants.{DrawerOpen, Node, DrawerEnd}
 
-closed : (nodes : List (List ℕ)) (e : List ℕ) (rest : List (List ℕ)) → list_all is_node nodes ≡ true → is_drawer_end e ≡ true → closes_drawer (nodes ++ e ∷ rest) ≡ true
+pub closed : (nodes : List (List ℕ)) (e : List ℕ) (rest : List (List ℕ)) → list_all is_node nodes ≡ true → is_drawer_end e ≡ true → closes_drawer (nodes ++ e ∷ rest) ≡ true
 closed [] e rest a h = rw h refl
 closed (n ∷ nodes) e rest a h =
     let both = and_parts (is_node n) (list_all is_node nodes) a in
@@ -28,16 +28,16 @@ drawers_are_found ls nodes rest d =
     ∙ rw (d.opens, closed nodes d.last rest d.are_nodes d.ends) (ap (λ cs. DrawerOpen ∷ cs) (classed nodes d.last rest d.none_ends d.ends))
 
 -- where a drawer is closed: its nodes and its end
-record Closing (ls : List (List ℕ)) : Type 0 where
-  nodes : List (List ℕ)
-  last : List ℕ
-  rest : List (List ℕ)
-  spelled : ls ≡ nodes ++ last ∷ rest
-  are_nodes : list_all is_node nodes ≡ true
-  none_ends : list_any is_drawer_end nodes ≡ false
-  ends : is_drawer_end last ≡ true
+pub record Closing (ls : List (List ℕ)) : Type 0 where
+  pub nodes : List (List ℕ)
+  pub last : List ℕ
+  pub rest : List (List ℕ)
+  pub spelled : ls ≡ nodes ++ last ∷ rest
+  pub are_nodes : list_all is_node nodes ≡ true
+  pub none_ends : list_any is_drawer_end nodes ≡ false
+  pub ends : is_drawer_end last ≡ true
 
-closing : (ls : List (List ℕ)) → closes_drawer ls ≡ true → Closing ls
+pub closing : (ls : List (List ℕ)) → closes_drawer ls ≡ true → Closing ls
 closing [] h = absurd cc
 closing (l ∷ ls) h = elim (cases_Bool (is_drawer_end l)) [
   | inl y ↦ record { nodes = []; last = l; rest = ls; spelled = refl; are_nodes = refl; none_ends = refl; ends = y }

@@ -10,3 +10,4 @@ pub mod SpanLemmas
 pub mod StepLemmas
 pub mod HashLemmas
 pub mod MarkLemmas
+mod PartLemmas

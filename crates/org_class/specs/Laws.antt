@@ -3,8 +3,9 @@ use Rattle.std.specs.Prelude.{◌≡◌, ◌↔◌, ℕ, true, List, ◌∷◌, 
 use Rattle.std.specs.List.{concat}
 use Rattle.org_lines.specs.Cuts.{lines}
 use Rattle.org_class.specs.Blocks.{body_classes, AreBlocks}
-use Rattle.org_class.specs.Classes.{text_classes, setting_lines}
+use Rattle.org_class.specs.Classes.{section_classes, text_classes, setting_lines}
 use Rattle.org_class.specs.Drawers.{classes_below, HasDrawer}
+use Rattle.org_class.specs.Parts.{AreOfSection}
 use Rattle.org_class.specs.Sections.{sections, is_cut, runs}
 use Rattle.org_class.specs.declared.class.Class.{Class}
 use Rattle.org_class.specs.declared.class.Class.TheVariants.{DrawerOpen, Node, DrawerEnd}
@@ -24,6 +25,10 @@ ClassesAreOfSections = (a b : List ℕ) → is_cut a b ≡ true → text_classes
 -- and the setting lines of its first part, then those of its second
 abbrev pub SettingLinesAreOfSections : Type 0
 SettingLinesAreOfSections = (a b : List ℕ) → is_cut a b ≡ true → setting_lines (a ++ b) ≡ setting_lines a ++ setting_lines b
+
+-- the classes of a section's lines are those of its parts, and no others
+abbrev pub SectionsHaveParts : Type 0
+SectionsHaveParts = (section : List ℕ) (cs : List Class) → (section_classes section ≡ cs) ↔ AreOfSection (lines section) cs
 
 -- the classes behind a section's drawer are those of its blocks and of lines alone, and no others
 abbrev pub BlocksAreBodyClasses : Type 0

@@ -3,9 +3,10 @@ pub mod Classes
 pub mod Drawers
 pub mod Ends
 pub mod Heading
-pub mod LineClass
 pub mod Laws
+pub mod LineClass
 pub mod Open
+pub mod Parts
 pub mod Sections
 pub mod Stages
 pub mod Ticks

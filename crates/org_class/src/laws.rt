@@ -1,5 +1,5 @@
 //! Laws of the definitions. Each is a function without parameters whose contract is the law.
-ghost use Rattle.org_class.specs.Laws.{CutsIntoSections, SectionsAreRunsOfLines, ClassesAreOfSections, SettingLinesAreOfSections, BlocksAreBodyClasses, DrawersAreFound, OthersAreBodies};
+ghost use Rattle.org_class.specs.Laws.{CutsIntoSections, SectionsAreRunsOfLines, ClassesAreOfSections, SettingLinesAreOfSections, BlocksAreBodyClasses, DrawersAreFound, OthersAreBodies, SectionsHaveParts};
 
 pub use org_settings::laws::no_lines_are_standard;
 
@@ -26,6 +26,12 @@ pub fn classes_are_of_sections()
 #[tactic(auto, using(crate::proofs::Cuts::setting_lines_of_sections))]
 pub fn setting_lines_are_of_sections()
     ensures { SettingLinesAreOfSections }
+{}
+
+/// The classes of a section's lines are those of its parts: a heading line, perhaps a planning line directly under it,
+/// perhaps a drawer, the body; or, in front of the first heading, comments and blank lines, perhaps a drawer, the body.
+pub fn sections_have_parts()
+    ensures { SectionsHaveParts }
 {}
 
 /// The classes behind a section's drawer are those of blocks, from the top, and of lines alone.

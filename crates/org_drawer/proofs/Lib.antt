@@ -4,3 +4,4 @@ pub mod EffortLemmas
 pub mod NodeLemmas
 pub mod PlanningLemmas
 pub mod ReadLemmas
+mod SpelledLemmas

@@ -1,21 +1,15 @@
 -- Laws of what lines say.
 use Rattle.std.specs.Prelude.{◌≡◌, ◌↔◌, ℕ, ◌+◌, ◌-◌, ◌≤◌, true, List, length, drop, Some}
 use Rattle.std.specs.List.{sum_by, count_by, filter_map, range_with_len}
-use Rattle.std.specs.Option.{is_some}
 use Rattle.org_base.specs.Properties.{Given, value_in, value_of}
 use Rattle.org_base.specs.Words.{trim_start, trimmed, first_word}
 use Rattle.org_cal.specs.Minutes.{minute_of}
 use Rattle.org_cal.specs.Pieces.{AreJoined}
-use Rattle.org_stamp.specs.Pair.{is_planning, is_clock}
-use Rattle.org_drawer.specs.Clock.{clock_of, minutes_in, runs_at}
-use Rattle.org_drawer.specs.Node.{given_of, drawer_of, is_node, is_name, node_word}
-use Rattle.org_drawer.specs.Planning.{planning_of}
+use Rattle.org_drawer.specs.Clock.{minutes_in, runs_at}
+use Rattle.org_drawer.specs.Effort.{effort_of}
+use Rattle.org_drawer.specs.Node.{given_of, drawer_of, is_name, node_word}
+use Rattle.org_drawer.specs.Spelled.{IsEffort}
 use Rattle.org_drawer.specs.declared.clock.ClockLine.{ClockLine}
-
--- a line is read exactly where it is a planning line, a clock line or a node line
-abbrev pub LinesAreRead : Type 0
-LinesAreRead = (line : List ℕ) →
-    (is_some (planning_of line) ≡ is_planning line) × (is_some (clock_of line) ≡ is_clock line) × (is_some (given_of line) ≡ is_node line)
 
 -- a line gives a name and a value exactly where its first word is that of such a name, and the rest, trimmed, is the value
 abbrev pub NodesAreSpelled : Type 0
@@ -39,3 +33,7 @@ PiecesMakeTheWhole = (clock : ClockLine) (first last : ℕ) (pieces : List (ℕ 
 -- a clock that ends before it starts has no minutes in any period
 abbrev pub ReversedClocksHaveNone : Type 0
 ReversedClocksHaveNone = (from to first last : ℕ) → to ≤ from → minutes_in (record { from = from; to = Some to }) (first, last) ≡ 0
+
+-- an effort is read just where it is spelled, with the minutes that are spelled
+abbrev pub EffortsAreSpelled : Type 0
+EffortsAreSpelled = (text : List ℕ) (minutes : ℕ) → (effort_of text ≡ Some minutes) ↔ IsEffort text minutes

@@ -3,3 +3,4 @@ pub mod Effort
 pub mod Laws
 pub mod Node
 pub mod Planning
+pub mod Spelled

@@ -1,13 +1,7 @@
 //! Laws of the definitions. Each is a function without parameters whose contract is the law.
-ghost use Rattle.org_drawer.specs.Laws.{DrawersHaveValues, LinesAreRead, MinutesAreCounted, NodesAreSpelled, PiecesMakeTheWhole, ReversedClocksHaveNone};
+ghost use Rattle.org_drawer.specs.Laws.{DrawersHaveValues, EffortsAreSpelled, MinutesAreCounted, NodesAreSpelled, PiecesMakeTheWhole, ReversedClocksHaveNone};
 
 use org_base::values_are_of_their_names;
-
-/// A line is read exactly where it is a planning line, a clock line or a node line.
-#[tactic(auto, using(crate::proofs::ReadLemmas::lines_are_read))]
-pub fn lines_are_read()
-    ensures { LinesAreRead }
-{}
 
 /// A line gives a name and a value exactly where its first word is `:NAME:`, or `:NAME+:` for an appended value, NAME not
 /// empty and not ending in `+`, and the value is the trimmed rest.
@@ -38,4 +32,11 @@ pub fn pieces_make_the_whole()
 /// A clock that ends before it starts has no minutes in any period.
 pub fn reversed_clocks_have_none()
     ensures { ReversedClocksHaveNone }
+{}
+
+/// An effort is read exactly where it is spelled: hours of up to six digits, a colon and two digits below 60; minutes of
+/// up to six digits; or a number of up to four digits, white space or none, and a unit. It is the sum or the product of
+/// the numbers.
+pub fn efforts_are_spelled()
+    ensures { EffortsAreSpelled }
 {}

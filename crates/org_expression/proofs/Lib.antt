@@ -1,5 +1,6 @@
 pub mod Accepts
 pub mod Chars
+mod Decimals
 pub mod Digits
 pub mod Drafting
 pub mod Drafts
@@ -7,4 +8,5 @@ pub mod Fronts
 pub mod Live
 pub mod Marks
 pub mod Moved
+mod Named
 pub mod Run

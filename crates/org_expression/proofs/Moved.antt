@@ -97,14 +97,14 @@ months_from is_back n day d a amount r =
     let e : moved is_back n (this_month day) ≡ r.index = moved_from is_back n (this_month day) r.index a amount (omega (arith, r.in_years)) (rw here r.index_is) in
     rw (e, parts.2) (between_some 12 119_999 r.index (day_of_month r.index r.date) d r.in_years.0 r.in_years.1 (sym r.day_is))
 
-added_to : (is_back : Bool) (n : ℕ) (unit : Unit) (day d : ℕ) (a : ℤ) → IsDay day → IsAmount is_back n a → day_moved is_back n unit day ≡ Some d → IsAdded day a unit d
+pub added_to : (is_back : Bool) (n : ℕ) (unit : Unit) (day d : ℕ) (a : ℤ) → IsDay day → IsAmount is_back n a → day_moved is_back n unit day ≡ Some d → IsAdded day a unit d
 added_to is_back n Hour day d a real amount e = absurd cc
 added_to is_back n Day day d a real amount e = days_to is_back n day d a amount e
 added_to is_back n Week day d a real amount e = days_to is_back (7 * n) day d (a *ℤ pos 7) (weeks is_back n a amount) e
 added_to is_back n Month day d a real amount e = months_to is_back n day d a real amount e
 added_to is_back n Year day d a real amount e = months_to is_back (12 * n) day d (a *ℤ pos 12) real (years is_back n a amount) e
 
-added_from : (is_back : Bool) (n : ℕ) (unit : Unit) (day d : ℕ) (a : ℤ) → IsAmount is_back n a → IsAdded day a unit d → day_moved is_back n unit day ≡ Some d
+pub added_from : (is_back : Bool) (n : ℕ) (unit : Unit) (day d : ℕ) (a : ℤ) → IsAmount is_back n a → IsAdded day a unit d → day_moved is_back n unit day ≡ Some d
 added_from is_back n Hour day d a amount h = absurd h
 added_from is_back n Day day d a amount h = days_from is_back n day d a amount h
 added_from is_back n Week day d a amount h = days_from is_back (7 * n) day d (a *ℤ pos 7) (weeks is_back n a amount) h

@@ -6,5 +6,6 @@ pub mod Grammar
 pub mod Laws
 pub mod Names
 pub mod Refusal
+pub mod Spelled
 pub mod Times
 pub mod Tree

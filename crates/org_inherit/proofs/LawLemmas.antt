@@ -18,7 +18,7 @@ or_cases : (a b : Bool) → (a || b) ≡ true → (a ≡ true) ⊎ (b ≡ true)
 or_cases true b h = inl refl
 or_cases false b h = inr h
 
-or_right : (a b : Bool) → b ≡ true → (a || b) ≡ true
+pub or_right : (a b : Bool) → b ≡ true → (a || b) ≡ true
 or_right true b h = refl
 or_right false b h = h
 
@@ -64,7 +64,7 @@ or_last false true = refl
 or_last false false = refl
 
 -- a tag is among tags and those that were added
-any_added : (more xs : List (List ℕ)) (tag : List ℕ) → list_any (bytes_eq tag) (fold with_tag xs more) ≡ (list_any (bytes_eq tag) xs || list_any (bytes_eq tag) more)
+pub any_added : (more xs : List (List ℕ)) (tag : List ℕ) → list_any (bytes_eq tag) (fold with_tag xs more) ≡ (list_any (bytes_eq tag) xs || list_any (bytes_eq tag) more)
 any_added [] xs tag = or_none (list_any (bytes_eq tag) xs)
 any_added (x ∷ more) xs tag =
     any_added more (with_tag xs x) tag
@@ -97,10 +97,10 @@ tags_are_inherited scope i tag =
     ∙ ap (λ b. names_tag es tag i || b) (any_reversed (names_tag es tag) above))
 
 -- no text stands twice
-abbrev AreOnce : List (List ℕ) → Type 0
+abbrev pub AreOnce : List (List ℕ) → Type 0
 AreOnce xs = (j k : ℕ) (x : List ℕ) → slice_get xs j ≡ Some x → slice_get xs k ≡ Some x → j ≡ k
 
-not_there : (xs : List (List ℕ)) (x : List ℕ) (j : ℕ) → list_any (bytes_eq x) xs ≡ false → slice_get xs j ≡ Some x → ⊥
+pub not_there : (xs : List (List ℕ)) (x : List ℕ) (j : ℕ) → list_any (bytes_eq x) xs ≡ false → slice_get xs j ≡ Some x → ⊥
 not_there [] x j h e = cc
 not_there (y ∷ ys) x zero h e =
     let same : y ≡ x = cc in
@@ -112,7 +112,7 @@ not_there (y ∷ ys) x (suc j) h e = elim (cases_Bool (list_any (bytes_eq x) ys)
 ]
 
 -- what stands in a list with one more at its end
-pushed : (xs : List (List ℕ)) (x y : List ℕ) (j : ℕ) → slice_get (xs ++ x ∷ []) j ≡ Some y → (slice_get xs j ≡ Some y) ⊎ ((j ≡ length xs) × (x ≡ y))
+pub pushed : (xs : List (List ℕ)) (x y : List ℕ) (j : ℕ) → slice_get (xs ++ x ∷ []) j ≡ Some y → (slice_get xs j ≡ Some y) ⊎ ((j ≡ length xs) × (x ≡ y))
 pushed [] x y zero h = inr (refl, cc)
 pushed [] x y (suc j) h = absurd cc
 pushed (z ∷ zs) x y zero h = inl h

@@ -2,6 +2,7 @@ pub mod CategoryLemmas
 pub mod LawLemmas
 pub mod LineageLemmas
 pub mod ListLemmas
+mod OrderLemmas
 pub mod TaggedLemmas
 pub mod TagLemmas
 pub mod TreeLemmas

@@ -1,6 +1,6 @@
 -- Laws of inheritance.
-use Rattle.std.specs.Prelude.{◌≡◌, ◌||◌, ℕ, ◌+◌, ◌<◌, Bool, true, List, ◌∷◌, ◌++◌, Some, filter, length, slice_get, bytes_eq}
-use Rattle.std.specs.List.{list_any, flat_map}
+use Rattle.std.specs.Prelude.{◌≡◌, ◌↔◌, ◌||◌, ℕ, ◌+◌, ◌<◌, Bool, true, List, ◌∷◌, ◌++◌, Some, filter, length, reverse, slice_get, bytes_eq}
+use Rattle.std.specs.List.{list_any, flat_map, position_or_len}
 use Rattle.org_entry.specs.declared.entry.Entry.{Entry}
 use Rattle.org_inherit.specs.Hidden.{is_hidden}
 use Rattle.org_inherit.specs.Scope.{Scope}
@@ -28,6 +28,22 @@ TagsAreInherited = (scope : Scope) (i : ℕ) (tag : List ℕ) → list_any (byte
 abbrev pub TagsAreOnce : Type 0
 TagsAreOnce = (scope : Scope) (i j k : ℕ) (tag : List ℕ) →
     slice_get (all_tags scope i) j ≡ Some tag → slice_get (all_tags scope i) k ≡ Some tag → j ≡ k
+
+-- the tags of the file, those of the ancestors from the outermost, and the own ones, each as often as it is named
+abbrev pub tags_named : Scope → ℕ → List (List ℕ)
+tags_named scope i =
+    scope.settings.file_tags
+    ++ (flat_map (own_tags_at scope.entries) (reverse (ancestors (levels scope.entries) i)) ++ own_tags_at scope.entries i)
+
+-- where a tag is named first, among tags as they are named
+abbrev pub first_place : List ℕ → List (List ℕ) → ℕ
+first_place tag tags = position_or_len (bytes_eq tag) tags
+
+-- one tag stands before another exactly where it is named first before the other is
+abbrev pub TagsKeepTheirOrder : Type 0
+TagsKeepTheirOrder = (scope : Scope) (i j k : ℕ) (a b : List ℕ) →
+    slice_get (all_tags scope i) j ≡ Some a → slice_get (all_tags scope i) k ≡ Some b →
+    (j < k) ↔ (first_place a (tags_named scope i) < first_place b (tags_named scope i))
 
 -- of an entry and its ancestors those with own tags are the nearest such one and those above it; without a nearest one
 -- there are none

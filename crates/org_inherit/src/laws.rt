@@ -1,5 +1,5 @@
 //! Laws of inheritance. Each is a function without parameters whose contract is the law.
-ghost use Rattle.org_inherit.specs.Laws.{HiddenIsInherited, LaterSaysNothing, TaggedAreUpFromTheNearest, TagsAreInherited, TagsAreOnce, TreesInheritAlone};
+ghost use Rattle.org_inherit.specs.Laws.{HiddenIsInherited, LaterSaysNothing, TaggedAreUpFromTheNearest, TagsAreInherited, TagsAreOnce, TagsKeepTheirOrder, TreesInheritAlone};
 
 /// What has a hidden ancestor is hidden.
 pub fn hidden_is_inherited()
@@ -14,6 +14,12 @@ pub fn tags_are_inherited()
 /// No tag stands twice among all tags of an entry.
 pub fn tags_are_once()
     ensures { TagsAreOnce }
+{}
+
+/// Of equal tags the first stays, and the others keep their order: one tag stands before another exactly where it is named
+/// first before the other is, by the file, by the ancestors from the outermost, or by the heading itself.
+pub fn tags_keep_their_order()
+    ensures { TagsKeepTheirOrder }
 {}
 
 /// Of an entry and its ancestors those that have own tags are the nearest one that has, and those above that one.

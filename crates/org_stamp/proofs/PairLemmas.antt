@@ -8,13 +8,13 @@ use Rattle.org_stamp.specs.declared.pair.Pair.{Pair}
 use Rattle.org_stamp.specs.Pair.{pair_at, pair_and, pairs_from}
 use Rattle.org_base.specs.Words.{is_space}
 
-skip : (bs : List ℕ) (at k : ℕ) → pairs_from bs at k ≡ pairs_from (drop k bs) (at + k) 0
+pub skip : (bs : List ℕ) (at k : ℕ) → pairs_from bs at k ≡ pairs_from (drop k bs) (at + k) 0
 unfolding pairs_from
 skip bs at zero = ap (λ a. pairs_from bs a 0) (let e : at ≡ at + 0 = omega arith in e)
 skip [] at (suc k) = refl
 skip (b ∷ bs) at (suc k) = skip bs (at + 1) k ∙ ap (λ a. pairs_from (drop k bs) a 0) (let e : at + 1 + k ≡ at + suc k = omega arith in e)
 
-step : (b : ℕ) (bs : List ℕ) (at : ℕ) → pairs_from (b ∷ bs) at 0 ≡ cond (is_space b) (pairs_from bs (at + 1) 0) (pair_and at (pairs_from bs (at + 1)) (pair_at at (b ∷ bs)))
+pub step : (b : ℕ) (bs : List ℕ) (at : ℕ) → pairs_from (b ∷ bs) at 0 ≡ cond (is_space b) (pairs_from bs (at + 1) 0) (pair_and at (pairs_from bs (at + 1)) (pair_at at (b ∷ bs)))
 unfolding pairs_from
 step b bs at = refl
 
