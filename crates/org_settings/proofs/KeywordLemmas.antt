@@ -1,7 +1,6 @@
 -- Words and standings, as keywords.
-use Rattle.std.proofs.Common.{◌≡◌, ℕ, zero, suc, ◌+◌, ◌<◌, Bool, true, false, cond, List, [], ◌∷◌, ◌++◌, map, length, get_or, None, Some, refl, ap, sym, ◌∙◌, arith}
+use Rattle.std.proofs.Common.{◌≡◌, ℕ, zero, suc, ◌<◌, ◌≤◌, Bool, true, false, cond, List, [], ◌∷◌, ◌++◌, map, length, get_or, refl, ap, sym, ◌∙◌, arith}
 use Rattle.std.specs.Prelude.{bytes_eq, position, is_some}
-use Rattle.std.specs.Option.{Option}
 use Rattle.org_settings.specs.Keywords.{Keyword, is_named, without_parens, with_new, add_word, keyword_place, keyword_done, keyword_first, keyword_word}
 use Rattle.org_settings.specs.Standings.{shown}
 use Rattle.org_settings.specs.declared.keywords.Standing.{Standing}
@@ -51,6 +50,11 @@ word_shown [] ss i e = refl
 word_shown (w ∷ ws) [] i e = absurd (omega (arith, e))
 word_shown (w ∷ ws) (s ∷ ss) zero e = refl
 word_shown (w ∷ ws) (s ∷ ss) (suc i) e = word_shown ws ss i (omega (arith, e))
+
+pub no_word : (ws : Texts) (i : ℕ) → length ws ≤ i → [] ≡ get_or ws i []
+no_word [] i l = refl
+no_word (w ∷ ws) zero l = absurd (omega (arith, l))
+no_word (w ∷ ws) (suc i) l = no_word ws i (omega (arith, l))
 
 pub added : (done : Bool) (first : ℕ) (ks : List Keyword) (w : List ℕ) → is_named w ≡ true → is_some (keyword_place ks (without_parens w)) ≡ false →
     add_word done first ks w ≡ ks ++ record { word = without_parens w; done = done; first = first } ∷ []
