@@ -1,15 +1,20 @@
 -- A table of names, and the last end line of each.
-use Rattle.std.proofs.Common.{◌≡◌, inl, inr, ℕ, suc, ◌+◌, Bool, true, false, cond, ◌==◌, ◌||◌, zero, List, [], ◌∷◌, map, drop, refl, sym, ap, ◌∙◌, arith}
-use Rattle.std.specs.Prelude.{bytes_eq, nat_eq, nat_lt, Vec, Some}
+use Rattle.std.proofs.Common.{◌≡◌, inl, inr, ℕ, suc, ◌+◌, Bool, true, false, cond, ◌==◌, ◌||◌, zero, List, [], ◌∷◌, map, drop, refl, sym, ap, ap₂, ◌∙◌, arith}
+use Rattle.std.specs.Prelude.{bytes_eq, nat_lt, Vec, Option, Some}
 use Rattle.std.specs.List.{list_any}
 use Rattle.std.specs.Global.{Global}
 use Rattle.std.specs.Option.{unwrap_or}
 use Rattle.std.specs.Map.{lookup}
 use Rattle.std.specs.Char.{to_ascii_lowercase}
-use Rattle.std.specs.Cmp.Lexicographic.{pointwise}
+use Rattle.std.specs.Ordering.{is_eq, nat_cmp, match_ordering}
+use Rattle.std.specs.Cmp.Lexicographic.{slice_cmp}
+use Rattle.std.specs.BTreeMap.{insert_entry}
+use Rattle.std.specs.declared.cmp.Ordering.{Ordering}
+use Rattle.std.specs.declared.cmp.Ordering.TheVariants.{Less, Equal, Greater}
 use Rattle.std.proofs.lemmas.Bool.{cases_Bool, eqb-true, eqb-false, ne_eqb, lt-ltb, le-ltb, cases_lt}
 use Rattle.std.proofs.lemmas.Cmp.{nat_list_eq_equiv}
-use Rattle.indexmap.specs.IndexMap.{insert_entry}
+use Rattle.std.proofs.lemmas.Map.Text.{is_eq-slice_cmp}
+use Rattle.std.proofs.lemmas.Slice.Eq.{bytes_eq-Decides}
 use Rattle.org_base.specs.Words.{same_word}
 use Rattle.org_class.specs.Blocks.{ends_block}
 use Rattle.org_class.specs.Ends.{Places, place_of, last_where, AreLastEnds, KnowsEnds}
@@ -23,13 +28,13 @@ seen es = map (λ e. (e.0.items, e.1)) es
 lower : List ℕ → List ℕ
 lower name = map to_ascii_lowercase name
 
--- the entries of the map are those of its view
-pub place-seen : (q : List ℕ) (es : Entries) → lookup (λ k. pointwise nat_eq q k.items) es ≡ lookup (bytes_eq q) (seen es)
+-- what the map finds by order is what its view has
+pub place-seen : (q : List ℕ) (es : Entries) → lookup (λ k. is_eq (slice_cmp nat_cmp q k.items)) es ≡ lookup (bytes_eq q) (seen es)
 place-seen q [] = refl
-place-seen q (e ∷ es) = rw (place-seen q es) refl
+place-seen q (e ∷ es) = ap₂ (λ b rest. cond b (Some e.1) rest) (is_eq-slice_cmp q e.0.items) (place-seen q es)
 
-abbrev keys_equal : Vec ℕ Global → Vec ℕ Global → Bool
-keys_equal x y = pointwise nat_eq x.items y.items
+abbrev key_cmp : Vec ℕ Global → Vec ℕ Global → Ordering
+key_cmp a b = slice_cmp nat_cmp a.items b.items
 
 cond_over : {X Y : Type 0} (f : X → Y) (b : Bool) (x y : X) → f (cond b x y) ≡ cond b (f x) (f y)
 cond_over f true x y = refl
@@ -37,27 +42,37 @@ cond_over f false x y = refl
 
 -- a name's value behind an insertion
 pub insert-seen : (q : List ℕ) (es : Entries) (k : Vec ℕ Global) (v : ℕ) →
-    lookup (bytes_eq q) (seen (insert_entry keys_equal es k v)) ≡ cond (bytes_eq k.items q) (Some v) (lookup (bytes_eq q) (seen es))
-insert-seen q [] k v = rw (nat_list_eq_equiv.symm k.items q) refl
-insert-seen q (e ∷ es) k v = elim (cases_Bool (bytes_eq k.items e.0.items)) [
-  | inl same ↦
-      let alike : bytes_eq k.items q ≡ bytes_eq e.0.items q = nat_list_eq_equiv.congr k.items e.0.items q same in
-      let turned : bytes_eq e.0.items q ≡ bytes_eq q e.0.items = nat_list_eq_equiv.symm e.0.items q in
-      elim (cases_Bool (bytes_eq q e.0.items)) [
-        | inl meets ↦ rw (same, alike, turned, meets) refl
-        | inr misses ↦ rw (same, alike, turned, misses) refl
-      ]
-  | inr other ↦ elim (cases_Bool (bytes_eq q e.0.items)) [
-    | inl meets ↦
-        let apart : bytes_eq k.items q ≡ false =
-        nat_list_eq_equiv.symm k.items q ∙ nat_list_eq_equiv.congr q e.0.items k.items meets ∙ nat_list_eq_equiv.symm e.0.items k.items ∙ other in
-        rw (other, apart, meets) refl
-    | inr misses ↦ rw (other, misses) (insert-seen q es k v)
-  ]
-]
+    lookup (bytes_eq q) (seen (insert_entry key_cmp es k v)) ≡ cond (bytes_eq k.items q) (Some v) (lookup (bytes_eq q) (seen es))
+insert-seen q es k v = inserted es ∙ ap (λ b. cond b (Some v) (lookup (bytes_eq q) (seen es))) (nat_list_eq_equiv.symm q k.items)
+  where
+    hides : (a b : Bool) → b ≡ a → (rest : Option ℕ) (old : ℕ) → cond a (Some v) rest ≡ cond b (Some v) (cond a (Some old) rest)
+    hides true b e rest old = rw e refl
+    hides false b e rest old = rw e refl
+
+    apart : (l : List ℕ) → bytes_eq k.items l ≡ false → (old : ℕ) (rest : Option ℕ) →
+        cond (bytes_eq q l) (Some old) (cond (bytes_eq q k.items) (Some v) rest) ≡ cond (bytes_eq q k.items) (Some v) (cond (bytes_eq q l) (Some old) rest)
+    apart l differs old rest = elim (cases_Bool (bytes_eq q k.items)) [
+      | inl here ↦
+          let not_l : bytes_eq q l ≡ false = ap (λ x. bytes_eq x l) ((bytes_eq-Decides q k.items).0 here) ∙ differs in
+          rw (here, not_l) refl
+      | inr other ↦ rw other refl
+    ]
+
+    inserted : (es : Entries) → lookup (bytes_eq q) (seen (insert_entry key_cmp es k v)) ≡ cond (bytes_eq q k.items) (Some v) (lookup (bytes_eq q) (seen es))
+    inserted [] = refl
+    inserted (e ∷ es) =
+        elim (key_cmp k e.0) as (λ o. key_cmp k e.0 ≡ o → lookup (bytes_eq q) (seen (match_ordering o ((k, v) ∷ e ∷ es) ((e.0, v) ∷ es) (e ∷ insert_entry key_cmp es k v))) ≡ cond (bytes_eq q k.items) (Some v) (lookup (bytes_eq q) (seen (e ∷ es)))) [
+          | Less ↦ λ h. refl
+          | Equal ↦ λ h.
+              let same : k.items ≡ e.0.items = (bytes_eq-Decides k.items e.0.items).0 (sym (is_eq-slice_cmp k.items e.0.items) ∙ ap is_eq h) in
+              hides (bytes_eq q e.0.items) (bytes_eq q k.items) (ap (bytes_eq q) same) (lookup (bytes_eq q) (seen es)) e.1
+          | Greater ↦ λ h.
+              let differs : bytes_eq k.items e.0.items ≡ false = sym (is_eq-slice_cmp k.items e.0.items) ∙ ap is_eq h in
+              ap (cond (bytes_eq q e.0.items) (Some e.1)) (inserted es) ∙ apart e.0.items differs e.1 (lookup (bytes_eq q) (seen es))
+        ] refl
 
 pub place_of-insert : (q name : List ℕ) (es : Entries) (k : Vec ℕ Global) (v : ℕ) → k.items ≡ map to_ascii_lowercase name →
-    place_of (seen (insert_entry keys_equal es k v)) q ≡ cond (same_word name q) v (place_of (seen es) q)
+    place_of (seen (insert_entry key_cmp es k v)) q ≡ cond (same_word name q) v (place_of (seen es) q)
 place_of-insert q name es k v e =
     ap (λ o. unwrap_or o 0) (insert-seen (map to_ascii_lowercase q) es k v)
     ∙ cond_over (λ o. unwrap_or o 0) (bytes_eq k.items (map to_ascii_lowercase q)) (Some v) (lookup (bytes_eq (map to_ascii_lowercase q)) (seen es))

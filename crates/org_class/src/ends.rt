@@ -10,19 +10,20 @@ ghost use Rattle.org_class.specs.Ends.{place_of, AreLastEnds};
 ghost use Rattle.org_class.specs.Sections.{bytes_in};
 
 use crate::blocks::begins_with;
-use indexmap::IndexMap;
 use memchr::memchr;
 use org_base::words::trimmed;
 use org_base::{Fault, Span};
 use org_lines::{Line, Lines};
 use org_text::Text;
 use std::alloc::Global;
+use std::collections::BTreeMap;
 use std::marker::Model;
 
-/// A number for each name; 0 where none was noted. The case of ASCII letters doesn't count.
+/// A number for each name; 0 where none was noted. The case of ASCII letters doesn't count. Names are found by order,
+/// since what they hash to is the writer's to choose.
 #[derive(Drop)]
 pub(crate) struct EndPlaces {
-    by_name: IndexMap<Vec<u8>, usize>,
+    by_name: BTreeMap<Vec<u8>, usize>,
 }
 
 impl Model for EndPlaces {
@@ -40,7 +41,7 @@ impl EndPlaces {
         ensures value { result ≡ [] }
     {
         EndPlaces {
-            by_name: IndexMap::new(alloc),
+            by_name: BTreeMap::new(alloc),
         }
     }
 

@@ -1,66 +1,60 @@
--- The entries of the map of keywords, as keywords.
-use Rattle.std.proofs.Common.{◌≡◌, inl, inr, ℕ, suc, ◌+◌, ◌≤◌, Bool, true, false, cond, List, [], ◌∷◌, ◌++◌, map, length, None, Some, refl, ap, ap₂, sym, ◌∙◌, arith, true≢false}
-use Rattle.std.specs.Prelude.{bytes_eq, nat_eq, nat_lt, position, Vec, is_some}
-use Rattle.std.specs.Global.{Global}
-use Rattle.std.specs.List.{position_or_len}
-use Rattle.std.specs.Map.{keys_of}
-use Rattle.std.specs.Cmp.Lexicographic.{pointwise}
-use Rattle.std.proofs.lemmas.Bool.{cases_Bool, ltb-false}
-use Rattle.indexmap.specs.IndexMap.{insert_entry}
-use Rattle.org_settings.specs.Keywords.{Keyword, is_named, without_parens, with_new, add_word, keyword_place}
+-- Words and standings, as keywords.
+use Rattle.std.proofs.Common.{◌≡◌, ℕ, zero, suc, ◌<◌, ◌≤◌, Bool, true, false, cond, List, [], ◌∷◌, ◌++◌, map, length, get_or, refl, ap, sym, ◌∙◌, arith}
+use Rattle.std.specs.Prelude.{bytes_eq, position, is_some}
+use Rattle.org_settings.specs.Keywords.{Keyword, is_named, without_parens, with_new, add_word, keyword_place, keyword_done, keyword_first, keyword_word}
+use Rattle.org_settings.specs.Standings.{shown}
 use Rattle.org_settings.specs.declared.keywords.Standing.{Standing}
 
-abbrev Entries : Type 0
-Entries = List (Vec ℕ Global × Standing)
+abbrev Texts : Type 0
+Texts = List (List ℕ)
 
-abbrev pub seen : Entries → List Keyword
-seen es = map (λ e. record { word = e.0.items; done = e.1.is_done; first = e.1.first }) es
+-- the words that are shown
+pub words_shown : (ws : Texts) (ss : List Standing) → length ws ≡ length ss → map (λ (k : Keyword). k.word) (shown ws ss) ≡ ws
+words_shown [] ss e = refl
+words_shown (w ∷ ws) [] e = absurd (omega (arith, e))
+words_shown (w ∷ ws) (s ∷ ss) e = ap (λ xs. w ∷ xs) (words_shown ws ss (omega (arith, e)))
 
-abbrev words_of : List Keyword → List (List ℕ)
-words_of ks = map (λ k. k.word) ks
+pub as_many_shown : (ws : Texts) (ss : List Standing) → length ws ≡ length ss → length (shown ws ss) ≡ length ws
+as_many_shown [] ss e = refl
+as_many_shown (w ∷ ws) [] e = absurd (omega (arith, e))
+as_many_shown (w ∷ ws) (s ∷ ss) e = ap suc (as_many_shown ws ss (omega (arith, e)))
 
-length-words : (es : Entries) → length (words_of (seen es)) ≡ length (keys_of es)
-length-words [] = refl
-length-words (e ∷ es) = ap suc (length-words es)
+-- the place of a word among them
+pub place_shown : (ws : Texts) (ss : List Standing) (w : List ℕ) → length ws ≡ length ss → position (bytes_eq w) ws ≡ keyword_place (shown ws ss) w
+place_shown ws ss w e = ap (position (bytes_eq w)) (sym (words_shown ws ss e))
 
-first-words : (w : List ℕ) (es : Entries) → position_or_len (bytes_eq w) (words_of (seen es)) ≡ position_or_len (λ k. pointwise nat_eq w k.items) (keys_of es)
-first-words w [] = refl
-first-words w (e ∷ es) = rw (first-words w es) refl
+-- one more word and its standing
+pub shown-append : (ws : Texts) (ss : List Standing) (w : List ℕ) (s : Standing) → length ws ≡ length ss →
+    shown (ws ++ w ∷ []) (ss ++ s ∷ []) ≡ shown ws ss ++ record { word = w; done = s.is_done; first = s.first } ∷ []
+shown-append [] [] w s e = refl
+shown-append [] (t ∷ ss) w s e = absurd (omega (arith, e))
+shown-append (v ∷ ws) [] w s e = absurd (omega (arith, e))
+shown-append (v ∷ ws) (t ∷ ss) w s e = ap (λ ks. record { word = v; done = t.is_done; first = t.first } ∷ ks) (shown-append ws ss w s (omega (arith, e)))
 
-pub place-seen : (w : List ℕ) (es : Entries) → position (λ k. pointwise nat_eq w k.items) (keys_of es) ≡ keyword_place (seen es) w
-place-seen w es = sym (ap₂ (λ first len. cond (nat_lt first len) (Some first) None) (first-words w es) (length-words es))
+-- the standing at a place is the keyword's
+pub done_shown : (ws : Texts) (ss : List Standing) (i : ℕ) (s : Standing) → length ws ≡ length ss → i < length ws → get_or ss i s ≡ s → keyword_done (shown ws ss) i ≡ s.is_done
+done_shown [] ss i s e l at = absurd (omega (arith, l))
+done_shown (w ∷ ws) [] i s e l at = absurd (omega (arith, e))
+done_shown (w ∷ ws) (t ∷ ss) zero s e l at = ap (λ (x : Standing). x.is_done) at
+done_shown (w ∷ ws) (t ∷ ss) (suc i) s e l at = done_shown ws ss i s (omega (arith, e)) (omega (arith, l)) at
 
-none_below : (a b : ℕ) → is_some (cond (nat_lt a b) (Some a) None) ≡ false → b ≤ a
-none_below a b h = elim (cases_Bool (nat_lt a b)) [
-  | inl less ↦ absurd (true≢false (let found : true ≡ false = rw less at h in found))
-  | inr more ↦ ltb-false a b more
-]
+pub first_shown : (ws : Texts) (ss : List Standing) (i : ℕ) (s : Standing) → length ws ≡ length ss → i < length ws → get_or ss i s ≡ s → keyword_first (shown ws ss) i ≡ s.first
+first_shown [] ss i s e l at = absurd (omega (arith, l))
+first_shown (w ∷ ws) [] i s e l at = absurd (omega (arith, e))
+first_shown (w ∷ ws) (t ∷ ss) zero s e l at = ap (λ (x : Standing). x.first) at
+first_shown (w ∷ ws) (t ∷ ss) (suc i) s e l at = first_shown ws ss i s (omega (arith, e)) (omega (arith, l)) at
 
-absent : (w : List ℕ) (es : Entries) → is_some (keyword_place (seen es) w) ≡ false → length (keys_of es) ≤ position_or_len (λ k. pointwise nat_eq w k.items) (keys_of es)
-absent w es h =
-    let low = none_below (position_or_len (bytes_eq w) (words_of (seen es))) (length (words_of (seen es))) h in
-    omega (arith, low, length-words es, first-words w es)
+-- the word at a place is the keyword's
+pub word_shown : (ws : Texts) (ss : List Standing) (i : ℕ) → length ws ≡ length ss → get_or ws i [] ≡ keyword_word (shown ws ss) i
+word_shown [] ss i e = refl
+word_shown (w ∷ ws) [] i e = absurd (omega (arith, e))
+word_shown (w ∷ ws) (s ∷ ss) zero e = refl
+word_shown (w ∷ ws) (s ∷ ss) (suc i) e = word_shown ws ss i (omega (arith, e))
 
-abbrev same_key : Vec ℕ Global → Vec ℕ Global → Bool
-same_key x y = pointwise nat_eq x.items y.items
-
-appended : (k : Vec ℕ Global) (s : Standing) (es : Entries) → length (keys_of es) ≤ position_or_len (λ x. pointwise nat_eq k.items x.items) (keys_of es) →
-    insert_entry same_key es k s ≡ es ++ (k, s) ∷ []
-appended k s [] h = refl
-appended k s (e ∷ es) h = elim (cases_Bool (pointwise nat_eq k.items e.0.items)) [
-  | inl same ↦ absurd (let low : suc (length (keys_of es)) ≤ 0 = rw same at h in omega arith)
-  | inr other ↦
-      let low : suc (length (keys_of es)) ≤ 1 + position_or_len (λ x. pointwise nat_eq k.items x.items) (keys_of es) = rw other at h in
-      rw other (ap (λ rest. e ∷ rest) (appended k s es (omega arith)))
-]
-
-seen-append : (xs ys : Entries) → seen (xs ++ ys) ≡ seen xs ++ seen ys
-seen-append [] ys = refl
-seen-append (x ∷ xs) ys = ap (λ rest. record { word = x.0.items; done = x.1.is_done; first = x.1.first } ∷ rest) (seen-append xs ys)
-
-pub insert-seen : (k : Vec ℕ Global) (s : Standing) (es : Entries) → is_some (keyword_place (seen es) k.items) ≡ false →
-    seen (insert_entry same_key es k s) ≡ seen es ++ record { word = k.items; done = s.is_done; first = s.first } ∷ []
-insert-seen k s es h = ap seen (appended k s es (absent k.items es h)) ∙ seen-append es ((k, s) ∷ [])
+pub no_word : (ws : Texts) (i : ℕ) → length ws ≤ i → [] ≡ get_or ws i []
+no_word [] i l = refl
+no_word (w ∷ ws) zero l = absurd (omega (arith, l))
+no_word (w ∷ ws) (suc i) l = no_word ws i (omega (arith, l))
 
 pub added : (done : Bool) (first : ℕ) (ks : List Keyword) (w : List ℕ) → is_named w ≡ true → is_some (keyword_place ks (without_parens w)) ≡ false →
     add_word done first ks w ≡ ks ++ record { word = without_parens w; done = done; first = first } ∷ []

@@ -6,8 +6,7 @@ ghost use Rattle.org_settings.specs.Keywords.{add_word, add_words, add_sequence,
 use crate::pieces::words;
 use crate::sequence::{done_from, is_named, without_parens};
 use crate::setting_line::{has_key, setting_value};
-use indexmap::IndexMap;
-use org_base::Fault;
+use org_base::{Fault, Names};
 use std::alloc::Global;
 use std::marker::Model;
 
@@ -21,16 +20,20 @@ struct Standing {
 /// The keywords of a file in the order of their first places.
 #[derive(Drop)]
 pub(crate) struct Keywords {
-    by_word: IndexMap<Vec<u8>, Standing>,
+    words: Names,
+    standings: Vec<Standing>,
 }
 
 impl Model for Keywords {
-    ghost use Rattle.std.specs.Prelude.{List, map};
+    ghost use Rattle.std.specs.Prelude.{◌≡◌, List, length};
     ghost use Rattle.org_settings.specs.Keywords.{Keyword};
+    ghost use Rattle.org_settings.specs.Standings.{shown};
 
     ghost Value = { List Keyword };
 
-    ghost view = { λ k. map (λ e. record { word = e.0.items; done = e.1.is_done; first = e.1.first }) k.by_word.entries };
+    ghost view = { λ k. shown k.words k.standings.items };
+
+    ghost invariant = { λ k. length k.words ≡ length k.standings.items };
 }
 
 impl Keywords {
@@ -39,7 +42,8 @@ impl Keywords {
         ensures value { result ≡ [] }
     {
         Keywords {
-            by_word: IndexMap::new(alloc),
+            words: Names::new(alloc),
+            standings: Vec::new(alloc),
         }
     }
 
@@ -47,7 +51,7 @@ impl Keywords {
     pub(crate) fn count(&self) -> usize
         ensures value { result ≡ length self.now }
     {
-        self.by_word.len()
+        self.words.count()
     }
 
     /// The place of a word among the keywords.
@@ -55,7 +59,7 @@ impl Keywords {
         ensures value { result ≡ keyword_place self.now word.now }
         ensures within { IfSome result (λ place. place < length self.now) }
     {
-        self.by_word.get_index_of(word)
+        self.words.place(word)
     }
 
     // Adds the keyword that is left of a word, where none has its word.
@@ -77,7 +81,9 @@ impl Keywords {
             return Ok(());
         }
         let word = Vec::from_slice(alloc, word)?;
-        self.by_word.insert(word, Standing { is_done, first })?;
+        self.standings.reserve(1)?;
+        self.words.add(word)?;
+        self.standings.push_reserved(Standing { is_done, first });
         Ok(())
     }
 
@@ -115,10 +121,7 @@ impl Keywords {
         requires { place < length self.now }
         ensures value { result ≡ keyword_done self.now place }
     {
-        match self.by_word.get_index(place) {
-            Some((_, standing)) => standing.is_done,
-            None => false,
-        }
+        self.standings[place].is_done
     }
 
     /// The place of the first keyword of the sequence that holds the one at a place.
@@ -126,19 +129,17 @@ impl Keywords {
         requires { place < length self.now }
         ensures value { result ≡ keyword_first self.now place }
     {
-        match self.by_word.get_index(place) {
-            Some((_, standing)) => standing.first,
-            None => 0,
-        }
+        self.standings[place].first
     }
 
     /// The word of the keyword at a place; empty where there is none.
     pub(crate) fn word(&self, place: usize) -> &[u8]
         ensures value { result.now ≡ keyword_word self.now place }
     {
-        match self.by_word.get_index(place) {
-            Some((word, _)) => word.as_slice(),
-            None => &[],
+        if place < self.words.count() {
+            self.words.get(place)
+        } else {
+            &[]
         }
     }
 

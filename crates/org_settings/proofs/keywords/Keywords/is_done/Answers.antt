@@ -1,0 +1,18 @@
+use Rattle.std.proofs.Common.{◌∙◌, ap, sym, arith, length}
+use Rattle.org_settings.specs.Keywords.{keyword_done}
+use Rattle.org_settings.proofs.KeywordLemmas.{as_many_shown, done_shown}
+use Rattle.org_settings.proofs.keywords.Keywords.is_done.Goals as goal
+
+pub index-requires : goal.index-requires
+index-requires c =
+    omega (arith, c.requires, c.self.invariant, as_many_shown c.self.inside.words c.self.inside.standings.items c.self.invariant, ap length c.self.view_is)
+
+pub returns : goal.returns
+returns c =
+    let ws = c.self.inside.words in
+    let ss = c.self.inside.standings.items in
+    let many = as_many_shown ws ss c.self.invariant in
+    record {
+      value = sym (done_shown ws ss c.args.place c.index.result.now c.self.invariant (omega (arith, c.requires, many, ap length c.self.view_is)) (sym c.index.ensures))
+          ∙ ap (λ ks. keyword_done ks c.args.place) c.self.view_is;
+    }
