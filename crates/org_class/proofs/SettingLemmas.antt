@@ -6,10 +6,14 @@ use Rattle.std.proofs.lemmas.Bool.{cases_Bool}
 use Rattle.org_base.specs.Counts.{Counts, ticked}
 use Rattle.org_base.specs.declared.meter.Tick.TheVariants.{Classify}
 use Rattle.org_lines.specs.Cuts.{Cut}
-use Rattle.org_class.specs.Classes.{is_setting_class, setting_of, lines_of_setting}
+use Rattle.org_class.specs.Classes.{StandStill, is_setting_class, setting_of, lines_of_setting}
 use Rattle.org_class.specs.Ticks.{classified}
 use Rattle.org_class.specs.declared.class.Class.{Class}
 use Rattle.org_class.proofs.StepLemmas.{bytes_of}
+
+-- texts behind texts that stand still
+pub still_more : (old a b s : List (List ℕ)) → StandStill old a → b ≡ a ++ s → StandStill old b
+still_more old a b s still more = (still.0 ++ s, more ∙ ap (λ t. t ++ s) still.1 ∙ append_assoc old still.0 s)
 
 no_classes : (ls : List (List ℕ)) → lines_of_setting ls [] ≡ []
 no_classes [] = refl

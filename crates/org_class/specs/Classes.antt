@@ -50,6 +50,10 @@ lines_of_setting [] cs = []
 lines_of_setting (l ∷ ls) [] = []
 lines_of_setting (l ∷ ls) (c ∷ cs) = if is_setting_class c then l ∷ lines_of_setting ls cs else lines_of_setting ls cs
 
+-- what stood there stands there still, with more behind it
+abbrev pub StandStill : List (List ℕ) → List (List ℕ) → Type 0
+StandStill old new = (more : List (List ℕ)) × (new ≡ old ++ more)
+
 -- a section's setting lines
 abbrev pub section_settings : List ℕ → List (List ℕ)
 section_settings s = lines_of_setting (lines s) (section_classes s)

@@ -3,7 +3,7 @@ ghost use Rattle.std.specs.Prelude.{◌≡◌, ◌++◌, ◌+◌, ◌≤◌, ℕ
 ghost use Rattle.std.specs.Cow.{cow_slice_items};
 ghost use Rattle.org_base.specs.Codes.{memory_fault};
 ghost use Rattle.org_lines.specs.Cuts.{lines};
-ghost use Rattle.org_class.specs.Classes.{lines_of_setting, setting_of, setting_lines};
+ghost use Rattle.org_class.specs.Classes.{StandStill, lines_of_setting, setting_of, setting_lines};
 ghost use Rattle.org_class.specs.Sections.{bytes_in, sections};
 ghost use Rattle.org_settings.specs.Settings.{settings_of};
 ghost use Rattle.org_class.specs.Ticks.{classified};
@@ -20,6 +20,7 @@ use std::alloc::Global;
 // Puts the line at the end, if it is of the class Setting.
 fn push_setting(texts: &mut Texts, class: Option<Class>, line: Line<'_>) -> Result<(), Fault>
     ensures ok { OnOk result (texts.new ≡ texts.old ++ setting_of class (cow_slice_items line.entry.bytes)) }
+    ensures err { OnErr result (texts.new ≡ texts.old) }
     ensures memory { IsOkUnless result memory_fault }
 {
     match class {
@@ -29,7 +30,7 @@ fn push_setting(texts: &mut Texts, class: Option<Class>, line: Line<'_>) -> Resu
 }
 
 /// Puts the setting lines of a section, whose lines are of these classes, at the end of the texts. Want of memory is
-/// the only refusal; some of the lines may stand there then.
+/// the only refusal; some of the lines may stand behind the texts then.
 pub fn push_setting_lines<T: Text>(
     alloc: Global,
     texts: &mut Texts,
@@ -39,6 +40,7 @@ pub fn push_setting_lines<T: Text>(
 ) -> Result<(), Fault>
     requires within { section.at + section.len ≤ length (T.content text.now) }
     ensures ok { OnOk result (texts.new ≡ texts.old ++ lines_of_setting (lines (bytes_in (T.content text.now) section)) classes.now) }
+    ensures err { OnErr result (StandStill texts.old texts.new) }
     ensures memory { IsOkUnless result memory_fault }
 {
     if !classes.has_setting() {
@@ -56,6 +58,7 @@ fn push_lines<T: Text>(
 ) -> Result<(), Fault>
     requires within { section.at + section.len ≤ length (T.content text.now) }
     ensures ok { OnOk result (texts.new ≡ texts.old ++ lines_of_setting (lines (bytes_in (T.content text.now) section)) classes.now) }
+    ensures err { OnErr result (StandStill texts.old texts.new) }
     ensures memory { IsOkUnless result memory_fault }
 {
     let mut place = 0;

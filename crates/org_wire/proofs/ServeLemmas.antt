@@ -1,7 +1,9 @@
 -- The engine's answers, as those that a command wants.
-use Rattle.std.proofs.Common.{◌≡◌, ◌∙◌, ℕ, ap, refl, sym}
-use Rattle.std.specs.Prelude.{IfErr, IfOk, Option, None, Some, Result, Ok, Err, String, string_bytes}
+use Rattle.std.proofs.Common.{◌≡◌, ◌∙◌, ℕ, ap, arith, refl, sym}
+use Rattle.std.specs.Prelude.{IfErr, IfOk, OnErr, OnOk, Option, None, Some, Result, Ok, Err, String, string_bytes}
+use Rattle.org_base.specs.Counts.{Counts}
 use Rattle.org_base.specs.declared.fault.Fault.{Fault}
+use Rattle.org_file.specs.Counts.{AtMost, worked}
 use Rattle.org_cal.specs.declared.moment.Moment.{Moment}
 use Rattle.org_engine.specs.Questions.{Asks, AsksOf, Declines, Replies}
 use Rattle.org_engine.specs.Step as step
@@ -46,6 +48,11 @@ module _ (command : Command) (said : step.Command) (old new : State) (means : Me
   pub tells_text : {Y : Type 0} (outcome : Result (String Y) Fault) → IfOk outcome (λ text. step.Answers said old (step.Shown (string_bytes text)) new) → IfErr outcome (λ fault. step.Refuses said old fault new) → Serves command old (told_text outcome) new
   tells_text (Ok text) ok err = serves command said old new (step.Shown (string_bytes text)) (reply.Shown (string_bytes text)) means refl (λ e. cc) ok
   tells_text (Err fault) ok err = refuses command said old new fault means err
+
+-- a view counts no more than the sections of its files
+pub few_asked : {Y : Type 0} (n : ℕ) (old new : Counts) (outcome : Result (String Y) Fault) → OnOk outcome (new ≡ worked n n old) → OnErr outcome (AtMost n old new) → AtMost n old new
+few_asked n old new (Ok text) all few = record { classified_count = n; read_count = n; few_classified = omega arith; few_read = omega arith; is = all }
+few_asked n old new (Err fault) all few = few
 
 -- what a view is answered
 pub tells_view : {Y : Type 0} (view : View) (session : Option ℕ) (old new : State) (outcome : Result (String Y) Fault) → IfOk outcome (λ text. Replies view session old (step.Shown (string_bytes text)) new) → IfErr outcome (λ fault. Declines view session old fault new) →

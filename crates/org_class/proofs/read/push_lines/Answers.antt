@@ -1,6 +1,6 @@
 -- The line is a setting line, or not.
 use Rattle.std.proofs.Common.{ap, arith, length}
-use Rattle.org_class.proofs.SettingLemmas.{setting_more}
+use Rattle.org_class.proofs.SettingLemmas.{setting_more, still_more}
 use Rattle.org_class.proofs.read.push_lines.Goals as goal
 
 pub loop-line-preserved : goal.loop-line-preserved
@@ -10,4 +10,5 @@ loop-line-preserved g c =
     record {
       few = omega (arith, count, c.loop-line.invariant.few);
       all = setting_more c.args.classes.now c.loop-line.place c.loop-line.texts _ _ _ _ step.0 _ _ step.1 step.2.bytes c.get.ensures.value c.in_ok-push_setting.ensures.ok c.loop-line.invariant.all;
+      still = still_more _ _ _ _ c.loop-line.invariant.still c.in_ok-push_setting.ensures.ok;
     }

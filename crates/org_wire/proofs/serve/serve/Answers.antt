@@ -7,45 +7,61 @@ use Rattle.org_wire.proofs.serve.serve.Goals as goal
 pub returns-in-Add : goal.returns-in-Add
 returns-in-Add g c = record {
   value = rw (c.in-Add.is, c.told.ensures.value) (tells _ _ _ _ (λ i. step.AddFile (c.as_str.ensures.value i) (c.as_slice.ensures.value i)) _ c.add.ensures.ok c.add.ensures.err);
+  counts = rw c.in-Add.is c.add.ensures.counts;
 }
 
 pub returns-in-Drop : goal.returns-in-Drop
 returns-in-Drop g c = record {
   value = rw (c.in-Drop.is, c.told-in-Drop.ensures.value) (tells_surely _ _ _ _ (ap step.DropFile c.as_str-in-Drop.ensures.value) _ c.drop_file.ensures.ok c.drop_file.ensures.err);
+  counts = rw c.in-Drop.is c.drop_file.ensures.counts;
 }
 
 pub returns-in-Edit : goal.returns-in-Edit
-returns-in-Edit g c = record { value = rw c.in-Edit.is (rw c.as_slice-in-Edit.ensures.value at c.edit.ensures.value) }
+returns-in-Edit g c = record {
+  value = rw c.in-Edit.is (rw c.as_slice-in-Edit.ensures.value at c.edit.ensures.value);
+  counts = rw c.in-Edit.is c.edit.ensures.counts;
+}
 
 pub returns-in-Complete : goal.returns-in-Complete
-returns-in-Complete g c = record { value = rw c.in-Complete.is (rw c.as_str-in-Complete.ensures.value at c.complete.ensures.value) }
+returns-in-Complete g c = record {
+  value = rw c.in-Complete.is (rw c.as_str-in-Complete.ensures.value at c.complete.ensures.value);
+  counts = rw c.in-Complete.is (rw c.as_str-in-Complete.ensures.value at c.complete.ensures.counts);
+}
 
 pub returns-in-Inherit : goal.returns-in-Inherit
 returns-in-Inherit g c = record {
   value = rw c.in-Inherit.is (serves _ _ _ _ (step.Serial c.set_inherit.result) _ refl refl (λ e. cc) c.set_inherit.ensures.value);
+  counts = rw c.in-Inherit.is c.set_inherit.ensures.counts;
 }
 
 pub returns-in-At : goal.returns-in-At
-returns-in-At g c = record { value = rw c.in-At.is (serves_surely c.in-At.moment _ _ _ c.set_moment.ensures.value) }
+returns-in-At g c = record {
+  value = rw c.in-At.is (serves_surely c.in-At.moment _ _ _ c.set_moment.ensures.value);
+  counts = rw c.in-At.is c.set_moment.ensures.counts;
+}
 
 pub returns-in-Pin : goal.returns-in-Pin
 returns-in-Pin g c = record {
   value = rw (c.in-Pin.is, c.told-in-Pin.ensures.value) (tells _ _ _ _ refl _ c.pin.ensures.ok c.pin.ensures.err);
+  counts = rw c.in-Pin.is c.pin.ensures.counts;
 }
 
 pub returns-in-Unpin : goal.returns-in-Unpin
 returns-in-Unpin g c = record {
   value = rw (c.in-Unpin.is, c.told-in-Unpin.ensures.value) (tells_surely _ _ _ _ refl _ c.unpin.ensures.ok c.unpin.ensures.err);
+  counts = rw c.in-Unpin.is c.unpin.ensures.counts;
 }
 
 pub returns-in-Text : goal.returns-in-Text
 returns-in-Text g c = record {
   value = rw (c.in-Text.is, c.told_text.ensures.value) (tells_text _ _ _ _ (ap step.TextOf c.as_str-in-Text.ensures.value) _ c.text_of.ensures.ok c.text_of.ensures.err);
+  counts = rw c.in-Text.is refl;
 }
 
 pub returns-in-Todo : goal.returns-in-Todo
 returns-in-Todo g c = record {
   value = rw c.in-Todo.is (shows _ _ _ _ _ c.ask.result (λ question asks. (question, asks, refl)) c.ask.ensures.value);
+  counts = rw c.in-Todo.is c.ask.ensures.counts;
 }
 
 pub returns-in-Match : goal.returns-in-Match
@@ -54,6 +70,7 @@ returns-in-Match g c =
     record {
       value = rw c.in-Match.is (shows _ _ _ _ _ c.ask-in-Match.result
           (λ question asks. (question, subst (λ t. AsksOf (λ today q. AsksMatch t q) (step.world_asked c.in-Match.session s.world s.pins) question) c.as_str-in-Match.ensures.value asks, refl)) c.ask-in-Match.ensures.value);
+      counts = rw c.in-Match.is c.ask-in-Match.ensures.counts;
     }
 
 pub returns-in-Agenda : goal.returns-in-Agenda
@@ -62,6 +79,7 @@ returns-in-Agenda g c =
     record {
       value = rw c.in-Agenda.is (shows _ _ _ _ _ c.ask-in-Agenda.result
           (λ question asks. (question, subst (λ t. AsksOf (λ today q. q ≡ asked_agenda t c.in-Agenda.days) (step.world_asked c.in-Agenda.session s.world s.pins) question) c.as_str-in-Agenda.ensures.value asks, refl)) c.ask-in-Agenda.ensures.value);
+      counts = rw c.in-Agenda.is c.ask-in-Agenda.ensures.counts;
     }
 
 pub returns-in-Clock : goal.returns-in-Clock
@@ -70,4 +88,5 @@ returns-in-Clock g c =
     record {
       value = rw c.in-Clock.is (shows _ _ _ _ _ c.ask-in-Clock.result
           (λ question asks. (question, subst (λ t. AsksOf (λ today q. AsksTable t today q) (step.world_asked c.in-Clock.session s.world s.pins) question) c.as_str-in-Clock.ensures.value asks, refl)) c.ask-in-Clock.ensures.value);
+      counts = rw c.in-Clock.is c.ask-in-Clock.ensures.counts;
     }
