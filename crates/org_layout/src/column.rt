@@ -84,3 +84,15 @@ fn push_text(out: &mut String, text: &str) -> Result<(), AllocError>
     out.push_str(text)?;
     Ok(())
 }
+
+// Puts a text at the end. Where nothing stands the text itself takes the place, so that a view is held once.
+pub(crate) fn put_behind(out: &mut String, text: String) -> Result<(), AllocError>
+    ensures ok { OnOk result (string_bytes out.new ≡ string_bytes out.old ++ string_bytes text) }
+    ensures err { OnErr result (string_bytes out.new ≡ string_bytes out.old) }
+{
+    if out.is_empty() {
+        *out = text;
+        return Ok(());
+    }
+    out.push_str(text.as_str())
+}

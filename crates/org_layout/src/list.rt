@@ -3,6 +3,7 @@ ghost use Rattle.std.specs.Prelude.{◌≡◌, ◌++◌, string_bytes, IfOk, OnO
 ghost use Rattle.org_base.specs.Codes.{memory_fault};
 ghost use Rattle.org_layout.specs.Lines.{list_lines};
 
+use crate::column::put_behind;
 use crate::line::{LineTexts, push_row};
 use org_agenda::Row;
 use org_base::Fault;
@@ -23,7 +24,7 @@ pub fn list_text(
     ensures memory { IsOkUnless result memory_fault }
 {
     let text = list_of(alloc, rows, inherits)?;
-    out.push_str(text.as_str())?;
+    put_behind(out, text)?;
     Ok(())
 }
 

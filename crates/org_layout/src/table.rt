@@ -3,7 +3,7 @@ ghost use Rattle.std.specs.Prelude.{◌≡◌, ◌<◌, ◌++◌, length, slice_
 ghost use Rattle.org_base.specs.Codes.{memory_fault};
 ghost use Rattle.org_layout.specs.Tables.{effort_column, file_name, file_title, name_text, step_line, step_lines, sum_column, table_line, table_lines, title_at, title_of};
 
-use crate::column::{push_bytes, push_padded, push_spaces};
+use crate::column::{push_bytes, push_padded, push_spaces, put_behind};
 use org_base::Fault;
 use org_cal::{Period, push_date, push_two};
 use org_clocktable::{Of, TableRow};
@@ -28,7 +28,7 @@ pub fn table_text(
     ensures memory { IsOkUnless result memory_fault }
 {
     let text = table_of(alloc, inherits, with_effort, period, rows)?;
-    out.push_str(text.as_str())?;
+    put_behind(out, text)?;
     Ok(())
 }
 
