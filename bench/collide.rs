@@ -17,7 +17,7 @@ const MOST_GROWTH: f64 = 2.5;
 const MOST_SECONDS: f64 = 0.3;
 
 // Names collide whose hashes agree in so many low bits, by which a map chooses the place where it begins to look.
-const BITS: u32 = 12;
+const BITS: u32 = 10;
 const LETTERS: &[u8; 36] = b"abcdefghijklmnopqrstuvwxyz0123456789";
 const LEN: usize = 6;
 
