@@ -4,7 +4,7 @@ PARTS = crates/org_measure/out/org_measure
 SOURCES = $(shell find crates -name out -prune -o -type f \( -name '*.rt' -o -name '*.antt' \) -print) crates.txt
 PREFIX ?= /usr/local
 
-.PHONY: run try build check changed test rows bench install clean
+.PHONY: run try build check changed test rows bench collide install clean
 
 # Builds the program where it isn't fresh, and runs the first example.
 run: $(PROGRAM)
@@ -48,9 +48,16 @@ rows: $(PROGRAM) $(PARTS)
 bench: $(PROGRAM) $(PARTS)
 	@sh bench/run.sh $(PROGRAM) $(PARTS)
 
+# What names that collide under a hash cost; fails where that is too much.
+collide: $(PROGRAM)
+	@mkdir -p bench/out
+	@rustc -O -o bench/out/collide bench/collide.rs && bench/out/collide $(PROGRAM)
+
 install: $(PROGRAM)
 	@mkdir -p "$(PREFIX)/bin"
 	@install -m 755 $(PROGRAM) "$(PREFIX)/bin/orgviews"
+	@mkdir -p "$(PREFIX)/share/man/man1"
+	@install -m 644 docs/orgviews.1 "$(PREFIX)/share/man/man1/orgviews.1"
 	@sha256sum "$(PREFIX)/bin/orgviews"
 
 clean:

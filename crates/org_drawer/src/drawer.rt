@@ -9,7 +9,7 @@ use crate::node::node_of;
 use org_base::{Fault, Texts};
 use std::alloc::Global;
 
-/// The properties of a drawer, each name with its value. `get` takes no memory.
+/// The properties of a drawer, each name with its value. `get` is never refused.
 pub use org_base::Properties as Drawer;
 
 /// The properties that node lines give (Org Syntax, "Property Drawers"): a line's first word is `:NAME:` or `:NAME+:`,

@@ -88,8 +88,8 @@ impl OwnProperties {
         })
     }
 
-    /// What a name has, lent; None where the drawer doesn't name it. Letter case doesn't count. It takes no memory, and is
-    /// linear in the number of names.
+    /// What a name has, lent; None where the drawer doesn't name it. Letter case doesn't count. It is never
+    /// refused, and takes time as the logarithm of the number of names.
     pub fn get(&self, name: &[u8]) -> Option<&[u8]>
         ensures value { option_map (λ text. text.now) result ≡ value_in self.now name.now }
     {

@@ -121,7 +121,8 @@ impl Settings {
     }
 
     /// The value that the file gives to a name, lent; it may be empty. None where the file doesn't give it. Letter case
-    /// doesn't count. It is linear in the number of names (Org manual 9.6, "Property Syntax").
+    /// doesn't count. It is never refused, and takes time as the logarithm of the number of names (Org manual 9.6,
+    /// "Property Syntax").
     pub fn property(&self, name: &[u8]) -> Option<&[u8]>
         ensures value { option_map (λ x. x.now) result ≡ value_in self.now.properties name.now }
     {

@@ -16,6 +16,7 @@ mod names;
 mod next;
 mod parse;
 mod reply;
+mod reply_line;
 mod room;
 mod serve;
 mod whole;

@@ -1,9 +1,9 @@
 //! Replies, and how they are written.
-ghost use Rattle.std.specs.Prelude.{◌≡◌, ◌++◌, true, decimal, codes, is_ok, length, OnOk, IsOkUnless};
-ghost use Rattle.org_wire.specs.Replies.{Wrote, CountsWrite, extra_of, fault_bytes, reply_bytes, device_fault};
+ghost use Rattle.std.specs.Prelude.{◌≡◌, ◌++◌, true, is_ok, OnOk, IsOkUnless};
+ghost use Rattle.org_wire.specs.Replies.{Wrote, CountsWrite, reply_bytes, device_fault};
 
 use crate::counted::Counted;
-use crate::digits::{MOST_DIGITS, put_digits};
+use crate::reply_line::ReplyLine;
 use org_base::{Bytes, Code, Fault};
 use std::io::Write;
 
@@ -33,72 +33,20 @@ fn write_bytes<W: Write>(writer: &mut Counted<W>, bytes: &[u8]) -> bool
     true
 }
 
-fn write_number<W: Write>(writer: &mut Counted<W>, number: u64) -> bool
-    ensures value { Wrote result (W.contents writer.old.inner) (W.contents writer.new.inner) (decimal number) }
+// Writes a line and the text behind it, the front of the text with the line.
+fn write_behind<W: Write>(writer: &mut Counted<W>, mut line: ReplyLine, text: &[u8]) -> bool
+    ensures value { Wrote result (W.contents writer.old.inner) (W.contents writer.new.inner) (line ++ text.now) }
     ensures counted { CountsWrite result writer.old.failed writer.new.failed }
 {
-    let mut room = [0; MOST_DIGITS];
-    let at = put_digits(number, &mut room);
-    write_bytes(writer, &room[at..])
-}
-
-// Writes a number between two texts.
-fn write_numbered<W: Write>(
-    writer: &mut Counted<W>,
-    before: &[u8],
-    number: u64,
-    after: &[u8],
-) -> bool
-    ensures value { Wrote result (W.contents writer.old.inner) (W.contents writer.new.inner) (before.now ++ (decimal number ++ after.now)) }
-    ensures counted { CountsWrite result writer.old.failed writer.new.failed }
-{
-    if !write_bytes(writer, before) {
+    let count = line.fill(text);
+    if !write_bytes(writer, line.as_slice()) {
         return false;
     }
-    if !write_number(writer, number) {
-        return false;
-    }
-    write_bytes(writer, after)
+    write_bytes(writer, &text[count..])
 }
 
-// Writes what follows a code's name.
-fn write_extra<W: Write>(writer: &mut Counted<W>, fault: Fault) -> bool
-    ensures value { Wrote result (W.contents writer.old.inner) (W.contents writer.new.inner) (extra_of fault ++ codes "\n") }
-    ensures counted { CountsWrite result writer.old.failed writer.new.failed }
-{
-    match fault {
-        Fault::Plain(_) => write_bytes(writer, b"\n"),
-        Fault::Stale(serial) => write_numbered(writer, b" ", serial, b"\n"),
-        Fault::MatchAt(at) => write_numbered(writer, b" ", u64::from(at), b"\n"),
-    }
-}
-
-fn write_fault<W: Write>(writer: &mut Counted<W>, fault: Fault) -> bool
-    ensures value { Wrote result (W.contents writer.old.inner) (W.contents writer.new.inner) (fault_bytes fault) }
-    ensures counted { CountsWrite result writer.old.failed writer.new.failed }
-{
-    let code = fault.code();
-    if !write_numbered(writer, b"err ", u64::from(code.number()), b" ") {
-        return false;
-    }
-    if !write_bytes(writer, code.name().as_bytes()) {
-        return false;
-    }
-    write_extra(writer, fault)
-}
-
-fn write_shown<W: Write>(writer: &mut Counted<W>, text: &[u8]) -> bool
-    ensures value { Wrote result (W.contents writer.old.inner) (W.contents writer.new.inner) ((codes "view " ++ (decimal (length text.now) ++ codes "\n")) ++ text.now) }
-    ensures counted { CountsWrite result writer.old.failed writer.new.failed }
-{
-    if !write_numbered(writer, b"view ", text.len() as u64, b"\n") {
-        return false;
-    }
-    write_bytes(writer, text)
-}
-
-/// Writes a reply and flushes, without memory. `Device` where a call failed or wrote nothing; then a front of the reply
-/// was written, and nothing more is.
+/// Writes a reply and flushes, without memory: its line at once with the front of a view's text, and then the rest of that.
+/// `Device` where a call failed or wrote nothing; then a front of the reply was written, and nothing more is.
 pub fn write_reply<W: Write>(writer: &mut Counted<W>, reply: &Reply) -> Result<(), Fault>
     ensures value { Wrote (is_ok result) (W.contents writer.old.inner) (W.contents writer.new.inner) (reply_bytes reply.now) }
     ensures counted { CountsWrite (is_ok result) writer.old.failed writer.new.failed }
@@ -106,9 +54,12 @@ pub fn write_reply<W: Write>(writer: &mut Counted<W>, reply: &Reply) -> Result<(
     ensures device { IsOkUnless result device_fault }
 {
     let is_written = match reply {
-        Reply::Serial(serial) => write_numbered(writer, b"ok ", *serial, b"\n"),
-        Reply::Shown(text) => write_shown(writer, text.as_slice()),
-        Reply::Refused(fault) => write_fault(writer, *fault),
+        Reply::Serial(serial) => { write_bytes(writer, ReplyLine::of_serial(*serial).as_slice()) }
+        Reply::Shown(text) => {
+            let text = text.as_slice();
+            write_behind(writer, ReplyLine::of_view(text.len() as u64), text)
+        }
+        Reply::Refused(fault) => write_bytes(writer, ReplyLine::of_fault(*fault).as_slice()),
     };
     if !is_written {
         return Err(Fault::Plain(Code::Device));
