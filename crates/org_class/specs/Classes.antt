@@ -1,6 +1,6 @@
 -- The class of each line of a section (Org Syntax, Sections, Planning, Property Drawers; where a drawer may stand before
 -- the first heading: profile). A section that doesn't begin with a heading line is the one before the first heading.
-use Rattle.std.specs.Prelude.{ℕ, Bool, true, false, ◌||◌, if◌then◌else◌, List, [], ◌∷◌, map, Option, Some, None}
+use Rattle.std.specs.Prelude.{◌≡◌, ◌++◌, ℕ, Bool, true, false, ◌||◌, if◌then◌else◌, List, [], ◌∷◌, map, Option, Some, None}
 use Rattle.std.specs.List.{flat_map}
 use Rattle.org_base.specs.Words.{is_blank}
 use Rattle.org_lines.specs.Cuts.{lines}

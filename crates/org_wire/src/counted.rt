@@ -9,7 +9,7 @@ use std::io;
 use std::io::{Read, Write};
 
 /// A reader or a writer, how often it was called and how often a call failed. A count stops at 2^64 - 1. Of a writer it
-/// knows whether all that was written was flushed.
+/// knows whether all that was written was flushed. It is never called behind a call that failed.
 #[derive(Drop)]
 pub struct Counted<D> {
     inner: D,
@@ -76,7 +76,8 @@ impl<R: Read> Counted<R> {
 impl<W: Write> Counted<W> {
     /// Writes some of the bytes. A write of none is a failure.
     pub(crate) fn write(&mut self, buf: &[u8]) -> io::Result<usize>
-        requires { 0 < length buf.now }
+        requires some { 0 < length buf.now }
+        requires fresh { self.old.failed ≡ 0 }
         ensures bound { WritesAtMost result buf.now }
         ensures some { IfOk result (λ count. 0 < count) }
         ensures ok { OnOk result (WriteAppends (W.contents self.old.inner) (W.contents self.new.inner) result buf.now) }
@@ -101,6 +102,7 @@ impl<W: Write> Counted<W> {
 
     /// One flush, which leaves the bytes as they are.
     pub(crate) fn flush(&mut self) -> io::Result<()>
+        requires fresh { self.old.failed ≡ 0 }
         ensures unchanged { Keeps (W.contents self.old.inner) (W.contents self.new.inner) }
         ensures flushed { OnOk result (self.new.is_flushed ≡ true) }
         ensures calls { self.new.calls ≡ one_more self.old.calls }

@@ -20,6 +20,7 @@ pub enum Reply {
 
 // Writes all the bytes. After a failure nothing more is written.
 fn write_bytes<W: Write>(writer: &mut Counted<W>, bytes: &[u8]) -> bool
+    requires fresh { writer.old.failed ≡ 0 }
     ensures value { Wrote result (W.contents writer.old.inner) (W.contents writer.new.inner) bytes.now }
     ensures counted { CountsWrite result writer.old.failed writer.new.failed }
 {
@@ -35,6 +36,7 @@ fn write_bytes<W: Write>(writer: &mut Counted<W>, bytes: &[u8]) -> bool
 
 // Writes a line and the text behind it, the front of the text with the line.
 fn write_behind<W: Write>(writer: &mut Counted<W>, mut line: ReplyLine, text: &[u8]) -> bool
+    requires fresh { writer.old.failed ≡ 0 }
     ensures value { Wrote result (W.contents writer.old.inner) (W.contents writer.new.inner) (line ++ text.now) }
     ensures counted { CountsWrite result writer.old.failed writer.new.failed }
 {
@@ -46,8 +48,10 @@ fn write_behind<W: Write>(writer: &mut Counted<W>, mut line: ReplyLine, text: &[
 }
 
 /// Writes a reply and flushes, without memory: its line at once with the front of a view's text, and then the rest of that.
-/// `Device` where a call failed or wrote nothing; then a front of the reply was written, and nothing more is.
+/// `Device` where a call failed or wrote nothing; then a front of the reply was written, and nothing more is. No call of
+/// the writer has failed before.
 pub fn write_reply<W: Write>(writer: &mut Counted<W>, reply: &Reply) -> Result<(), Fault>
+    requires fresh { writer.old.failed ≡ 0 }
     ensures value { Wrote (is_ok result) (W.contents writer.old.inner) (W.contents writer.new.inner) (reply_bytes reply.now) }
     ensures counted { CountsWrite (is_ok result) writer.old.failed writer.new.failed }
     ensures flushed { OnOk result (writer.new.is_flushed ≡ true) }

@@ -107,6 +107,7 @@ fn run_over<R: Read, W: Write, T: Text>(
 
 // Writes the fault at which the stream stops, which is none of a device.
 fn stop<W: Write>(writer: &mut Counted<W>, fault: Fault) -> End
+    requires fresh { writer.old.failed ≡ 0 }
     requires no_memory { code_of fault ≡ Code.Memory → ⊥ }
     requires no_device { fault ≡ Fault.Plain Code.Device → ⊥ }
     ensures no_memory { result ≡ End.Stopped Code.Memory → ⊥ }
@@ -124,6 +125,7 @@ fn stop<W: Write>(writer: &mut Counted<W>, fault: Fault) -> End
 
 // Writes a reply and lets it go.
 fn tell<W: Write>(writer: &mut Counted<W>, reply: Reply) -> bool
+    requires fresh { writer.old.failed ≡ 0 }
     ensures value { Wrote result (W.contents writer.old.inner) (W.contents writer.new.inner) (reply_bytes reply) }
     ensures counted { CountsWrite result writer.old.failed writer.new.failed }
     ensures flushed { result ≡ true → writer.new.is_flushed ≡ true }
