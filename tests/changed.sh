@@ -93,6 +93,7 @@ if [ -z "$stopped" ]; then
         [ -n "$(ls "crates/$crate/must-fail" 2> /dev/null)" ] || continue
         step "the must-fail edits of $crate" . rt must-fail "$crate"
     done
+    step "what docs/definitions.md names" . sh tests/shown.sh
     step "the worked streams" . make --no-print-directory rows
 fi
 

@@ -1,5 +1,6 @@
 #!/bin/sh
-# The whole gate. The last line is 'N passed, M failed', over the checks of `rt ci` and the worked streams together.
+# The whole gate. The last line is 'N passed, M failed', over the checks of `rt ci`, what docs/definitions.md names and the
+# worked streams together.
 cd "$(dirname "$0")/.." || exit 2
 work=$(mktemp -d) || exit 2
 trap 'rm -rf "$work"' EXIT
@@ -18,6 +19,18 @@ passed=${passed:-0}
 failed=${failed:-1}
 if [ "$ci" -ne 0 ] && [ "$failed" -eq 0 ]; then
     failed=1
+fi
+
+echo "gate: what docs/definitions.md names"
+sh tests/shown.sh > "$work/shown"
+shown=$?
+cat "$work/shown"
+shown_passed=$(sed -n 's/^shown: \([0-9]*\) passed.*/\1/p' "$work/shown")
+shown_failed=$(sed -n 's/^shown: .*, \([0-9]*\) failed$/\1/p' "$work/shown")
+shown_passed=${shown_passed:-0}
+shown_failed=${shown_failed:-1}
+if [ "$shown" -ne 0 ] && [ "$shown_failed" -eq 0 ]; then
+    shown_failed=1
 fi
 
 echo "gate: the worked streams over the program that was just built, and over texts in one string"
@@ -40,5 +53,5 @@ tests=$(grep -c ': its tests are proved$' "$work/log")
 edits=$(grep -c '^rt: must-fail ' "$work/log")
 echo "gate: $processor processor minutes in $((($(date +%s) - start) / 60)) minutes: $proofs crates proved, $tests with tests, $edits must-fail edits"
 
-echo "$((passed + row_passed)) passed, $((failed + row_failed)) failed"
-[ $((failed + row_failed)) -eq 0 ]
+echo "$((passed + shown_passed + row_passed)) passed, $((failed + shown_failed + row_failed)) failed"
+[ $((failed + shown_failed + row_failed)) -eq 0 ]

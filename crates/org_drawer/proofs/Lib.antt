@@ -5,3 +5,4 @@ pub mod NodeLemmas
 pub mod PlanningLemmas
 pub mod ReadLemmas
 mod SpelledLemmas
+mod ThereLemmas

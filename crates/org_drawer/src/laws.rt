@@ -1,7 +1,12 @@
 //! Laws of the definitions. Each is a function without parameters whose contract is the law.
-ghost use Rattle.org_drawer.specs.Laws.{DrawersHaveValues, EffortsAreSpelled, MinutesAreCounted, NodesAreSpelled, PiecesMakeTheWhole, ReversedClocksHaveNone};
+ghost use Rattle.org_drawer.specs.Laws.{DrawersHaveValues, EffortsAreSpelled, MinutesAreCounted, NodesAreSpelled, PiecesMakeTheWhole, PlanningIsThere, ReversedClocksHaveNone};
 
 use org_base::values_are_of_their_names;
+
+/// What stands in a planning line where a kept stamp has its part is that stamp, and nothing else.
+pub fn planning_is_there()
+    ensures { PlanningIsThere }
+{}
 
 /// A line gives a name and a value exactly where its first word is `:NAME:`, or `:NAME+:` for an appended value, NAME not
 /// empty and not ending in `+`, and the value is the trimmed rest.

@@ -1,0 +1,64 @@
+#!/bin/sh
+# Checks docs/definitions.md: that each file that a row names is there and holds the row's definitions, and that each law,
+# must-fail edit, test and worked stream by which a row is shown exists. Says which are missing and how many rows nothing
+# shows; the last line counts.
+cd "$(dirname "$0")/.." || exit 2
+page=docs/definitions.md
+named=$(mktemp) || exit 2
+trap 'rm -f "$named"' EXIT
+
+# One line for each name: what it is, the name, and for a definition the row's files.
+awk -F'|' '
+    function names(cell, into,    count, i, parts) {
+        count = split(cell, parts, "`")
+        for (i = 2; i <= count; i += 2) into[i / 2] = parts[i]
+        return int(count / 2)
+    }
+    /^\| `/ {
+        if (NF != 7) { print "row", NR; next }
+        count = names($3, files)
+        folder = files[1]
+        sub(/[^\/]*$/, "", folder)
+        list = ""
+        for (i = 1; i <= count; i++) {
+            path = "crates/" (files[i] ~ /\// ? files[i] : folder files[i])
+            print "file", path
+            list = list " " path
+        }
+        count = names($2, words)
+        for (i = 1; i <= count; i++) print "definition", words[i] list
+        if ($6 ~ /^ *- *$/) { print "nothing", words[1]; next }
+        count = split($6, kinds, ";")
+        for (i = 1; i <= count; i++) {
+            split(kinds[i], first, " ")
+            many = names(kinds[i], shown)
+            if (many == 0) print "row", NR
+            for (k = 1; k <= many; k++) print first[1], shown[k]
+        }
+    }
+' "$page" > "$named"
+
+passed=0
+failed=0
+nothing=0
+while read -r kind name files; do
+    case $kind in
+        file) [ -f "$name" ] ;;
+        definition) grep -qw -- "$name" $files 2>/dev/null ;;
+        law) grep -q "^pub fn ${name##*::}()" "crates/${name%%::*}"/src/*.rt 2>/dev/null ;;
+        edit) [ -f "crates/${name%%/*}/must-fail/${name#*/}.edit" ] ;;
+        test) grep -h -A1 '^#\[test\]' "crates/org_tests/src/${name%%::*}.rt" "crates/org_sequence_tests/src/${name%%::*}.rt" 2>/dev/null | grep -q "^fn ${name##*::}(" ;;
+        stream) [ -f "tests/rows/$name.stdout" ] ;;
+        nothing) nothing=$((nothing + 1)) ;;
+        *) false ;;
+    esac
+    if [ $? -eq 0 ]; then
+        passed=$((passed + 1))
+    else
+        echo "$page: $kind $name is missing"
+        failed=$((failed + 1))
+    fi
+done < "$named"
+echo "shown: $nothing rows that nothing shows"
+echo "shown: $passed passed, $failed failed"
+[ "$failed" -eq 0 ] && [ "$passed" -gt 0 ]
