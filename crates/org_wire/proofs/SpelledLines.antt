@@ -89,9 +89,10 @@ inherit_says : (line names : List ℕ) → line ≡ codes "inherit" ++ (32 ∷ n
 inherit_says line names e = choose line (is_utf8 names && are_words 32 true names) (Plainly (Inherit (words_from 32 [] names))) Bad (λ y.
     let b = both (is_utf8 names) (are_words 32 true names) y in
     let w = words_there 32 names b.1 in
-    let words : List (List ℕ) = words_from 32 [] names in
-    (e ∙ ap (λ t. codes "inherit" ++ (32 ∷ t)) w.0 ∙ sym (parted_more 32 (codes "inherit") words (some_word 32 [] names)),
-     (w.1, subst IsUtf8 w.0 (IsUtf8-from_is_utf8 names b.0)))) tt
+    let words : List (List ℕ) = words_from 32 [] names in (
+      e ∙ ap (λ t. codes "inherit" ++ (32 ∷ t)) w.0 ∙ sym (parted_more 32 (codes "inherit") words (some_word 32 [] names)),
+      (w.1, subst IsUtf8 w.0 (IsUtf8-from_is_utf8 names b.0)),
+    )) tt
 
 inherit_alone : (line : List ℕ) → line ≡ codes "inherit" → Spelled (Plainly (Inherit [])) line
 inherit_alone line e = (e, (All-nil _, IsUtf8-nil))
@@ -195,9 +196,10 @@ todo_says session view line words whole e = choose line (is_utf8 words && is_wor
     let a = both (is_utf8 words && is_word words) (are_words 124 true words) y in
     let b = both (is_utf8 words) (is_word words) a.0 in
     let w = words_there 124 words a.1 in
-    let parts : codes "todo" ∷ keyword_parts keywords ≡ codes "todo" ∷ (parted 124 keywords ∷ []) = ap (λ p. codes "todo" ∷ p) (keywords_parted keywords (some_word 124 [] words)) in
-    (subst (λ (p : List (List ℕ)). IsView session p line) (sym parts) (view_is session (codes "todo" ∷ (parted 124 keywords ∷ [])) view line (omega arith) whole (e ∙ ap (λ t. codes "todo" ++ (32 ∷ t)) w.0)),
-     (w.1, subst (λ (t : List ℕ). All (λ b. b ≢ 32) t) w.0 (others 32 words b.1), subst IsUtf8 w.0 (IsUtf8-from_is_utf8 words b.0)))) tt
+    let parts : codes "todo" ∷ keyword_parts keywords ≡ codes "todo" ∷ (parted 124 keywords ∷ []) = ap (λ p. codes "todo" ∷ p) (keywords_parted keywords (some_word 124 [] words)) in (
+      subst (λ (p : List (List ℕ)). IsView session p line) (sym parts) (view_is session (codes "todo" ∷ (parted 124 keywords ∷ [])) view line (omega arith) whole (e ∙ ap (λ t. codes "todo" ++ (32 ∷ t)) w.0)),
+      (w.1, subst (λ (t : List ℕ). All (λ b. b ≢ 32) t) w.0 (others 32 words b.1), subst IsUtf8 w.0 (IsUtf8-from_is_utf8 words b.0)),
+    )) tt
 
 match_says : (session : Option ℕ) (view line text : List ℕ) → Whole session view line → view ≡ codes "match" ++ (32 ∷ text) → Spelled (match_line session text) line
 match_says session view line text whole e = choose line (is_utf8 text) (Plainly (Match session text)) Bad (λ y.
