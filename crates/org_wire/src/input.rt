@@ -1,5 +1,5 @@
 //! What is read of a stream.
-ghost use Rattle.std.specs.Prelude.{◌≡◌, [], ◌++◌, true, IfOk, IfSome, List, OnErr, ℕ, IsOkUnless};
+ghost use Rattle.std.specs.Prelude.{◌≡◌, [], ◌++◌, true, IfOk, IfSome, List, ℕ, IsOkUnless};
 ghost use Rattle.org_base.specs.Codes.{memory_fault};
 
 use crate::command::{Command, Frame, Next, framed};
@@ -77,12 +77,12 @@ impl<'a, R: Read> Input<'a, R> {
     ghost use Rattle.org_wire.specs.declared.command.Frame.{Frame};
     ghost use Rattle.org_wire.specs.Stream.{IsRead, after_line, line_of, Framed};
 
-    /// A stream over a reader. Want of memory for a line or for what is read ahead is its only refusal; nothing is read.
+    /// A stream over a reader. Want of memory for a line or for what is read ahead is its only refusal. The reader
+    /// isn't called: a call would have to know that none has failed.
     pub fn new(alloc: Global, reader: &'a mut Counted<R>) -> Result<Input<'a, R>, Fault>
         ensures reader { IfOk result (λ input. input.reader.now ≡ reader.old) }
         ensures room { IfOk result (λ input. input.room ≡ []) }
         ensures same_reference { IfOk result (λ input. input.reader.ghost_name ≡ reader.entry.ghost_name) }
-        ensures err { OnErr result (reader.new ≡ reader.old) }
         ensures memory { IsOkUnless result memory_fault }
     {
         let line = LineBuffer::new(alloc)?;

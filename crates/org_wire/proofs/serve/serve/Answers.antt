@@ -25,7 +25,7 @@ returns-in-Edit g c = record {
 pub returns-in-Complete : goal.returns-in-Complete
 returns-in-Complete g c = record {
   value = rw c.in-Complete.is (rw c.as_str-in-Complete.ensures.value at c.complete.ensures.value);
-  counts = rw c.in-Complete.is (rw c.as_str-in-Complete.ensures.value at c.complete.ensures.counts);
+  counts = rw c.in-Complete.is c.complete.ensures.counts;
 }
 
 pub returns-in-Inherit : goal.returns-in-Inherit
