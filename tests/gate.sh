@@ -21,29 +21,29 @@ if [ "$ci" -ne 0 ] && [ "$failed" -eq 0 ]; then
     failed=1
 fi
 
+# Runs a script of tests/ whose last line counts, shows what it wrote, and adds up what it counted.
+counted() {
+    name=$1
+    shift
+    sh "tests/$name.sh" "$@" > "$work/$name"
+    status=$?
+    cat "$work/$name"
+    more_passed=$(sed -n "s/^$name: \([0-9]*\) passed.*/\1/p" "$work/$name")
+    more_failed=$(sed -n "s/^$name: .*, \([0-9]*\) failed$/\1/p" "$work/$name")
+    more_passed=${more_passed:-0}
+    more_failed=${more_failed:-1}
+    if [ "$status" -ne 0 ] && [ "$more_failed" -eq 0 ]; then
+        more_failed=1
+    fi
+    passed=$((passed + more_passed))
+    failed=$((failed + more_failed))
+}
+
 echo "gate: what docs/definitions.md names"
-sh tests/shown.sh > "$work/shown"
-shown=$?
-cat "$work/shown"
-shown_passed=$(sed -n 's/^shown: \([0-9]*\) passed.*/\1/p' "$work/shown")
-shown_failed=$(sed -n 's/^shown: .*, \([0-9]*\) failed$/\1/p' "$work/shown")
-shown_passed=${shown_passed:-0}
-shown_failed=${shown_failed:-1}
-if [ "$shown" -ne 0 ] && [ "$shown_failed" -eq 0 ]; then
-    shown_failed=1
-fi
+counted shown
 
 echo "gate: the worked streams over the program that was just built, and over texts in one string"
-sh tests/rows.sh crates/orgviews/out/orgviews crates/org_measure/out/org_measure > "$work/rows"
-rows=$?
-cat "$work/rows"
-row_passed=$(sed -n 's/^rows: \([0-9]*\) passed.*/\1/p' "$work/rows")
-row_failed=$(sed -n 's/^rows: .*, \([0-9]*\) failed$/\1/p' "$work/rows")
-row_passed=${row_passed:-0}
-row_failed=${row_failed:-1}
-if [ "$rows" -ne 0 ] && [ "$row_failed" -eq 0 ]; then
-    row_failed=1
-fi
+counted rows crates/orgviews/out/orgviews crates/org_measure/out/org_measure
 
 # What it cost: user and system time of all that was run, then how much of what.
 times > "$work/times"
@@ -53,5 +53,5 @@ tests=$(grep -c ': its tests are proved$' "$work/log")
 edits=$(grep -c '^rt: must-fail ' "$work/log")
 echo "gate: $processor processor minutes in $((($(date +%s) - start) / 60)) minutes: $proofs crates proved, $tests with tests, $edits must-fail edits"
 
-echo "$((passed + shown_passed + row_passed)) passed, $((failed + shown_failed + row_failed)) failed"
-[ $((failed + shown_failed + row_failed)) -eq 0 ]
+echo "$passed passed, $failed failed"
+[ "$failed" -eq 0 ]
