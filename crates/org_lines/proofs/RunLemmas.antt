@@ -1,5 +1,5 @@
 -- The first line of a span, and the rest, in what a text lends.
-use Rattle.std.proofs.Common.{◌≡◌, ◌≢◌, ℕ, ◌+◌, ◌-◌, ◌<◌, ◌≤◌, List, ◌∷◌, length, nat_le, take, drop, min, slice_index, refl, sym, ap, ◌∙◌, arith, length-take, length-drop}
+use Rattle.std.proofs.Common.{◌≡◌, ℕ, ◌+◌, ◌-◌, ◌<◌, ◌≤◌, List, ◌∷◌, length, nat_le, take, drop, slice_index, sym, ap, ◌∙◌, arith, length-take, length-drop}
 use Rattle.std.specs.List.{slice_range}
 use Rattle.std.proofs.lemmas.List.{drop-drop, take-take, drop-take, get_or-take, get_or-drop}
 use Rattle.org_base.specs.declared.span.Span.{Span}
@@ -21,16 +21,16 @@ run_rest run_len c span run n is lt =
     let all : ℕ = length run in
     let rest : List ℕ = take (all - n) (drop n run) in
     let size : length rest ≡ all - n = omega (arith, length-take (all - n) (drop n run), length-drop n run) in
-    let later : run_len (span.at + n) ≡ run_len span.at - n = is.goes_on n (omega arith) in
+    let later : run_len (span.at + n) ≡ run_len span.at - n = is.goes_on n (omega arith) (omega arith) in
     let split : all ≡ n + (all - n) = omega arith in
     let moved : drop n run ≡ take (all - n) (drop (span.at + n) c) =
     ap (drop n) is.bytes ∙ (ap (λ m. drop n (take m (drop span.at c))) split ∙ (drop-take n (all - n) (drop span.at c) ∙ ap (take (all - n)) (drop-drop n span.at c))) in
     record {
       len = omega arith;
       bytes = ap (take (all - n)) moved ∙ (take-take (all - n) (all - n) (drop (span.at + n) c) (omega arith) ∙ ap (λ m. take m (drop (span.at + n) c)) (sym size));
-      goes_on = λ k h.
+      goes_on = λ k in_span h.
           let sum : span.at + n + k ≡ span.at + (n + k) = omega arith in
-          let whole : run_len (span.at + (n + k)) ≡ run_len span.at - (n + k) = is.goes_on (n + k) (omega arith) in
+          let whole : run_len (span.at + (n + k)) ≡ run_len span.at - (n + k) = is.goes_on (n + k) (omega arith) (omega arith) in
           ap run_len sum ∙ (whole ∙ omega arith);
     }
 

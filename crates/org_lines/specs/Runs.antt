@@ -3,11 +3,11 @@ use Rattle.std.specs.Prelude.{◌≡◌, ◌≢◌, ℕ, ◌+◌, ◌-◌, ◌<�
 use Rattle.std.specs.List.{slice_range}
 use Rattle.org_base.specs.declared.span.Span.{Span}
 
--- these are the bytes that a text lends of a span from its first on; a run goes on to its end from each place inside it
+-- these are the bytes that a text lends of a span from its first on; a run goes on to its end from each place of the span inside it
 pub record IsRun (run_len : ℕ → ℕ) (content : List ℕ) (span : Span) (run : List ℕ) : Type 0 where
   pub len : length run ≡ min (run_len span.at) span.len
   pub bytes : run ≡ take (length run) (drop span.at content)
-  pub goes_on : (k : ℕ) → k < run_len span.at → run_len (span.at + k) ≡ run_len span.at - k
+  pub goes_on : (k : ℕ) → k < span.len → k < run_len span.at → run_len (span.at + k) ≡ run_len span.at - k
 
 -- what is left of a span behind its first bytes
 abbrev pub behind : Span → ℕ → Span

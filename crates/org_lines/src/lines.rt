@@ -137,6 +137,9 @@ fn run_behind<'a, T: Text>(text: &'a T, span: Span, run: &'a [u8], len: u32) -> 
     let len_here = len as usize;
     if len_here < run.len() {
         &run[len_here..]
+    } else if len == span.len {
+        // Nothing is left, so the text isn't asked.
+        &[]
     } else {
         run_at(text, behind(span, len))
     }
