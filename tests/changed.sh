@@ -75,6 +75,7 @@ step() {
 }
 
 echo "changed: against $base:${code:- no code differs}"
+step "whether each must-fail edit can be applied" . sh tests/edits.sh
 left=""
 stopped=""
 for crate in $all; do
