@@ -2,7 +2,7 @@
 use Rattle.std.proofs.Common.{get_or, ◌+◌, ◌-◌, drop, drop-cons, length-drop, add-one, ◌≡◌, ℕ, List, [], ◌∷◌, ◌++◌, true, false, cond, ◌<◌, ◌≤◌, refl, ap, sym, ◌∙◌, length, take, arith, eq-eqb, eqb, append_assoc, append-nil, length-append}
 use Rattle.std.proofs.lemmas.Grind.{common_steps}
 use Rattle.std.specs.Prelude.{Option, None, Some, nat_lt}
-use Rattle.std.specs.Io.KnownBytes.{Consumes, IsAtEnd, Keeps}
+use Rattle.std.specs.Io.KnownBytes.{Consumes, IsAtEnd, Keeps, prepend_known}
 use Rattle.std.proofs.lemmas.Bool.{ne_eqb, ltb-true, ltb-false}
 use Rattle.std.proofs.lemmas.List.{take-append-drop, take_all, take-append-le}
 use Rattle.org_wire.specs.Lines.{Cut, cut_before, cut_at, longest}
@@ -15,6 +15,19 @@ consumes_more None b c xs ys h k = tt
 consumes_more (Some es) None c xs ys h k = absurd h
 consumes_more (Some es) (Some fs) None xs ys h k = absurd k
 consumes_more (Some es) (Some fs) (Some ks) xs ys h k = h ∙ ap (λ t. xs ++ t) k ∙ sym (append_assoc xs ys ks)
+
+-- nothing more was taken
+pub consumes_kept : (a b c : Option (List ℕ)) (xs : List ℕ) → Consumes a b xs → Keeps b c → Consumes a c xs
+consumes_kept None b c xs h k = tt
+consumes_kept (Some es) None c xs h k = absurd h
+consumes_kept (Some es) (Some fs) None xs h k = absurd k
+consumes_kept (Some es) (Some fs) (Some ks) xs h k = h ∙ ap (λ t. xs ++ t) (sym k)
+
+-- nothing was read ahead
+pub keeps_none : (room : List ℕ) (old new : Option (List ℕ)) → room ≡ [] → Keeps old new → Keeps (prepend_known room old) new
+keeps_none room None new none keeps = tt
+keeps_none room (Some xs) None none keeps = absurd keeps
+keeps_none room (Some xs) (Some ys) none keeps = keeps ∙ ap (λ t. t ++ xs) (sym none)
 
 cut_before-none : (x : ℕ) (o : Option Cut) → cut_before x o ≡ None → o ≡ None
 cut_before-none x None h = refl

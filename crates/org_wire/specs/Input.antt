@@ -14,6 +14,10 @@ use Rattle.org_wire.specs.declared.input.Input.{Input}
 abbrev pub left : {R : Type 0} → (R → Option (List ℕ)) → Input R → Option (List ℕ)
 left remaining input = prepend_known input.room (remaining input.reader.now.inner)
 
+-- the known bytes that its reader still holds
+abbrev pub held : {R : Type 0} → (R → Option (List ℕ)) → Input R → Option (List ℕ)
+held remaining input = remaining input.reader.now.inner
+
 -- how many bytes can still come, at most: one read gives less than the factor
 abbrev pub bytes_ahead : ℕ → List ℕ → ℕ
 bytes_ahead calls room = 65537 * (most_reads - calls) + length room

@@ -1,7 +1,7 @@
 -- A run: the replies to the commands of a stream, and the state after them (profile).
 use Rattle.std.specs.Prelude.{◌≡◌, List, [], ◌∷◌, ◌++◌, ℕ, Option, None, Some, flat_map}
 use Rattle.std.specs.Option.{option_to_list}
-use Rattle.std.specs.Io.KnownBytes.{Appends}
+use Rattle.std.specs.Io.KnownBytes.{Appends, Consumes}
 use Rattle.org_base.specs.Codes.{code_of, memory_fault}
 use Rattle.org_base.specs.declared.code.Code.TheVariants.{Device}
 use Rattle.org_cal.specs.Faults.{date_fault}
@@ -10,7 +10,7 @@ use Rattle.org_engine.specs.World.{State}
 use Rattle.org_engine.specs.Questions.{AsksMatch, AsksOf, AsksTable, asked_agenda}
 use Rattle.org_engine.specs.Step as step
 use Rattle.org_wire.specs.Replies.{reply_bytes, fault_bytes}
-use Rattle.org_wire.specs.Stream.{reading_of, IsReplaceable}
+use Rattle.org_wire.specs.Stream.{reading_of, IsReplaceable, IsUnfinished}
 use Rattle.org_wire.specs.declared.command.Command.{Command}
 use Rattle.org_wire.specs.declared.command.Command.TheVariants.{Add, Agenda, At, Clock, Complete, Drop, Edit, Inherit, Match, Pin, Text, Todo, Unpin}
 use Rattle.org_wire.specs.declared.command.Next.{Next}
@@ -123,3 +123,13 @@ broken = Stopped Device
 pub record IsRun (bytes : List ℕ) (old : State) (end : End) (new : State) (had has : Option (List ℕ)) : Type 0 where
   pub whole : (end ≡ broken → ⊥) → IsWhole bytes old end new had has
   pub front : end ≡ broken → IsFront bytes old new had has
+
+-- all commands that are whole in the bytes taken were answered, and these are the bytes that the reader still holds
+pub record AnswersTaken (bytes : List ℕ) (old new : State) (had has held : Option (List ℕ)) : Type 0 where
+  pub answers : List Reply
+  pub rest : List ℕ
+  pub part : List ℕ
+  pub runs : Runs bytes old answers rest new
+  pub wrote : Appends had has (written answers)
+  pub taken : Consumes (Some rest) held part
+  pub ends : IsUnfinished (reading_of part).next

@@ -1,5 +1,6 @@
 -- The commands of a stream of bytes (profile).
-use Rattle.std.specs.Prelude.{◌≡◌, ℕ, ◌+◌, ◌-◌, ◌*◌, List, [], ◌∷◌, Bool, not, true, false, ◌&&◌, ◌==◌, ◌++◌, nat_lt, nat_le, Option, None, Some, length, take, drop, codes, if◌then◌else◌}
+use Rattle.std.specs.Prelude.{◌≡◌, ℕ, ◌+◌, ◌-◌, ◌*◌, List, [], ◌∷◌, Bool, not, true, false, ◌&&◌, ◌==◌, ◌++◌, nat_lt, nat_le, Option, None, Some, IfSome, length, take, drop, codes, if◌then◌else◌}
+use Rattle.std.specs.Io.KnownBytes.{Consumes}
 use Rattle.std.specs.List.{list_all}
 use Rattle.std.specs.Str.{bytes_eq, is_utf8}
 use Rattle.org_base.specs.FileName.{is_file_name}
@@ -262,3 +263,14 @@ pub record IsRead (reading : Reading) (next : Next) (left : Option (List ℕ)) :
   pub rest : (next ≡ broken → ⊥) → left ≡ Some reading.rest
   pub is : (next ≡ broken → ⊥) → (next ≡ out_of_memory → ⊥) → next ≡ reading.next
   pub memory : next ≡ out_of_memory → IsReplaceable reading.next
+
+-- the bytes end before the next command is whole
+abbrev pub IsUnfinished : Next → Type 0
+IsUnfinished Ended = Unit {0}
+IsUnfinished (Last fault) = fault ≡ Plain Cut
+IsUnfinished (Given command) = ⊥
+IsUnfinished (Refused fault) = ⊥
+
+-- of known bytes so many were taken that no command is whole in them
+abbrev pub StopsWithin : (List ℕ → Reading) → Option (List ℕ) → Option (List ℕ) → Type 0
+StopsWithin reading old new = IfSome old (λ bytes. (taken : List ℕ) × Consumes (Some bytes) new taken × IsUnfinished (reading taken).next)

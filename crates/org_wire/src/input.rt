@@ -1,5 +1,6 @@
 //! What is read of a stream.
-ghost use Rattle.std.specs.Prelude.{◌≡◌, [], ◌++◌, true, IfOk, IfSome, List, ℕ, IsOkUnless};
+ghost use Rattle.std.specs.Prelude.{◌≡◌, ◌<◌, [], ◌++◌, true, IfOk, IfSome, List, ℕ, IsOkUnless, length};
+ghost use Rattle.std.specs.Io.KnownBytes.{Consumes, Keeps};
 ghost use Rattle.org_base.specs.Codes.{memory_fault};
 
 use crate::command::{Command, Frame, Next, framed};
@@ -70,12 +71,12 @@ fn keep(bytes: &mut Vec<u8>, has_memory: bool, run: &[u8]) -> bool
 }
 
 impl<'a, R: Read> Input<'a, R> {
-    ghost use Rattle.org_wire.specs.Input.{left, ahead, bytes_ahead, CountsNext, NeverStopsForMemory};
+    ghost use Rattle.org_wire.specs.Input.{left, held, ahead, bytes_ahead, CountsNext, NeverStopsForMemory};
     ghost use Rattle.org_wire.specs.Steps.{MakesReady, CountsReady, ReadyFalls, TakesByte, CountsByte, ByteFalls, ReadsLine, CountsLine, LineFalls};
     ghost use Rattle.org_wire.specs.Steps.{ReadsPayload, CountsPayload, PayloadFalls, StaysAhead};
     ghost use Rattle.org_wire.specs.Devices.{StaysBounded};
     ghost use Rattle.org_wire.specs.declared.command.Frame.{Frame};
-    ghost use Rattle.org_wire.specs.Stream.{IsRead, after_line, line_of, Framed};
+    ghost use Rattle.org_wire.specs.Stream.{IsRead, StopsWithin, after_line, broken, line_of, reading_of, Framed};
 
     /// A stream over a reader. Want of memory for a line or for what is read ahead is its only refusal. The reader
     /// isn't called: a call would have to know that none has failed.
@@ -127,6 +128,7 @@ impl<'a, R: Read> Input<'a, R> {
     fn make_ready(&mut self) -> Ready
         requires fresh { self.old.reader.now.failed ≡ 0 }
         ensures value { MakesReady result self.new.room (left R.remaining self.old) (left R.remaining self.new) }
+        ensures failed { result ≡ Ready.Failed → Keeps (left R.remaining self.old) (held R.remaining self.new) }
         ensures counted { CountsReady result self.old.reader.now self.new.reader.now }
         ensures falls { ReadyFalls result (ahead self.old) (ahead self.new) }
         ensures bounded { StaysBounded self.old.reader.now.calls self.new.reader.now.calls }
@@ -150,6 +152,7 @@ impl<'a, R: Read> Input<'a, R> {
     fn next_byte(&mut self) -> Byte
         requires fresh { self.old.reader.now.failed ≡ 0 }
         ensures taken { TakesByte result (left R.remaining self.old) (left R.remaining self.new) }
+        ensures failed { result ≡ Byte.Failed → Keeps (left R.remaining self.old) (held R.remaining self.new) }
         ensures counted { CountsByte result self.old.reader.now self.new.reader.now }
         ensures falls { ByteFalls result (ahead self.old) (ahead self.new) }
         ensures bounded { StaysBounded self.old.reader.now.calls self.new.reader.now.calls }
@@ -170,6 +173,7 @@ impl<'a, R: Read> Input<'a, R> {
     pub(crate) fn read_line(&mut self) -> LineEnd
         requires fresh { self.old.reader.now.failed ≡ 0 }
         ensures line { ReadsLine result (left R.remaining self.old) self.new.line (left R.remaining self.new) }
+        ensures failed { result ≡ LineEnd.Failed → StopsWithin reading_of (left R.remaining self.old) (held R.remaining self.new) }
         ensures counted { CountsLine result self.old.reader.now self.new.reader.now }
         ensures falls { LineFalls result (ahead self.old) (ahead self.new) }
         ensures bounded { StaysBounded self.old.reader.now.calls self.new.reader.now.calls }
@@ -209,6 +213,8 @@ impl<'a, R: Read> Input<'a, R> {
     fn read_payload(&mut self, size: usize) -> Payload
         requires fresh { self.old.reader.now.failed ≡ 0 }
         ensures value { ReadsPayload result size (left R.remaining self.old) (left R.remaining self.new) }
+        ensures failed { result ≡ Payload.Failed → (taken : List ℕ) × Consumes (left R.remaining self.old) (held R.remaining self.new) taken
+            × (length taken < size) }
         ensures counted { CountsPayload result self.old.reader.now self.new.reader.now }
         ensures falls { PayloadFalls result (ahead self.old) (ahead self.new) }
         ensures bounded { StaysBounded self.old.reader.now.calls self.new.reader.now.calls }
@@ -245,6 +251,8 @@ impl<'a, R: Read> Input<'a, R> {
         requires fresh { self.old.reader.now.failed ≡ 0 }
         ensures value { (said : Frame) → IfSome frame (λ f. f ≡ said) → IfSome (left R.remaining self.old) (λ bytes.
             IsRead (after_line (Framed said size) bytes) result (left R.remaining self.new)) }
+        ensures failed { (said : Frame) → result ≡ broken →
+            StopsWithin (after_line (Framed said size)) (left R.remaining self.old) (held R.remaining self.new) }
         ensures counted { CountsNext result self.old.reader.now self.new.reader.now }
         ensures falls { StaysAhead result (ahead self.old) (ahead self.new) }
         ensures last { NeverStopsForMemory result }
@@ -270,6 +278,7 @@ impl<'a, R: Read> Input<'a, R> {
         requires fresh { self.old.reader.now.failed ≡ 0 }
         ensures value { IfSome (left R.remaining self.old) (λ bytes.
             IsRead (after_line (line_of self.old.line) bytes) result (left R.remaining self.new)) }
+        ensures failed { result ≡ broken → StopsWithin (after_line (line_of self.old.line)) (left R.remaining self.old) (held R.remaining self.new) }
         ensures counted { CountsNext result self.old.reader.now self.new.reader.now }
         ensures falls { StaysAhead result (ahead self.old) (ahead self.new) }
         ensures last { NeverStopsForMemory result }

@@ -3,9 +3,9 @@ ghost use Rattle.std.specs.Prelude.{◌≡◌, ◌<◌, ◌≤◌, ◌||◌, IfS
 ghost use Rattle.std.specs.Io.KnownBytes.{Appends};
 ghost use Rattle.org_base.specs.Codes.{code_of};
 ghost use Rattle.org_wire.specs.Devices.{is_broken, most_reads, StaysBounded};
-ghost use Rattle.org_wire.specs.Input.{left};
+ghost use Rattle.org_wire.specs.Input.{left, held};
 ghost use Rattle.org_wire.specs.Replies.{Wrote, WrotePart, CountsWrite, fault_bytes, reply_bytes};
-ghost use Rattle.org_wire.specs.Run.{IsRun};
+ghost use Rattle.org_wire.specs.Run.{AnswersTaken, IsRun};
 
 use crate::command::Next;
 use crate::counted::Counted;
@@ -37,6 +37,7 @@ pub enum End {
 /// Where the reader and the writer tell their bytes, the writer holds what it held and then the replies to the commands,
 /// in order; the engine's state is the one that these commands leave. A reply may be `err 1 memory` instead; then its
 /// command changed nothing. After a failed call all replies but the last are written whole, and the last perhaps cut.
+/// Where it was no call of the writer, all commands are answered that are whole in the bytes that were taken.
 pub fn run<R: Read, W: Write, T: Text>(
     alloc: Global,
     reader: &mut Counted<R>,
@@ -48,6 +49,8 @@ pub fn run<R: Read, W: Write, T: Text>(
     requires writes { (writer.old.calls ≡ 0) × (writer.old.failed ≡ 0) }
     ensures value { (result ≡ End.Stopped Code.Memory → ⊥) → IfSome (R.remaining reader.old.inner) (λ bytes.
         IsRun bytes engine.old.state result engine.new.state (W.contents writer.old.inner) (W.contents writer.new.inner)) }
+    ensures taken { result ≡ End.Stopped Code.Device → writer.new.failed ≡ 0 → IfSome (R.remaining reader.old.inner) (λ bytes. AnswersTaken bytes
+        engine.old.state engine.new.state (W.contents writer.old.inner) (W.contents writer.new.inner) (R.remaining reader.new.inner)) }
     ensures memory { result ≡ End.Stopped Code.Memory → (reader.new ≡ reader.old) × (writer.new ≡ writer.old) × (engine.new ≡ engine.old) }
     ensures device { result ≡ End.Stopped Code.Device → (is_broken reader.new || nat_lt 0 writer.new.failed) ≡ true }
     ensures fine { (result ≡ End.Stopped Code.Device → ⊥) → (reader.new.failed ≡ 0) × (writer.new.failed ≡ 0) }
@@ -79,6 +82,8 @@ fn run_over<R: Read, W: Write, T: Text>(
     requires writes { writer.old.failed ≡ 0 }
     ensures value { IfSome (left R.remaining input.old) (λ bytes.
         IsRun bytes engine.old.state result engine.new.state (W.contents writer.old.inner) (W.contents writer.new.inner)) }
+    ensures taken { result ≡ End.Stopped Code.Device → writer.new.failed ≡ 0 → IfSome (left R.remaining input.old) (λ bytes. AnswersTaken bytes
+        engine.old.state engine.new.state (W.contents writer.old.inner) (W.contents writer.new.inner) (held R.remaining input.new)) }
     ensures no_memory { result ≡ End.Stopped Code.Memory → ⊥ }
     ensures device { result ≡ End.Stopped Code.Device → (is_broken input.new.reader.now || nat_lt 0 writer.new.failed) ≡ true }
     ensures fine { (result ≡ End.Stopped Code.Device → ⊥) → (input.new.reader.now.failed ≡ 0) × (writer.new.failed ≡ 0) }

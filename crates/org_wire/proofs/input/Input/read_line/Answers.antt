@@ -1,7 +1,8 @@
-use Rattle.std.proofs.Common.{◌≡◌, ◌∙◌, ◌++◌, ◌∷◌, [], ◌<◌, ◌≤◌, length-append, ap, sym, arith, take, length}
+use Rattle.std.proofs.Common.{◌≡◌, ◌∙◌, ◌++◌, ◌∷◌, [], ◌<◌, ◌≤◌, length-append, ap, refl, sym, arith, take, length}
 use Rattle.std.proofs.lemmas.Bool.{lt-ltb, le-ltb, leb-true, leb-false}
 use Rattle.org_wire.specs.Lines.{longest}
-use Rattle.org_wire.proofs.LineLemmas.{short_of_take, consumes_more, cut_at-more, take-room, take-full, line_whole, line_long, line_cut}
+use Rattle.org_wire.proofs.LineLemmas.{short_of_take, consumes_kept, consumes_more, cut_at-more, take-room, take-full, line_whole, line_long, line_cut}
+use Rattle.org_wire.proofs.StopLemmas.{line_stops}
 use Rattle.org_wire.proofs.input.Input.read_line.Goals as goal
 
 pub returns-then-is_long-clause-line : goal.returns-then-is_long-clause-line
@@ -58,3 +59,8 @@ returns-else-is_empty-clause-line g c =
     let line = c.next_byte.ensures.line ∙ t.3 in
     let some : 0 < length c.next_byte.new.self.line = leb-false _ _ (sym c.is_empty.ensures.value ∙ c.if-is_empty.false) in
     line_cut _ _ _ t.0 _ t.1 t.2 c.in-End.ensures.taken.0 c.in-End.ensures.taken.1 line some
+
+pub returns-in-Failed-clause-failed : goal.returns-in-Failed-clause-failed
+returns-in-Failed-clause-failed g c =
+    let t = c.bytes.invariant.taken in
+    λ e. line_stops _ _ t.0 (consumes_kept _ _ _ t.0 t.1 (c.in-Failed.ensures.failed refl)) t.2
