@@ -12,6 +12,8 @@ use Rattle.org_cal.specs.Weeks.{iso_week}
 use Rattle.org_inherit.specs.Scope.{Scope}
 use Rattle.org_layout.specs.Columns.{padded}
 use Rattle.org_layout.specs.Lines.{row_line}
+use Rattle.org_layout.specs.declared.columns.Columns.{Columns}
+use Rattle.org_layout.specs.declared.columns.Columns.TheVariants.{Nothing, OfDay}
 
 -- the times of a row: nothing, a start, or a start and an end
 abbrev pub end_text : Option ℕ → List ℕ
@@ -36,6 +38,11 @@ label_text LateDeadline number of = decimal number ++ codes " d. ago: "
 -- the times in a column of 12, and the label
 unfoldable pub day_columns : Row → List ℕ
 day_columns row = padded (times_text row.start row.end) 12 ++ label_text row.kind row.number row.of
+
+-- what a line has between its category and its heading: nothing in a list, of a day's row its columns
+abbrev pub columns_text : Columns → List ℕ
+columns_text Nothing = []
+columns_text (OfDay row) = day_columns row.now
 
 -- the lines of a day's rows
 abbrev pub row_lines : List Scope → List Row → List ℕ

@@ -6,7 +6,7 @@ use Rattle.org_clocktable.specs.declared.row.Of.{Of}
 use Rattle.org_clocktable.specs.declared.row.Of.TheVariants.{All, File, Heading}
 use Rattle.org_clocktable.specs.declared.row.TableRow.{TableRow}
 use Rattle.org_entry.specs.declared.entry.Entry.{Entry}
-use Rattle.org_head.specs.Spans.{part_of}
+use Rattle.org_base.specs.Spans.{bytes_in}
 use Rattle.org_head.specs.declared.head.Head.{Head}
 use Rattle.org_inherit.specs.Scope.{Scope}
 use Rattle.org_layout.specs.Columns.{padded, shown}
@@ -26,7 +26,7 @@ effort_column with_effort n = if with_effort then sum_column n else []
 -- the title of an entry
 abbrev pub title_of : List ℕ → Option Head → List ℕ
 title_of text None = []
-title_of text (Some head) = part_of text head.title
+title_of text (Some head) = bytes_in text head.title
 
 -- the title of the entry at a place of a file; nothing past the end
 abbrev pub title_at : Scope → ℕ → List ℕ

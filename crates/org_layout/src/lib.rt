@@ -5,6 +5,7 @@
 
 mod category;
 mod column;
+mod columns;
 mod day;
 mod head;
 pub mod laws;

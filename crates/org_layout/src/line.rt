@@ -3,10 +3,12 @@ ghost use Rattle.std.specs.Prelude.{◌≡◌, ◌++◌, ◌<◌, length, string
 ghost use Rattle.org_base.specs.Codes.{memory_fault};
 ghost use Rattle.org_inherit.specs.Tags.{all_tags};
 ghost use Rattle.org_layout.specs.Columns.{shown};
+ghost use Rattle.org_layout.specs.Days.{columns_text};
 ghost use Rattle.org_layout.specs.Lines.{category_column, entry_line, entry_text, row_line, scope_line};
 
 use crate::category::CategoryColumn;
 use crate::column::push_bytes;
+use crate::columns::{Columns, push_columns};
 use crate::head::write_entry;
 use org_base::Fault;
 use org_entry::Entry;
@@ -17,6 +19,7 @@ use std::alloc::{AllocError, Global};
 #[derive(Drop)]
 pub(crate) struct LineTexts {
     category: CategoryColumn,
+    times: String,
     head: Vec<u8>,
 }
 
@@ -24,6 +27,7 @@ impl LineTexts {
     pub(crate) fn new(alloc: Global) -> Result<LineTexts, AllocError> {
         Ok(LineTexts {
             category: CategoryColumn::of(alloc, b"")?,
+            times: String::new(alloc),
             head: Vec::new(alloc),
         })
     }
@@ -34,12 +38,12 @@ pub(crate) fn push_row(
     alloc: Global,
     out: &mut String,
     texts: &mut LineTexts,
-    columns: &str,
+    columns: Columns<'_>,
     inherits: &Inherits<'_>,
     file: usize,
     heading: usize,
 ) -> Result<(), Fault>
-    ensures ok { OnOk result (string_bytes out.new ≡ string_bytes out.old ++ row_line columns.now inherits.now file heading) }
+    ensures ok { OnOk result (string_bytes out.new ≡ string_bytes out.old ++ row_line (columns_text columns.entry) inherits.now file heading) }
     ensures memory { IsOkUnless result memory_fault }
 {
     if file >= inherits.count() {
@@ -52,11 +56,11 @@ fn push_heading(
     alloc: Global,
     out: &mut String,
     texts: &mut LineTexts,
-    columns: &str,
+    columns: Columns<'_>,
     inherit: &Inherit<'_>,
     place: usize,
 ) -> Result<(), Fault>
-    ensures ok { OnOk result (string_bytes out.new ≡ string_bytes out.old ++ scope_line columns.now inherit.now place) }
+    ensures ok { OnOk result (string_bytes out.new ≡ string_bytes out.old ++ scope_line (columns_text columns.entry) inherit.now place) }
     ensures memory { IsOkUnless result memory_fault }
 {
     let outline = inherit.outline();
@@ -78,17 +82,17 @@ fn push_line(
     alloc: Global,
     out: &mut String,
     texts: &mut LineTexts,
-    columns: &str,
+    columns: Columns<'_>,
     inherit: &Inherit<'_>,
     place: usize,
     entry: &Entry,
 ) -> Result<(), Fault>
     requires within { place < length inherit.now.entries }
-    ensures ok { OnOk result (string_bytes out.new ≡ string_bytes out.old ++ entry_line columns.now inherit.now place entry.now) }
+    ensures ok { OnOk result (string_bytes out.new ≡ string_bytes out.old ++ entry_line (columns_text columns.entry) inherit.now place entry.now) }
     ensures memory { IsOkUnless result memory_fault }
 {
     push_category(alloc, out, &mut texts.category, inherit.category(place))?;
-    out.push_str(columns)?;
+    push_columns(out, &mut texts.times, columns)?;
     push_entry(alloc, out, &mut texts.head, inherit, place, entry)?;
     out.push_str("\n")?;
     Ok(())

@@ -4,6 +4,7 @@ ghost use Rattle.org_base.specs.Codes.{memory_fault};
 ghost use Rattle.org_layout.specs.Lines.{list_lines};
 
 use crate::column::push_whole;
+use crate::columns::Columns;
 use crate::line::{LineTexts, push_row};
 use org_agenda::Row;
 use org_base::Fault;
@@ -39,7 +40,7 @@ fn list_of(alloc: Global, rows: &[Row], inherits: &Inherits<'_>) -> Result<Strin
             alloc,
             &mut text,
             &mut texts,
-            "",
+            Columns::Nothing,
             inherits,
             row.file,
             row.heading,
