@@ -2,7 +2,7 @@
 ghost use Rattle.std.specs.Prelude.{◌≡◌, ◌<◌, [], ◌∷◌, ◌++◌, map, length, IfOk, OnOk, IsOkUnless};
 ghost use Rattle.org_base.specs.Codes.{memory_fault};
 ghost use Rattle.org_agenda.specs.Verdicts.{AreVerdicts, verdicts_above, verdicts_at};
-ghost use Rattle.org_head.specs.Spans.{part_of};
+ghost use Rattle.org_base.specs.Spans.{bytes_in};
 ghost use Rattle.org_inherit.specs.Tags.{own_tags, own_tags_at};
 ghost use Rattle.org_match.specs.Asked.{either, tag_verdicts};
 ghost use Rattle.org_match.specs.Holds.{tag_items};
@@ -128,7 +128,7 @@ fn own_tags(alloc: Global, entry: &Entry) -> Result<Texts, Fault>
 
 // Parts of an entry's text, copied.
 fn parts(alloc: Global, entry: &Entry, spans: &[Span]) -> Result<Texts, Fault>
-    ensures value { IfOk result (λ parts. parts ≡ map (part_of entry.now.text) spans.now) }
+    ensures value { IfOk result (λ parts. parts ≡ map (bytes_in entry.now.text) spans.now) }
     ensures memory { IsOkUnless result memory_fault }
 {
     let mut parts = Texts::new(alloc);

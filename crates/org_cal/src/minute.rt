@@ -1,6 +1,6 @@
 //! Minutes of civil time.
 ghost use Rattle.std.specs.Prelude.{◌≡◌, ◌<◌};
-ghost use Rattle.org_cal.specs.Minutes.{minute_of};
+ghost use Rattle.org_cal.specs.Minutes.{minute_at, minute_of};
 
 use crate::day::Day;
 use crate::time_of_day::TimeOfDay;
@@ -33,6 +33,13 @@ impl Minute {
         Minute {
             minutes: (day.number() as u64 - 1) * 1440 + time.minutes() as u64,
         }
+    }
+
+    /// The minute of a day at a time, which is 00:00 where none is given.
+    pub fn of(day: Day, time: Option<TimeOfDay>) -> Minute
+        ensures value { result ≡ minute_at (day, time) }
+    {
+        Minute::at(day, time.unwrap_or(TimeOfDay::of_minutes(0)))
     }
 
     /// The minutes since 0001-01-01 00:00.

@@ -3,7 +3,8 @@ use Rattle.std.proofs.Common.{◌≡◌, inl, inr, ℕ, true, false, ◌&&◌, L
 use Rattle.std.proofs.lemmas.Bool.{cases_Bool, and_parts, and_from, or_parts, or_from}
 use Rattle.std.specs.List.{list_all, list_any}
 use Rattle.org_class.specs.Blocks.{body_classes}
-use Rattle.org_class.specs.Drawers.{is_node, is_drawer_open, is_drawer_end, closes_drawer, drawer_classes, classes_below}
+use Rattle.org_drawer.specs.Node.{is_node}
+use Rattle.org_class.specs.Drawers.{is_drawer_open, is_drawer_end, closes_drawer, drawer_classes, classes_below}
 use Rattle.org_class.specs.Laws.{DrawersAreFound, OthersAreBodies}
 use Rattle.org_class.specs.declared.class.Class.TheVariants.{DrawerOpen, Node, DrawerEnd}
 

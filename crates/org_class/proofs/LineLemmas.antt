@@ -6,7 +6,7 @@ use Rattle.std.specs.List.{onto_first}
 use Rattle.org_base.specs.declared.span.Span.{Span}
 use Rattle.org_lines.specs.Cuts.{lines}
 use Rattle.org_lines.proofs.LineLemmas.{range_is, length_range}
-use Rattle.org_class.specs.Sections.{bytes_in}
+use Rattle.org_base.specs.Spans.{bytes_in}
 
 -- a line at the front of a text, and the lines behind it
 pub record FirstLine (t l : List ℕ) (ls : List (List ℕ)) : Type 0 where

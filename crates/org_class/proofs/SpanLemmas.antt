@@ -11,7 +11,8 @@ use Rattle.org_lines.proofs.LineLemmas.{range_is}
 use Rattle.org_settings.specs.Pieces.{put_before}
 use Rattle.org_class.specs.Heading.{begins_heading}
 use Rattle.org_class.specs.Open.{goes_on, ended, opened, whole}
-use Rattle.org_class.specs.Sections.{sections, spans_from, bytes_in, is_headed, runs}
+use Rattle.org_base.specs.Spans.{bytes_in}
+use Rattle.org_class.specs.Sections.{sections, spans_from, is_headed, runs}
 use Rattle.org_class.proofs.Cuts.{concat-sections}
 use Rattle.org_class.proofs.LineLemmas.{first_line}
 use Rattle.org_class.proofs.Runs.{sections_are_runs}

@@ -1,20 +1,11 @@
 -- Property drawers (Org Syntax, Property Drawers and Node Properties).
-use Rattle.std.specs.Prelude.{◌≡◌, ℕ, ◌-◌, Bool, false, true, ◌&&◌, ◌||◌, not, ◌==◌, nat_lt, nat_le, if◌then◌else◌, List, [], ◌∷◌, ◌++◌, length, slice_index, codes, None}
+use Rattle.std.specs.Prelude.{◌≡◌, ℕ, Bool, false, true, ◌&&◌, ◌||◌, if◌then◌else◌, List, [], ◌∷◌, ◌++◌, codes, None}
 use Rattle.std.specs.List.{list_all, list_any}
-use Rattle.org_base.specs.Words.{trimmed, first_word, same_word}
+use Rattle.org_base.specs.Words.{trimmed, same_word}
+use Rattle.org_drawer.specs.Node.{is_node}
 use Rattle.org_class.specs.Blocks.{body_classes}
 use Rattle.org_class.specs.declared.class.Class.{Class}
 use Rattle.org_class.specs.declared.class.Class.TheVariants.{DrawerOpen, Node, DrawerEnd}
-
--- :NAME: or :NAME+:, where NAME isn't empty and doesn't end in +
-abbrev pub is_node_word : List ℕ → Bool
-is_node_word w =
-    let n = length w in
-    let name = if slice_index w (n - 2) == 43 then n - 3 else n - 2 in
-    nat_le 3 n && (slice_index w 0 == 58) && (slice_index w (n - 1) == 58) && nat_lt 0 name && not (slice_index w name == 43)
-
-abbrev pub is_node : List ℕ → Bool
-is_node l = is_node_word (first_word l)
 
 abbrev pub is_drawer_open : List ℕ → Bool
 is_drawer_open l = same_word (trimmed l) (codes ":PROPERTIES:")

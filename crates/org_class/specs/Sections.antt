@@ -1,6 +1,5 @@
 -- Sections of a text (Org Syntax, Headings and Sections).
 use Rattle.std.specs.Prelude.{ℕ, ◌+◌, Bool, true, false, ◌&&◌, ◌==◌, List, [], ◌∷◌, length}
-use Rattle.std.specs.List.{slice_range}
 use Rattle.org_base.specs.declared.span.Span.{Span}
 use Rattle.org_settings.specs.Pieces.{put_before}
 use Rattle.org_class.specs.Heading.{begins_heading}
@@ -43,7 +42,3 @@ runs = cut_where (λ l ls. is_headed ls)
 abbrev pub spans_from : ℕ → List (List ℕ) → List Span
 spans_from at [] = []
 spans_from at (t ∷ ts) = record { at = at; len = length t } ∷ spans_from (at + length t) ts
-
--- the bytes of a part of a text
-abbrev pub bytes_in : List ℕ → Span → List ℕ
-bytes_in t span = slice_range t span.at (span.at + span.len)

@@ -5,13 +5,14 @@ ghost use Rattle.org_lines.specs.Cuts.{lines};
 ghost use Rattle.org_class.specs.Blocks.{opens_block};
 ghost use Rattle.org_class.specs.Drawers.{closes_drawer};
 ghost use Rattle.org_class.specs.Ends.{KnowsEnds};
-ghost use Rattle.org_class.specs.Sections.{bytes_in};
+ghost use Rattle.org_base.specs.Spans.{bytes_in};
 
 use crate::blocks::block_name;
-use crate::drawers::{is_drawer_end, is_node};
+use crate::drawers::is_drawer_end;
 use crate::ends::EndPlaces;
 use crate::line_class::has_hash;
 use org_base::{Fault, Span};
+use org_drawer::is_node;
 use org_lines::Lines;
 use org_text::Text;
 use std::alloc::Global;
@@ -33,7 +34,7 @@ impl<'a, T: Text> Model for Ahead<'a, T> {
     ghost use Rattle.std.specs.Prelude.{ℕ, List, ◌+◌, ◌≤◌, length};
     ghost use Rattle.org_lines.specs.Cuts.{lines};
     ghost use Rattle.org_class.specs.Ends.{KnowsEnds};
-    ghost use Rattle.org_class.specs.Sections.{bytes_in};
+    ghost use Rattle.org_base.specs.Spans.{bytes_in};
 
     ghost Value = { List (List ℕ) };
 

@@ -7,7 +7,7 @@ ghost use Rattle.org_base.specs.Words.{same_word};
 ghost use Rattle.org_lines.specs.Cuts.{lines};
 ghost use Rattle.org_class.specs.Blocks.{ends_block, is_hash};
 ghost use Rattle.org_class.specs.Ends.{place_of, AreLastEnds};
-ghost use Rattle.org_class.specs.Sections.{bytes_in};
+ghost use Rattle.org_base.specs.Spans.{bytes_in};
 
 use crate::blocks::begins_with;
 use memchr::memchr;

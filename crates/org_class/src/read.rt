@@ -4,7 +4,8 @@ ghost use Rattle.std.specs.Cow.{cow_slice_items};
 ghost use Rattle.org_base.specs.Codes.{memory_fault};
 ghost use Rattle.org_lines.specs.Cuts.{lines};
 ghost use Rattle.org_class.specs.Classes.{StandStill, lines_of_setting, setting_of, setting_lines};
-ghost use Rattle.org_class.specs.Sections.{bytes_in, sections};
+ghost use Rattle.org_base.specs.Spans.{bytes_in};
+ghost use Rattle.org_class.specs.Sections.{sections};
 ghost use Rattle.org_settings.specs.Settings.{settings_of};
 ghost use Rattle.org_class.specs.Ticks.{classified};
 

@@ -4,7 +4,7 @@ ghost use Rattle.org_base.specs.Codes.{memory_fault};
 ghost use Rattle.org_base.specs.Counts.{ticked};
 ghost use Rattle.org_base.specs.declared.meter.Tick.TheVariants.{Classify};
 ghost use Rattle.org_class.specs.Classes.{section_classes};
-ghost use Rattle.org_class.specs.Sections.{bytes_in};
+ghost use Rattle.org_base.specs.Spans.{bytes_in};
 
 use crate::ahead::Ahead;
 use crate::class::Classes;

@@ -2,7 +2,8 @@
 ghost use Rattle.std.specs.Prelude.{◌≡◌, ◌++◌, ◌∷◌, [], ◌+◌, ◌≤◌, ◌<◌, ◌^◌, map, length, slice_get, IfOk, OnOk, IsOkUnless};
 ghost use Rattle.std.specs.List.{All};
 ghost use Rattle.org_base.specs.Codes.{memory_fault};
-ghost use Rattle.org_class.specs.Sections.{sections, spans_from, bytes_in};
+ghost use Rattle.org_base.specs.Spans.{bytes_in};
+ghost use Rattle.org_class.specs.Sections.{sections, spans_from};
 ghost use Rattle.org_class.specs.Open.{ended, opened, whole};
 
 use crate::heading::begins_heading;

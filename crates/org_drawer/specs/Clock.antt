@@ -1,14 +1,10 @@
 -- Clocks and their minutes (Org Syntax, Clocks; that only the minutes within a period count, and that a missing time is
 -- 00:00: profile).
 use Rattle.std.specs.Prelude.{ℕ, ◌+◌, ◌-◌, min, max, Bool, ◌&&◌, nat_le, nat_lt, List, Option, Some, None}
-use Rattle.std.specs.Option.{option_map, unwrap_or}
-use Rattle.org_cal.specs.Minutes.{minute_of}
+use Rattle.std.specs.Option.{option_map}
+use Rattle.org_cal.specs.Minutes.{minute_of, minute_at}
 use Rattle.org_stamp.specs.Pair.{clock_stamp}
 use Rattle.org_drawer.specs.declared.clock.ClockLine.{ClockLine}
-
--- the minute of a day and a time of it; a missing time is 00:00
-abbrev pub minute_at : ℕ × Option ℕ → ℕ
-minute_at (day, time) = minute_of day (unwrap_or time 0)
 
 -- the clock of a clock line; none where the line is no clock line
 abbrev pub clock_of : List ℕ → Option ClockLine

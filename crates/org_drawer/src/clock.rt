@@ -3,7 +3,7 @@ ghost use Rattle.std.specs.Prelude.{◌≡◌, ◌<◌, ◌≤◌};
 ghost use Rattle.std.specs.Option.{option_map};
 ghost use Rattle.org_drawer.specs.Clock as spec;
 
-use org_cal::{Day, Minute, Period, TimeOfDay};
+use org_cal::{Minute, Period};
 use org_stamp::clock_stamp;
 
 /// A clock (Org Syntax, "Clocks"): it runs from one minute to another, or still runs. The end may lie before the start.
@@ -20,16 +20,9 @@ pub fn read_clock(line: &[u8]) -> Option<ClockLine>
 {
     let stamp = clock_stamp(line)?;
     Some(ClockLine {
-        from: minute_at(stamp.day, stamp.time),
-        to: stamp.last.map(|(day, time)| minute_at(day, time)),
+        from: Minute::of(stamp.day, stamp.time),
+        to: stamp.last.map(|(day, time)| Minute::of(day, time)),
     })
-}
-
-/// The minute of a day and a time of it, which is 00:00 where it is missing.
-fn minute_at(day: Day, time: Option<TimeOfDay>) -> Minute
-    ensures value { result ≡ spec.minute_at (day, time) }
-{
-    Minute::at(day, time.unwrap_or(TimeOfDay::of_minutes(0)))
 }
 
 impl ClockLine {

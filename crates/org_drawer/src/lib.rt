@@ -14,4 +14,5 @@ mod planning;
 pub use clock::{ClockLine, read_clock};
 pub use drawer::{Drawer, read_drawer};
 pub use effort::effort_minutes;
+pub use node::is_node;
 pub use planning::{Planning, read_planning};

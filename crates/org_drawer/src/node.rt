@@ -28,7 +28,15 @@ pub(crate) fn node_of(line: &[u8]) -> Option<Node<'_>>
     }
 }
 
-/// `:NAME:` or `:NAME+:`, where NAME isn't empty and doesn't end in `+`.
+/// Whether the line is a node line (Org Syntax, "Node Properties"): its first word is `:NAME:` or `:NAME+:`, where NAME
+/// isn't empty and doesn't end in `+`.
+pub fn is_node(line: &[u8]) -> bool
+    ensures value { result ≡ spec.is_node line.now }
+{
+    is_node_word(first_word(line))
+}
+
+// `:NAME:` or `:NAME+:`, where NAME isn't empty and doesn't end in `+`.
 fn is_node_word(word: &[u8]) -> bool
     ensures value { result ≡ spec.is_node_word word.now }
 {

@@ -16,7 +16,7 @@ use Rattle.org_drawer.specs.declared.clock.ClockLine.{ClockLine}
 use Rattle.org_drawer.specs.declared.planning.Planning.{Planning}
 use Rattle.org_entry.specs.declared.entry.Entry.{Entry}
 use Rattle.org_head.specs.Head.{head_of}
-use Rattle.org_head.specs.Spans.{part_of}
+use Rattle.org_base.specs.Spans.{bytes_in}
 use Rattle.org_head.specs.declared.head.Head.{Head}
 use Rattle.org_lines.specs.Cuts.{lines}
 use Rattle.org_stamp.specs.Line.{stamps_of as stamps_of_line}
@@ -61,7 +61,7 @@ active_at at bytes = flat_map (if_active at) (stamps_of_line bytes)
 
 -- the active stamps of the title of a heading line that stands at the place
 abbrev pub title_stamps : FileSettings → ℕ → List ℕ → List Found
-title_stamps settings at bytes = let title = (head_of settings bytes).title in active_at (at + title.at) (part_of bytes title)
+title_stamps settings at bytes = let title = (head_of settings bytes).title in active_at (at + title.at) (bytes_in bytes title)
 
 -- the plain stamps that a line gives: those of the title, and of setting lines and plain lines
 abbrev pub stamps_of : FileSettings → ℕ → Class → List ℕ → List Found

@@ -2,7 +2,7 @@
 ghost use Rattle.std.specs.Prelude.{◌≡◌, ◌==◌};
 ghost use Rattle.std.specs.List.{position};
 ghost use Rattle.org_entry.specs.Entry.{heading_line};
-ghost use Rattle.org_head.specs.Spans.{part_of};
+ghost use Rattle.org_base.specs.Spans.{bytes_in};
 
 use crate::lists::{Clocks, PlacedStamps};
 use crate::own::{OwnPlanning, OwnProperties};
@@ -43,7 +43,7 @@ impl Entry {
 
     /// The bytes of a part of the entry's text. What reaches beyond the text isn't there.
     pub fn part(&self, span: Span) -> &[u8]
-        ensures value { result.now ≡ part_of self.now.text span }
+        ensures value { result.now ≡ bytes_in self.now.text span }
     {
         let text = self.text.as_slice();
         let start = text.len().min(span.at as usize);

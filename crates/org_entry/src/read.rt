@@ -5,7 +5,7 @@ ghost use Rattle.org_base.specs.Codes.{memory_fault};
 ghost use Rattle.org_base.specs.Counts.{ticked};
 ghost use Rattle.org_base.specs.declared.meter.Tick.TheVariants.{Read};
 ghost use Rattle.org_class.specs.Classes.{section_classes};
-ghost use Rattle.org_class.specs.Sections.{bytes_in};
+ghost use Rattle.org_base.specs.Spans.{bytes_in};
 ghost use Rattle.org_entry.specs.Draft.{is_quiet};
 ghost use Rattle.org_entry.specs.Entry.{entry_of};
 ghost use Rattle.org_stamp.specs.Stamp.{is_close};

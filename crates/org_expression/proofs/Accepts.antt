@@ -5,7 +5,7 @@ use Rattle.std.proofs.Common.{append-nil}
 use Rattle.std.specs.Prelude.{◌==◌}
 use Rattle.std.specs.List.{list_all}
 use Rattle.std.proofs.lemmas.Bool.Decides.{nat_tests}
-use Rattle.org_expression.specs.Names.{is_word_char}
+use Rattle.org_base.specs.Characters.{is_tag_char}
 use Rattle.org_expression.specs.Grammar.{Link, Direct, And, Or, Sign, Unsigned, Plus, Minus, Op, Less, Equal, Greater, AtMost, AtLeast, Differs, Value, Number, Quoted, Pattern, Term, Tag, Found, Compare, Item, item, Expr, Tags, Todo, Open, spell_sign, spell_op, spell_name, spell_fraction, spell_value, spell_term, spell_item, spell_items, spell, is_name_char, IsName, Lacks, takes_pattern, IsValue, IsTerm, IsTermIn, IsLink, AreLater, AreItems, AreItemsOrNone, IsExpr}
 use Rattle.org_expression.specs.declared.state.Part.{Part}
 use Rattle.org_expression.specs.declared.state.Part.TheVariants.{InTags, InTodo}
@@ -17,7 +17,7 @@ use Rattle.org_expression.proofs.Marks.{no_mark, no_word-plus, no_word-minus, no
 -- a term may begin here
 pub record Opens (p : Part) (o : Option State) : Type 0 where
   pub backslash : step_at o 92 ≡ Some (Escaped p)
-  pub word : (c : ℕ) → is_word_char c ≡ true → step_at o c ≡ Some (InName p)
+  pub word : (c : ℕ) → is_tag_char c ≡ true → step_at o c ≡ Some (InName p)
   pub brace : p ≡ InTags → step_at o 123 ≡ Some InPattern
 
 -- a sign may stand here
@@ -35,24 +35,24 @@ pub record Ends (p : Part) (o : Option State) : Type 0 where
 
 -- ---- one character
 
-start_word : (c : ℕ) → is_word_char c ≡ true → step Start c ≡ Some (InName InTags)
+start_word : (c : ℕ) → is_tag_char c ≡ true → step Start c ≡ Some (InName InTags)
 start_word c h = let m = no_mark c h in grind (arith, nat_tests, h, m.plus, m.minus, m.slash, m.backslash, m.brace)
 
-linked_word : (p : Part) (c : ℕ) → is_word_char c ≡ true → step (Linked p) c ≡ Some (InName p)
+linked_word : (p : Part) (c : ℕ) → is_tag_char c ≡ true → step (Linked p) c ≡ Some (InName p)
 linked_word InTags c h = let m = no_mark c h in grind (arith, nat_tests, h, m.plus, m.minus, m.backslash, m.brace)
 linked_word InTodo c h = let m = no_mark c h in grind (arith, nat_tests, h, m.plus, m.minus, m.backslash)
 
-signed_word : (p : Part) (c : ℕ) → is_word_char c ≡ true → step (Signed p) c ≡ Some (InName p)
+signed_word : (p : Part) (c : ℕ) → is_tag_char c ≡ true → step (Signed p) c ≡ Some (InName p)
 signed_word InTags c h = let m = no_mark c h in grind (arith, nat_tests, h, m.backslash, m.brace)
 signed_word InTodo c h = let m = no_mark c h in grind (arith, nat_tests, h, m.backslash)
 
-slash_word : (c : ℕ) → is_word_char c ≡ true → step AfterSlash c ≡ Some (InName InTodo)
+slash_word : (c : ℕ) → is_tag_char c ≡ true → step AfterSlash c ≡ Some (InName InTodo)
 slash_word c h = let m = no_mark c h in grind (arith, nat_tests, h, m.plus, m.minus, m.bang, m.backslash)
 
-bang_word : (c : ℕ) → is_word_char c ≡ true → step AfterBang c ≡ Some (InName InTodo)
+bang_word : (c : ℕ) → is_tag_char c ≡ true → step AfterBang c ≡ Some (InName InTodo)
 bang_word c h = let m = no_mark c h in grind (arith, nat_tests, h, m.plus, m.minus, m.backslash)
 
-pub name_word : (p : Part) (c : ℕ) → is_word_char c ≡ true → step (InName p) c ≡ Some (InName p)
+pub name_word : (p : Part) (c : ℕ) → is_tag_char c ≡ true → step (InName p) c ≡ Some (InName p)
 name_word InTags c h = let m = no_mark c h in grind (arith, nat_tests, h, m.less, m.equal, m.greater, m.backslash)
 name_word InTodo c h = let m = no_mark c h in grind (arith, nat_tests, h, m.backslash)
 
@@ -119,8 +119,8 @@ taken : (o : Option State) (s : State) (c : ℕ) → step_at o c ≡ Some s → 
 taken o s c h cs = rw h refl
 
 -- the first character of a name, and the others, by the same two steps
-name_char : (p : Part) (o : Option State) → step_at o 92 ≡ Some (Escaped p) → ((c : ℕ) → is_word_char c ≡ true → step_at o c ≡ Some (InName p)) →
-    (b : Bool) (c : ℕ) → c == 45 ≡ b → (is_word_char c || b) ≡ true → (cs : List ℕ) →
+name_char : (p : Part) (o : Option State) → step_at o 92 ≡ Some (Escaped p) → ((c : ℕ) → is_tag_char c ≡ true → step_at o c ≡ Some (InName p)) →
+    (b : Bool) (c : ℕ) → c == 45 ≡ b → (is_tag_char c || b) ≡ true → (cs : List ℕ) →
     run o (cond b (92 ∷ 45 ∷ cs) (c ∷ cs)) ≡ run (Some (InName p)) cs
 name_char p o escape word true c e h cs = escapes p o escape cs
 name_char p o escape word false c e h cs = taken o (InName p) c (word c (grind (arith, nat_tests))) cs

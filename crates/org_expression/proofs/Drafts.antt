@@ -4,7 +4,7 @@ use Rattle.std.proofs.Common.{◌≡◌, ℕ, suc, ◌+◌, ◌≤◌, Bool, tru
 use Rattle.std.specs.Prelude.{◌==◌}
 use Rattle.std.specs.List.{list_all}
 use Rattle.std.proofs.lemmas.Bool.Decides.{nat_tests}
-use Rattle.org_expression.specs.Names.{is_word_char}
+use Rattle.org_base.specs.Characters.{is_tag_char}
 use Rattle.org_expression.specs.Grammar.{Link, Direct, And, Or, Sign, Unsigned, Plus, Minus, Op, Less, Equal, Greater, AtMost, AtLeast, Differs, Value, Number, Quoted, Pattern, Term, Tag, Found, Compare, Item, item, Expr, Tags, Todo, Open, spell_sign, spell_op, spell_name, spell_fraction, spell_value, spell_term, spell_item, spell_items, spell, is_name_char, IsName, Lacks, takes_pattern, IsValue, IsTermIn, IsLink, AreLater, AreItems, AreItemsOrNone, IsExpr, Reads}
 use Rattle.org_expression.specs.declared.state.Part.{Part}
 use Rattle.org_expression.specs.declared.state.Part.TheVariants.{InTags, InTodo}
@@ -16,10 +16,10 @@ use Rattle.org_expression.proofs.Accepts.{Opens, Signs, Ends, Values, opens_star
 use Rattle.org_expression.proofs.Live.{expr_of as expr_is}
 use Rattle.org_expression.proofs.Marks.{no_mark, no_word-plus, no_word-minus, no_word-and, no_word-or, no_word-slash}
 
-begin_word : (c : ℕ) (d : Draft) → is_word_char c ≡ true → begin c d ≡ record d { name = c ∷ []; shape = AsTag }
+begin_word : (c : ℕ) (d : Draft) → is_tag_char c ≡ true → begin c d ≡ record d { name = c ∷ []; shape = AsTag }
 begin_word c d h = let m = no_mark c h in grind (arith, nat_tests, m.plus, m.minus, m.slash, m.bang, m.backslash, m.brace)
 
-name_absorb : (p : Part) (c : ℕ) (d : Draft) → is_word_char c ≡ true → absorb (InName p) c d ≡ record d { name = d.name ++ c ∷ [] }
+name_absorb : (p : Part) (c : ℕ) (d : Draft) → is_tag_char c ≡ true → absorb (InName p) c d ≡ record d { name = d.name ++ c ∷ [] }
 name_absorb p c d h = let m = no_mark c h in grind (arith, nat_tests, h, m.less, m.equal, m.greater, m.backslash)
 
 -- behind a term each mark is taken alike
@@ -70,8 +70,8 @@ backslash_step InTags = refl
 backslash_step InTodo = refl
 
 char_goes : (p : Part) (o : Option State) (d b : Draft) → step_at o 92 ≡ Some (Escaped p) → absorb_at o 92 d ≡ b →
-    ((c : ℕ) → is_word_char c ≡ true → step_at o c ≡ Some (InName p)) → ((c : ℕ) → is_word_char c ≡ true → absorb_at o c d ≡ record b { name = b.name ++ c ∷ [] }) →
-    (t : Bool) (c : ℕ) → (c == 45) ≡ t → (is_word_char c || t) ≡ true → (ys : List ℕ) (e : Option State) (g : Draft) →
+    ((c : ℕ) → is_tag_char c ≡ true → step_at o c ≡ Some (InName p)) → ((c : ℕ) → is_tag_char c ≡ true → absorb_at o c d ≡ record b { name = b.name ++ c ∷ [] }) →
+    (t : Bool) (c : ℕ) → (c == 45) ≡ t → (is_tag_char c || t) ≡ true → (ys : List ℕ) (e : Option State) (g : Draft) →
     Goes (Some (InName p)) (record b { name = b.name ++ c ∷ [] }) ys e g → Goes o d (cond t (92 ∷ 45 ∷ ys) (c ∷ ys)) e g
 char_goes p o d b esc escd word wordd true c f k ys e g later =
     let is_minus : c ≡ 45 = grind (arith, nat_tests) in
@@ -79,7 +79,7 @@ char_goes p o d b esc escd word wordd true c f k ys e g later =
     (goes_cons (Some (Escaped p)) (Some (InName p)) b (record b { name = b.name ++ 45 ∷ [] }) 45 ys e g refl refl
     (subst (λ q. Goes (Some (InName p)) (record b { name = b.name ++ q ∷ [] }) ys e g) is_minus later))
 char_goes p o d b esc escd word wordd false c f k ys e g later =
-    let is_word : is_word_char c ≡ true = grind (arith, nat_tests) in
+    let is_word : is_tag_char c ≡ true = grind (arith, nat_tests) in
     goes_cons o (Some (InName p)) d (record b { name = b.name ++ c ∷ [] }) c ys e g (word c is_word) (wordd c is_word) later
 
 name_goes : (p : Part) (name : List ℕ) (d : Draft) (n : List ℕ) → list_all is_name_char name ≡ true → d.name ++ name ≡ n →

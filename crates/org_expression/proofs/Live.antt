@@ -5,7 +5,7 @@ use Rattle.std.specs.Prelude.{◌==◌, nat_lt}
 use Rattle.std.specs.List.{list_all}
 use Rattle.std.specs.Option.{option_or}
 use Rattle.std.proofs.lemmas.Bool.Decides.{nat_tests}
-use Rattle.org_expression.specs.Names.{is_word_char}
+use Rattle.org_base.specs.Characters.{is_tag_char}
 use Rattle.org_expression.specs.Grammar.{Link, Direct, And, Or, Sign, Unsigned, Plus, Minus, Op, Less, Equal, Greater, AtMost, AtLeast, Differs, Value, Number, Quoted, Pattern, Term, Tag, Found, Compare, Item, item, Expr, Tags, Todo, Open, spell_sign, spell_op, spell_name, spell_fraction, spell_value, spell_term, spell_item, spell_items, spell, is_name_char, IsName, Lacks, takes_pattern, IsValue, IsTermIn, IsLink, AreLater, AreItems, AreItemsOrNone, IsExpr, Reads, Begins, IsLongestFront}
 use Rattle.org_expression.specs.declared.state.Part.{Part}
 use Rattle.org_expression.specs.declared.state.Part.TheVariants.{InTags, InTodo}
@@ -177,7 +177,7 @@ name_term InTags name y h (inr (op, z, (v, k, w, m, e), d)) = (Compare name op v
 name_term InTodo name y h m = (Tag name, h, y, m, refl)
 
 -- a character of words, or a minus behind a backslash, before the rest of a name
-word_name : (p : Part) (c : ℕ) (x : List ℕ) → is_word_char c ≡ true → NameRest p x →
+word_name : (p : Part) (c : ℕ) (x : List ℕ) → is_tag_char c ≡ true → NameRest p x →
     (name : List ℕ) × IsName name × (y : List ℕ) × AfterName p y × (c ∷ x ≡ spell_name name ++ y)
 word_name p c x h (more, k, y, a, e) =
     let m = no_mark c h in
@@ -188,7 +188,7 @@ escaped_name : (p : Part) (x : List ℕ) → NameRest p x →
     (name : List ℕ) × IsName name × (y : List ℕ) × AfterName p y × (92 ∷ 45 ∷ x ≡ spell_name name ++ y)
 escaped_name p x (more, k, y, a, e) = (45 ∷ more, ((λ f. cc), rw (no_word-minus, k) refl), y, a, rw e refl)
 
-word_term : (p : Part) (c : ℕ) (x : List ℕ) → is_word_char c ≡ true → NameRest p x → TermAt p (c ∷ x)
+word_term : (p : Part) (c : ℕ) (x : List ℕ) → is_tag_char c ≡ true → NameRest p x → TermAt p (c ∷ x)
 word_term p c x h r = let n = word_name p c x h r in rw n.4 (name_term p n.0 n.2 n.1 n.3)
 
 escaped_term : (p : Part) (c : ℕ) (x : List ℕ) → (c == 92) ≡ true → Rests (Escaped p) x → TermAt p (c ∷ x)
@@ -201,10 +201,10 @@ term_pull : (p : Part) (c : ℕ) (x : List ℕ) → RestsAt (term_step p c) x �
 term_pull InTags c x =
     by_test (c == 92) _ _ x _ (escaped_term InTags c x)
     (λ _. by_test (c == 123) _ _ x _ (found_term c x)
-    (λ _. by_test (is_word_char c) _ _ x _ (word_term InTags c x) (λ _ r. absurd r)))
+    (λ _. by_test (is_tag_char c) _ _ x _ (word_term InTags c x) (λ _ r. absurd r)))
 term_pull InTodo c x =
     by_test (c == 92) _ _ x _ (escaped_term InTodo c x)
-    (λ _. by_test (is_word_char c) _ _ x _ (word_term InTodo c x) (λ _ r. absurd r))
+    (λ _. by_test (is_tag_char c) _ _ x _ (word_term InTodo c x) (λ _ r. absurd r))
 
 -- a sign or none, before a term
 sign_open : (p : Part) (c : ℕ) (x : List ℕ) → ((c == 43) ≡ true) ⊎ ((c == 45) ≡ true) → TermAt p x → OpenAt p (c ∷ x)
@@ -286,7 +286,7 @@ equal_name c x h v = ([], refl, c ∷ x, inr (Equal, x, v, after c 61 x x h refl
 escaped_rest : (p : Part) (c : ℕ) (x : List ℕ) → (c == 92) ≡ true → Rests (Escaped p) x → NameRest p (c ∷ x)
 escaped_rest p c x h (y, r, e) = let n = escaped_name p y r in (n.0, n.1.1, n.2, n.3, after c 92 x (45 ∷ y) h e ∙ n.4)
 
-word_rest : (p : Part) (c : ℕ) (x : List ℕ) → is_word_char c ≡ true → NameRest p x → NameRest p (c ∷ x)
+word_rest : (p : Part) (c : ℕ) (x : List ℕ) → is_tag_char c ≡ true → NameRest p x → NameRest p (c ∷ x)
 word_rest p c x h r = let n = word_name p c x h r in (n.0, n.1.1, n.2, n.3, n.4)
 
 name_pull : (p : Part) (c : ℕ) (x : List ℕ) → RestsAt (name_step p c) x → NameRest p (c ∷ x)
@@ -295,11 +295,11 @@ name_pull InTags c x =
     (λ _. by_test (c == 60) _ _ x _ (less_name c x)
     (λ _. by_test (c == 61) _ _ x _ (equal_name c x)
     (λ _. by_test (c == 62) _ _ x _ (greater_name c x)
-    (λ _. by_test (is_word_char c) _ _ x _ (word_rest InTags c x)
+    (λ _. by_test (is_tag_char c) _ _ x _ (word_rest InTags c x)
     (λ _ r. ([], refl, c ∷ x, inl (next_pull InTags c x r), refl))))))
 name_pull InTodo c x =
     by_test (c == 92) _ _ x _ (escaped_rest InTodo c x)
-    (λ _. by_test (is_word_char c) _ _ x _ (word_rest InTodo c x)
+    (λ _. by_test (is_tag_char c) _ _ x _ (word_rest InTodo c x)
     (λ _ r. ([], refl, c ∷ x, next_pull InTodo c x r, refl)))
 
 -- ---- each state
@@ -387,8 +387,8 @@ live_next InTags c = live_test (c == 43 || c == 45) _ _ (λ _. tt) (live_test (c
 live_next InTodo c = live_test (c == 43 || c == 45) _ _ (λ _. tt) (live_test (c == 38 || c == 124) _ _ (λ _. tt) tt)
 
 live_term : (p : Part) (c : ℕ) → IsLiveAt (term_step p c)
-live_term InTags c = live_test (c == 92) _ _ (λ _. tt) (live_test (c == 123) _ _ (λ _. tt) (live_test (is_word_char c) _ _ (λ _. tt) tt))
-live_term InTodo c = live_test (c == 92) _ _ (λ _. tt) (live_test (is_word_char c) _ _ (λ _. tt) tt)
+live_term InTags c = live_test (c == 92) _ _ (λ _. tt) (live_test (c == 123) _ _ (λ _. tt) (live_test (is_tag_char c) _ _ (λ _. tt) tt))
+live_term InTodo c = live_test (c == 92) _ _ (λ _. tt) (live_test (is_tag_char c) _ _ (λ _. tt) tt)
 
 live_open : (p : Part) (c : ℕ) → IsLiveAt (option_or (sign_step p c) (term_step p c))
 live_open p c = by (c == 43 || c == 45)
@@ -403,8 +403,8 @@ live_value c = live_test (c == 45) _ _ (λ _. tt) (live_test (c == 34) _ _ (λ _
 live_name : (p : Part) (c : ℕ) → IsLiveAt (name_step p c)
 live_name InTags c =
     live_test (c == 92) _ _ (λ _. tt) (live_test (c == 60) _ _ (λ _. tt) (live_test (c == 61) _ _ (λ _. tt) (live_test (c == 62) _ _ (λ _. tt)
-    (live_test (is_word_char c) _ _ (λ _. tt) (live_next InTags c)))))
-live_name InTodo c = live_test (c == 92) _ _ (λ _. tt) (live_test (is_word_char c) _ _ (λ _. tt) (live_next InTodo c))
+    (live_test (is_tag_char c) _ _ (λ _. tt) (live_next InTags c)))))
+live_name InTodo c = live_test (c == 92) _ _ (λ _. tt) (live_test (is_tag_char c) _ _ (λ _. tt) (live_next InTodo c))
 
 less_from : (n m : ℕ) → nat_lt n m ≡ true → n + 1 ≤ m
 less_from n m h = grind (arith, nat_tests)

@@ -4,7 +4,7 @@ use Rattle.std.specs.Char.{is_ascii_digit}
 use Rattle.std.specs.Prelude.{ℕ, ◌+◌, Bool, true, false, ◌||◌, ◌==◌, nat_lt, List, [], ◌∷◌, Option, None, Some, is_some, if◌then◌else◌}
 use Rattle.std.specs.Option.{option_or}
 use Rattle.std.specs.Char.{len_utf8}
-use Rattle.org_expression.specs.Names.{is_word_char}
+use Rattle.org_base.specs.Characters.{is_tag_char}
 use Rattle.org_expression.specs.declared.state.Part.{Part}
 use Rattle.org_expression.specs.declared.state.Part.TheVariants.{InTags, InTodo}
 use Rattle.org_expression.specs.declared.state.State.{State}
@@ -18,9 +18,9 @@ sign_step part c = if c == 43 || c == 45 then Some (Signed part) else None
 abbrev pub term_step : Part → ℕ → Option State
 term_step InTags c =
     if c == 92 then Some (Escaped InTags) else if c == 123 then Some InPattern
-    else if is_word_char c then Some (InName InTags) else None
+    else if is_tag_char c then Some (InName InTags) else None
 term_step InTodo c =
-    if c == 92 then Some (Escaped InTodo) else if is_word_char c then Some (InName InTodo) else None
+    if c == 92 then Some (Escaped InTodo) else if is_tag_char c then Some (InName InTodo) else None
 
 -- a sign, or the first character of a term
 abbrev pub begin_step : Part → ℕ → Option State
@@ -42,9 +42,9 @@ value_step c = if c == 45 then Some AfterMinus else if c == 34 then Some InText 
 abbrev pub name_step : Part → ℕ → Option State
 name_step InTags c =
     if c == 92 then Some (Escaped InTags) else if c == 60 then Some AfterLess else if c == 61 then Some AfterEqual
-    else if c == 62 then Some AfterGreater else if is_word_char c then Some (InName InTags) else next_step InTags c
+    else if c == 62 then Some AfterGreater else if is_tag_char c then Some (InName InTags) else next_step InTags c
 name_step InTodo c =
-    if c == 92 then Some (Escaped InTodo) else if is_word_char c then Some (InName InTodo) else next_step InTodo c
+    if c == 92 then Some (Escaped InTodo) else if is_tag_char c then Some (InName InTodo) else next_step InTodo c
 
 -- one more character
 abbrev pub step : State → ℕ → Option State

@@ -1,7 +1,7 @@
 -- What is read of an expression so far, and what each character adds to it.
 use Rattle.std.specs.Char.{is_ascii_digit}
 use Rattle.std.specs.Prelude.{ℕ, Bool, true, false, ◌==◌, List, [], ◌∷◌, ◌++◌, Option, None, Some, if◌then◌else◌}
-use Rattle.org_expression.specs.Names.{is_word_char}
+use Rattle.org_base.specs.Characters.{is_tag_char}
 use Rattle.org_expression.specs.Grammar.{Link, Direct, And, Or, Sign, Unsigned, Plus, Minus, Op, Less, Equal, Greater, AtMost, AtLeast, Differs, Number, Quoted, Pattern, Term, Tag, Found, Compare, Item, item, Expr, Tags, Todo, Open}
 use Rattle.org_expression.specs.declared.state.State.{State}
 use Rattle.org_expression.specs.declared.state.State.TheVariants.{Start, Linked, Signed, InName, Escaped, InPattern, Closed, AfterLess, AfterGreater, AfterCompare, AfterEqual, AfterMinus, InWhole, AfterPoint, InFraction, InText, AfterSlash, AfterBang}
@@ -120,7 +120,7 @@ begin_value c d =
 abbrev pub in_name : ℕ → Draft → Draft
 in_name c d =
     if c == 92 then d else if c == 60 then record d { op = Less } else if c == 61 then record d { op = Equal }
-    else if c == 62 then record d { op = Greater } else if is_word_char c then record d { name = d.name ++ c ∷ [] } else follow c d
+    else if c == 62 then record d { op = Greater } else if is_tag_char c then record d { name = d.name ++ c ∷ [] } else follow c d
 
 -- a character, in the state that the ones before it lead to
 abbrev pub absorb : State → ℕ → Draft → Draft

@@ -3,7 +3,7 @@
 use Rattle.std.specs.Prelude.{◌≡◌, ◌≢◌, ℕ, ◌<◌, ◌≤◌, Bool, true, false, ◌||◌, not, ◌==◌, List, [], ◌∷◌, ◌++◌, length, if◌then◌else◌, encode_utf8_all}
 use Rattle.std.specs.Char.{is_ascii_digit}
 use Rattle.std.specs.List.{list_all}
-use Rattle.org_expression.specs.Names.{is_word_char}
+use Rattle.org_base.specs.Characters.{is_tag_char}
 use Rattle.org_expression.specs.declared.state.Part.{Part}
 use Rattle.org_expression.specs.declared.state.Part.TheVariants.{InTags, InTodo}
 
@@ -106,7 +106,7 @@ spell (Open tags todo) = spell_items tags ++ 47 ∷ 33 ∷ spell_items todo
 
 -- a name may hold minuses, each spelled with a backslash
 abbrev pub is_name_char : ℕ → Bool
-is_name_char c = is_word_char c || c == 45
+is_name_char c = is_tag_char c || c == 45
 
 -- a name isn't empty
 abbrev pub IsName : List ℕ → Type 0

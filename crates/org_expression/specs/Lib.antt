@@ -4,7 +4,6 @@ pub mod Draft
 pub mod Drafted
 pub mod Grammar
 pub mod Laws
-pub mod Names
 pub mod Refusal
 pub mod Spelled
 pub mod Times

@@ -3,7 +3,7 @@ use Rattle.std.specs.Prelude.{ℕ, ◌+◌, ◌-◌, ◌*◌, Bool, true, false,
 use Rattle.std.specs.Option.{option_map, option_or}
 use Rattle.org_cal.specs.Added.{day_of_month}
 use Rattle.org_cal.specs.Blocks.{this_month}
-use Rattle.org_cal.specs.Minutes.{minute_of}
+use Rattle.org_cal.specs.Minutes.{minute_of, minute_at}
 use Rattle.org_cal.specs.Parts.{month_day_of}
 use Rattle.org_cal.specs.declared.moment.Moment.{Moment}
 use Rattle.org_cal.specs.declared.unit.Unit.{Unit}
@@ -73,25 +73,17 @@ named_day today text =
     else (if bytes_eq text (codes "<tomorrow>") then day_moved false 1 Day today
     else relative_day today (drop 1 text))
 
--- the minute of a stamp; a missing time is 00:00
-abbrev pub stamp_minute : Stamp → ℕ
-stamp_minute stamp = minute_of stamp.day (unwrap_or stamp.time 0)
-
 -- the minute of a stamp that is the whole text; a range counts as its first stamp
 abbrev pub whole_stamp : List ℕ → Option (Stamp × ℕ) → Option ℕ
 whole_stamp text None = None
-whole_stamp text (Some found) = if found.1 == length text then Some (stamp_minute found.0) else None
-
--- 00:00 of a day
-abbrev pub midnight : ℕ → ℕ
-midnight day = minute_of day 0
+whole_stamp text (Some found) = if found.1 == length text then Some (minute_at (found.0.day, found.0.time)) else None
 
 -- the minute that a quoted text names at a moment
 abbrev pub named_minute : Moment → List ℕ → Option ℕ
 named_minute moment text =
     if bytes_eq text (codes "<now>") then Some (minute_of moment.day moment.minute)
-    else option_or (option_map midnight (named_day moment.day text)) (whole_stamp text (stamp_of text))
+    else option_or (option_map (λ day. minute_of day 0) (named_day moment.day text)) (whole_stamp text (stamp_of text))
 
 -- the minute of the stamp at the front of a property, active or not
 abbrev pub front_minute : List ℕ → Option ℕ
-front_minute text = option_map (λ found. stamp_minute found.0) (single_of text)
+front_minute text = option_map (λ found. minute_at (found.0.day, found.0.time)) (single_of text)

@@ -6,9 +6,10 @@ ghost use Rattle.org_expression.specs.Draft as spec;
 
 use crate::shape::Shape;
 use crate::state::State;
-use crate::step::{is_final, is_word_char};
+use crate::step::is_final;
 use crate::tree::{Item, Kind, Link, Op, Sign, Term, Value, Written};
 use crate::words::Words;
+use org_base::is_tag_char;
 use std::alloc::{AllocError, Global};
 use std::marker::Model;
 
@@ -218,7 +219,7 @@ impl Draft {
             '<' => self.compare(Op::Less),
             '=' => self.compare(Op::Equal),
             '>' => self.compare(Op::Greater),
-            _ if is_word_char(c) => self.name.push(c),
+            _ if is_tag_char(c) => self.name.push(c),
             _ => self.follow(c),
         }
     }

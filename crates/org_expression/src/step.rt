@@ -2,19 +2,9 @@
 //! front of a text that begins an expression ends where no step is left.
 ghost use Rattle.std.specs.Prelude.{◌≡◌};
 ghost use Rattle.org_expression.specs.Automaton as spec;
-ghost use Rattle.org_expression.specs.Names as names;
 
 use crate::state::{Part, State};
-use unicode::properties::{GeneralCategory, is_alphabetic};
-
-/// Whether the character may stand in a name as it is: alphanumeric, or one of `_@#%`.
-pub fn is_word_char(c: char) -> bool
-    ensures value { result ≡ names.is_word_char c }
-{
-    is_alphabetic(c)
-        || GeneralCategory::for_char(c) == GeneralCategory::DecimalNumber
-        || matches!(c, '_' | '@' | '#' | '%')
-}
+use org_base::is_tag_char;
 
 /// A sign.
 fn sign_to(part: Part, c: char) -> Option<State>
@@ -33,7 +23,7 @@ fn term_to(part: Part, c: char) -> Option<State>
     match c {
         '\\' => Some(State::Escaped(part)),
         '{' if part == Part::InTags => Some(State::InPattern),
-        _ if is_word_char(c) => Some(State::InName(part)),
+        _ if is_tag_char(c) => Some(State::InName(part)),
         _ => None,
     }
 }
@@ -78,7 +68,7 @@ fn name_to(part: Part, c: char) -> Option<State>
         '<' if part == Part::InTags => Some(State::AfterLess),
         '=' if part == Part::InTags => Some(State::AfterEqual),
         '>' if part == Part::InTags => Some(State::AfterGreater),
-        _ if is_word_char(c) => Some(State::InName(part)),
+        _ if is_tag_char(c) => Some(State::InName(part)),
         _ => next_to(part, c),
     }
 }

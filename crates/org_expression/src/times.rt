@@ -1,11 +1,12 @@
 //! Times that an expression compares with, in minutes since 0001-01-01 00:00.
 ghost use Rattle.std.specs.Prelude.{◌≡◌, ◌<◌, ◌^◌};
 ghost use Rattle.std.specs.Option.{option_map};
+ghost use Rattle.org_cal.specs.Minutes.{minute_at};
 ghost use Rattle.org_expression.specs.Times as spec;
 ghost use Rattle.org_stamp.specs.Read.{stamp_of};
 
 use crate::decimal::{digit_count, read_whole};
-use org_cal::{Day, Minute, Moment, TimeOfDay, Unit};
+use org_cal::{Day, Minute, Moment, Unit};
 use org_stamp::{Stamp, read_single, read_stamp};
 
 /// Whether a quoted text stands for a time: it begins with `<` and ends with `>`.
@@ -25,7 +26,7 @@ pub fn named_minute(moment: Moment, text: &[u8]) -> Option<u64>
         return Some(moment.minute().number());
     }
     match named_day(moment.day, text) {
-        Some(day) => Some(midnight(day)),
+        Some(day) => Some(Minute::of(day, None).number()),
         None => whole_stamp(text),
     }
 }
@@ -121,17 +122,7 @@ fn whole_stamp(text: &[u8]) -> Option<u64>
 
 /// The minute of a stamp; a missing time is 00:00.
 fn stamp_minute(stamp: Stamp) -> u64
-    ensures value { result ≡ spec.stamp_minute stamp }
+    ensures value { result ≡ minute_at (stamp.day, stamp.time) }
 {
-    match stamp.time {
-        Some(time) => Minute::at(stamp.day, time).number(),
-        None => midnight(stamp.day),
-    }
-}
-
-/// 00:00 of a day.
-fn midnight(day: Day) -> u64
-    ensures value { result ≡ spec.midnight day }
-{
-    Minute::at(day, TimeOfDay::of_minutes(0)).number()
+    Minute::of(stamp.day, stamp.time).number()
 }

@@ -26,7 +26,7 @@ use Rattle.org_file.proofs.EntryLemmas.{HasPlaces, entry_places, no_head}
 use Rattle.org_file.proofs.PartLemmas.{parts_are_one_change}
 use Rattle.org_file.proofs.PairLemmas.{IsLaid, IsWithin}
 use Rattle.org_file.proofs.PlanLemmas.{HasRoom, AreTextStamps, plan_fits}
-use Rattle.org_head.specs.Spans.{part_of}
+use Rattle.org_base.specs.Spans.{bytes_in}
 use Rattle.org_head.specs.declared.head.Head.{Head}
 use Rattle.org_lines.specs.Cuts.{lines}
 use Rattle.org_settings.specs.Keywords.{keyword_word}
@@ -295,6 +295,10 @@ can_write t place settings entry head now word plan e is planned =
     let both = plan_fits entry.text ((keyword_span (heading_line entry) head.keyword).at + (keyword_span (heading_line entry) head.keyword).len) now settings entry.planning word plan planned room.1 in
     record { utf8 = (text_of_entry t place settings entry e).text; keyword = room.0; first = both.0; second = both.1 }
 
--- the bytes between a place and a stamp are text
-pub kept_text : (x : List ℕ) (from : ℕ) (span : Span) → IsUtf8 x → IsCharBoundary x from → from ≤ span.at → IsTextPart x span → IsUtf8 (part_of x (record { at = from; len = span.at - from }))
-kept_text x from span u b le h = IsUtf8-between x from span.at u le b h.start
+-- the bytes between a place and a stamp
+pub kept_bytes : (x : List ℕ) (from : ℕ) (span : Span) → from ≤ span.at → bytes_in x (record { at = from; len = span.at - from }) ≡ slice_range x from span.at
+kept_bytes x from span le = let end : from + (span.at - from) ≡ span.at = omega (arith, le) in ap (slice_range x from) end
+
+-- they are text
+pub kept_text : (x : List ℕ) (from : ℕ) (span : Span) → IsUtf8 x → IsCharBoundary x from → from ≤ span.at → IsTextPart x span → IsUtf8 (bytes_in x (record { at = from; len = span.at - from }))
+kept_text x from span u b le h = subst IsUtf8 (sym (kept_bytes x from span le)) (IsUtf8-between x from span.at u le b h.start)

@@ -6,7 +6,8 @@ use Rattle.org_base.specs.Counts.{Counts, ticked}
 use Rattle.org_base.specs.declared.meter.Tick.TheVariants.{Read}
 use Rattle.org_base.specs.declared.span.Span.{Span}
 use Rattle.org_class.specs.Classes.{section_classes, text_classes}
-use Rattle.org_class.specs.Sections.{sections, bytes_in}
+use Rattle.org_base.specs.Spans.{bytes_in}
+use Rattle.org_class.specs.Sections.{sections}
 use Rattle.org_class.specs.declared.class.Class.{Class}
 use Rattle.org_entry.specs.declared.entry.Entry.{Entry}
 use Rattle.org_file.specs.Counts.{have_read}

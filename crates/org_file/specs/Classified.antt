@@ -3,7 +3,8 @@ use Rattle.std.specs.Prelude.{◌≡◌, ◌+◌, ◌≤◌, ℕ, List, length, 
 use Rattle.std.specs.List.{All}
 use Rattle.org_base.specs.declared.span.Span.{Span}
 use Rattle.org_class.specs.Classes.{text_classes}
-use Rattle.org_class.specs.Sections.{bytes_in, sections, spans_from}
+use Rattle.org_base.specs.Spans.{bytes_in}
+use Rattle.org_class.specs.Sections.{sections, spans_from}
 use Rattle.org_class.specs.declared.class.Class.{Class}
 use Rattle.org_settings.specs.Settings.{FileSettings}
 use Rattle.org_file.specs.Outline.{file_settings}

@@ -10,7 +10,8 @@ use Rattle.org_head.specs.declared.head.Head.{Head}
 use Rattle.org_settings.specs.Settings.{FileSettings}
 use Rattle.org_class.specs.Heading.{stars}
 use Rattle.org_head.specs.Cookie.{is_cookie}
-use Rattle.org_head.specs.Spans.{part_of}
+use Rattle.org_base.proofs.SpanLemmas.{bytes_taken}
+use Rattle.org_base.specs.Spans.{bytes_in}
 use Rattle.org_head.specs.Head.{first_part, behind, behind_stars, behind_keyword, behind_cookie, behind_comment, head_of}
 use Rattle.org_head.proofs.FirstWord.{IsTrimmed, trimmed-trim_start, first_word-taken}
 
@@ -76,16 +77,16 @@ pub trimmed-comment : (settings : FileSettings) (line : List ℕ) → IsTrimmed 
 trimmed-comment settings line = trimmed-behind _ (behind_cookie settings line) (trimmed-cookie settings line)
 
 -- a first part is cut out of the line as the first word
-pub first_cut : (line text : List ℕ) → IsEnd line text → IsTrimmed text → part_of line (record { at = length line - length text; len = length (first_word text) }) ≡ first_word text
-first_cut line text e h = ap (take (length (first_word text))) (end-cut line text e) ∙ first_word-taken text h
+pub first_cut : (line text : List ℕ) → IsEnd line text → IsTrimmed text → bytes_in line (record { at = length line - length text; len = length (first_word text) }) ≡ first_word text
+first_cut line text e h = bytes_taken line (record { at = length line - length text; len = length (first_word text) }) ∙ ap (take (length (first_word text))) (end-cut line text e) ∙ first_word-taken text h
 
-cookie_in_first : (b : Bool) (line text : List ℕ) → IsEnd line text → IsTrimmed text → b ≡ is_cookie (first_word text) → IfSome (first_part b (length line) text) (λ span. is_cookie (part_of line span) ≡ true)
+cookie_in_first : (b : Bool) (line text : List ℕ) → IsEnd line text → IsTrimmed text → b ≡ is_cookie (first_word text) → IfSome (first_part b (length line) text) (λ span. is_cookie (bytes_in line span) ≡ true)
 cookie_in_first true line text e h b = ap is_cookie (first_cut line text e h) ∙ sym b
 cookie_in_first false line text e h b = tt
 
 -- the priority of a head is a cookie
-pub cookie_is : (settings : FileSettings) (line : List ℕ) (head : Head) (cookie : Span) → head ≡ head_of settings line → head.priority ≡ Some cookie → is_cookie (part_of line cookie) ≡ true
+pub cookie_is : (settings : FileSettings) (line : List ℕ) (head : Head) (cookie : Span) → head ≡ head_of settings line → head.priority ≡ Some cookie → is_cookie (bytes_in line cookie) ≡ true
 cookie_is settings line head cookie e is =
     let text = behind_keyword settings line in
     let found = cookie_in_first (is_cookie (first_word text)) line text (end-keyword settings line) (trimmed-keyword settings line) refl in
-    subst (λ o. IfSome o (λ span. is_cookie (part_of line span) ≡ true)) is (subst (λ h. IfSome h.priority (λ span. is_cookie (part_of line span) ≡ true)) (sym e) found)
+    subst (λ o. IfSome o (λ span. is_cookie (bytes_in line span) ≡ true)) is (subst (λ h. IfSome h.priority (λ span. is_cookie (bytes_in line span) ≡ true)) (sym e) found)

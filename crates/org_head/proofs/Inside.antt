@@ -11,7 +11,7 @@ use Rattle.org_head.proofs.Ends.{end-length, end-stars, end-keyword, end-comment
 use Rattle.org_head.specs.declared.head.Head.{Head}
 use Rattle.org_settings.specs.Settings.{FileSettings}
 use Rattle.org_head.specs.Parts.{is_tag_word, is_colon, last_word}
-use Rattle.org_head.specs.Spans.{IsInside}
+use Rattle.org_base.specs.Spans.{IsInside}
 use Rattle.org_head.specs.Tags.{span, spans_from}
 use Rattle.org_head.specs.Head.{AreInside, first_part, behind_stars, behind_keyword, behind_comment, title_of, tags_of, head_of}
 

@@ -14,7 +14,8 @@ use Rattle.org_settings.specs.Settings.{FileSettings}
 use Rattle.org_class.specs.Heading.{is_star, stars}
 use Rattle.org_head.specs.Cookie.{is_cookie}
 use Rattle.org_head.specs.Parts.{is_keyword, is_comment_word, is_tag_word, last_word}
-use Rattle.org_head.specs.Spans.{part_of, IsInside}
+use Rattle.org_base.proofs.SpanLemmas.{bytes_taken}
+use Rattle.org_base.specs.Spans.{bytes_in, IsInside}
 use Rattle.org_head.specs.Head.{first_part, behind, behind_stars, behind_keyword, behind_cookie, behind_comment, title_of, tags_of, head_of}
 use Rattle.org_head.specs.HeadParts.{Begins, StandsAt, MayBegin, MayBeComment, EndsInTags, EndsInTitle, HasParts}
 use Rattle.org_head.proofs.Runs.{prefix_is, front_is, end_is, all-reverse}
@@ -63,24 +64,24 @@ left_is text word left t b =
     sym (ap trim_start cut ∙ gap_trimmed b.gap left b.blank b.next)
 
 -- a part of the line is as long as it says
-length-part_of : (line : List ℕ) (span : Span) → IsInside line span → length (part_of line span) ≡ span.len
-length-part_of line span h =
+length-bytes_in : (line : List ℕ) (span : Span) → IsInside line span → length (bytes_in line span) ≡ span.len
+length-bytes_in line span h =
     let short = length-take span.len (drop span.at line) in
     let rest = length-drop span.at line in
-    omega (arith, short, rest, h)
+    ap length (bytes_taken line span) ∙ omega (arith, short, rest, h)
 
-span_is : (line text : List ℕ) (span : Span) (word : List ℕ) → StandsAt line text span → part_of line span ≡ word → span ≡ record { at = length line - length text; len = length word }
+span_is : (line text : List ℕ) (span : Span) (word : List ℕ) → StandsAt line text span → bytes_in line span ≡ word → span ≡ record { at = length line - length text; len = length word }
 span_is line text span word s e =
     let place = s.place in
     let at : span.at ≡ length line - length text = omega (arith, place) in
-    let len : span.len ≡ length word = sym (length-part_of line span s.inside) ∙ ap length e in
+    let len : span.len ≡ length word = sym (length-bytes_in line span s.inside) ∙ ap length e in
     λ i. record { at = at i; len = len i }
 
 part_is : (is_one : List ℕ → Bool) (line text : List ℕ) (span : Option Span) (left : List ℕ) → IsTrimmed text → MayBegin is_one line text span left → let b = is_one (first_word text) in (span ≡ first_part b (length line) text) × (left ≡ behind b text)
 part_is is_one line text (Some span) left t h =
-    let first = first_is text (part_of line span) left t h.2 in
+    let first = first_is text (bytes_in line span) left t h.2 in
     let yes : is_one (first_word text) ≡ true = ap is_one first ∙ h.0 in
-    rw yes (ap Some (span_is line text span (first_word text) h.1 (sym first)), left_is text (part_of line span) left t h.2)
+    rw yes (ap Some (span_is line text span (first_word text) h.1 (sym first)), left_is text (bytes_in line span) left t h.2)
 part_is is_one line text None left t h = rw h.0 (refl, h.1)
 
 comment_is : (text : List ℕ) (b : Bool) (left : List ℕ) → IsTrimmed text → MayBeComment text b left → let c = is_comment_word (first_word text) in (b ≡ c) × (left ≡ behind c text)
@@ -163,8 +164,8 @@ head_is_determined settings line head h =
     (subst (λ t. MayBeComment t head.comment h.text) cookie.1 h.comment) in
     let left = behind_comment settings line in
     let stands = subst (λ t. StandsAt line t head.title) comment.1 h.title in
-    let ends = subst (λ t. EndsInTags line t (part_of line head.title) head.tags ⊎ EndsInTitle t (part_of line head.title) head.tags) comment.1 h.tags in
-    let read : are_read line left (part_of line head.title) head.tags = elim ends [
+    let ends = subst (λ t. EndsInTags line t (bytes_in line head.title) head.tags ⊎ EndsInTitle t (bytes_in line head.title) head.tags) comment.1 h.tags in
+    let read : are_read line left (bytes_in line head.title) head.tags = elim ends [
       | inl tags ↦ tags_read line left _ head.tags h.trimmed (end-length line left (end-comment settings line)) tags
       | inr title ↦ title_read line left _ head.tags h.trimmed title
     ] in

@@ -16,7 +16,8 @@ use Rattle.org_settings.specs.Settings.{FileSettings}
 use Rattle.org_class.specs.Heading.{stars, begins_heading}
 use Rattle.org_head.specs.Cookie.{is_cookie}
 use Rattle.org_head.specs.Parts.{is_keyword, is_comment_word, is_tag_word, last_word}
-use Rattle.org_head.specs.Spans.{part_of}
+use Rattle.org_base.proofs.SpanLemmas.{bytes_taken}
+use Rattle.org_base.specs.Spans.{bytes_in}
 use Rattle.org_head.specs.Tags.{spans_from}
 use Rattle.org_head.specs.Head.{first_part, behind, behind_stars, behind_keyword, behind_cookie, behind_comment, title_of, tags_of, head_of}
 use Rattle.org_head.specs.HeadParts.{Begins, MayBegin, MayBeComment, EndsInTags, EndsInTitle, HasParts}
@@ -69,8 +70,8 @@ gap_space [] h = h
 gap_space (b ∷ bs) h = rw (h, one-add) refl
 
 -- a title is cut out of the line at the front of what is left
-title_cut : (line left title rest : List ℕ) → IsEnd line left → left ≡ title ++ rest → part_of line (record { at = length line - length left; len = length title }) ≡ title
-title_cut line left title rest e h = ap (take (length title)) (end-cut line left e ∙ h) ∙ take-append_seam title rest
+title_cut : (line left title rest : List ℕ) → IsEnd line left → left ≡ title ++ rest → bytes_in line (record { at = length line - length left; len = length title }) ≡ title
+title_cut line left title rest e h = bytes_taken line (record { at = length line - length left; len = length title }) ∙ ap (take (length title)) (end-cut line left e ∙ h) ∙ take-append_seam title rest
 
 keeps_end : (text : List ℕ) → suffix_len is_gap text ≡ 0 → trim_end text ≡ text
 keeps_end text h =

@@ -4,7 +4,7 @@ use Rattle.std.specs.List.{All}
 use Rattle.org_base.specs.Words.{trim_start, trim_end, first_word}
 use Rattle.org_base.specs.declared.span.Span.{Span}
 use Rattle.org_head.specs.declared.head.Head.{Head}
-use Rattle.org_head.specs.Spans.{part_of, IsInside}
+use Rattle.org_base.specs.Spans.{bytes_in, IsInside}
 use Rattle.org_class.specs.Heading.{stars}
 use Rattle.org_settings.specs.Settings.{FileSettings}
 use Rattle.org_settings.specs.Priority.{priority_number}
@@ -60,7 +60,7 @@ head_of settings line =
 -- the number of a cookie, or the file's default
 abbrev pub priority_at : FileSettings → List ℕ → Option Span → ℕ
 priority_at settings line None = settings.default_priority
-priority_at settings line (Some cookie) = priority_number (cookie_value (part_of line cookie))
+priority_at settings line (Some cookie) = priority_number (cookie_value (bytes_in line cookie))
 
 -- the priority of a heading
 abbrev pub priority_of : FileSettings → List ℕ → Head → ℕ

@@ -9,7 +9,7 @@ use Rattle.org_head.specs.declared.head.Head.{Head}
 use Rattle.org_settings.specs.Settings.{FileSettings}
 use Rattle.org_head.specs.Cookie.{is_cookie}
 use Rattle.org_head.specs.Parts.{is_keyword, is_comment_word, is_colon, is_tag_word, last_word}
-use Rattle.org_head.specs.Spans.{part_of, IsInside}
+use Rattle.org_base.specs.Spans.{bytes_in, IsInside}
 
 -- the text begins with a word, whole; behind it stand a gap and what is left, at whose front no gap stands
 pub record Begins (text word left : List ℕ) : Type 0 where
@@ -28,7 +28,7 @@ pub record StandsAt (line text : List ℕ) (span : Span) : Type 0 where
 -- An optional part of one kind, at the front of the text that the line ends in: it is there exactly where the text's
 -- first word is of that kind. Then the rest is left.
 abbrev pub MayBegin : (List ℕ → Bool) → List ℕ → List ℕ → Option Span → List ℕ → Type 0
-MayBegin is_one line text (Some span) left = (is_one (part_of line span) ≡ true) × StandsAt line text span × Begins text (part_of line span) left
+MayBegin is_one line text (Some span) left = (is_one (bytes_in line span) ≡ true) × StandsAt line text span × Begins text (bytes_in line span) left
 MayBegin is_one line text None left = (is_one (first_word text) ≡ false) × (left ≡ text)
 
 -- the word COMMENT, alike
@@ -99,5 +99,5 @@ pub record HasParts (settings : FileSettings) (line : List ℕ) (head : Head) : 
   pub cookie : MayBegin is_cookie line from_cookie head.priority from_comment
   pub comment : MayBeComment from_comment head.comment text
   pub title : StandsAt line text head.title
-  pub trimmed : trim_end (part_of line head.title) ≡ part_of line head.title
-  pub tags : EndsInTags line text (part_of line head.title) head.tags ⊎ EndsInTitle text (part_of line head.title) head.tags
+  pub trimmed : trim_end (bytes_in line head.title) ≡ bytes_in line head.title
+  pub tags : EndsInTags line text (bytes_in line head.title) head.tags ⊎ EndsInTitle text (bytes_in line head.title) head.tags

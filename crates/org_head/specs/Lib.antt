@@ -1,6 +1,5 @@
 pub mod Cookie
 pub mod Parts
-pub mod Spans
 pub mod Tags
 pub mod Head
 pub mod HeadParts

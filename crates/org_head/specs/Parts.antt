@@ -1,9 +1,8 @@
--- The words that are parts of a heading line (Org Syntax, Headings; which characters are alphanumeric: profile).
+-- The words that are parts of a heading line (Org Syntax, Headings).
 use Rattle.std.specs.Prelude.{ℕ, ◌-◌, Bool, ◌&&◌, ◌||◌, not, ◌==◌, nat_lt, List, length, drop, slice_index, bytes_eq, codes, chars, is_some}
 use Rattle.std.specs.List.{list_any, list_all, suffix_len}
 use Rattle.std.specs.Str.{is_utf8}
-use Rattle.unicode.specs.Binary.{is_alphabetic}
-use Rattle.ucd_category.specs.GeneralCategory.{general_category, general_category_number}
+use Rattle.org_base.specs.Characters.{is_tag_char}
 use Rattle.org_base.specs.Words.{is_letter}
 use Rattle.org_settings.specs.Keywords.{Keyword, keyword_place}
 
@@ -12,14 +11,6 @@ is_keyword keywords w = is_some (keyword_place keywords w)
 
 abbrev pub is_comment_word : List ℕ → Bool
 is_comment_word w = bytes_eq w (codes "COMMENT")
-
--- alphabetic, or a decimal digit (general category Nd)
-abbrev pub is_alphanumeric : ℕ → Bool
-is_alphanumeric c = is_alphabetic c || (general_category_number (general_category c) == 8)
-
--- what may stand in a tag: alphanumerics and _@#%
-abbrev pub is_tag_char : ℕ → Bool
-is_tag_char c = is_alphanumeric c || ((c == 95) || (c == 64) || (c == 35) || (c == 37))
 
 abbrev pub is_colon : ℕ → Bool
 is_colon c = c == 58

@@ -2,10 +2,11 @@
 ghost use Rattle.std.specs.Prelude.{◌≡◌, ◌≤◌, ◌&&◌, ◌||◌, not, length};
 ghost use Rattle.std.specs.List.{list_any, suffix_len};
 ghost use Rattle.std.specs.Str.{is_utf8};
+ghost use Rattle.org_base.specs.Characters.{is_tag_char};
 ghost use Rattle.org_base.specs.Words.{is_letter};
-ghost use Rattle.org_head.specs.Parts.{is_comment_word, is_alphanumeric, is_tag_char, is_colon, are_tag_chars, is_tag_word, last_word};
+ghost use Rattle.org_head.specs.Parts.{is_comment_word, is_colon, are_tag_chars, is_tag_word, last_word};
 
-use unicode::properties::{GeneralCategory, is_alphabetic};
+use org_base::is_tag_char;
 
 /// Whether the word hides its heading.
 pub(crate) fn is_comment_word(word: &[u8]) -> bool
@@ -14,18 +15,11 @@ pub(crate) fn is_comment_word(word: &[u8]) -> bool
     word == b"COMMENT".as_slice()
 }
 
-// Whether the character is alphabetic or a decimal digit.
-fn is_alphanumeric(c: char) -> bool
-    ensures value { result ≡ is_alphanumeric c }
-{
-    is_alphabetic(c) || GeneralCategory::for_char(c) == GeneralCategory::DecimalNumber
-}
-
 // Whether the character may stand among tags.
 fn is_tag_char_or_colon(c: char) -> bool
     ensures value { result ≡ (is_tag_char c || is_colon c) }
 {
-    c == ':' || c == '_' || c == '@' || c == '#' || c == '%' || is_alphanumeric(c)
+    c == ':' || is_tag_char(c)
 }
 
 fn are_tag_chars(text: &str) -> bool

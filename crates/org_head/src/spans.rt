@@ -1,7 +1,7 @@
 //! Parts of a line in order.
 ghost use Rattle.std.specs.Prelude.{◌≡◌, [], ◌++◌, ◌+◌, ◌<◌, ◌^◌, length, slice_get, OnOk, IsOkUnless};
 ghost use Rattle.org_base.specs.Codes.{memory_fault};
-ghost use Rattle.org_head.specs.Spans.{part_of, IsInside};
+ghost use Rattle.org_base.specs.Spans.{bytes_in, IsInside};
 ghost use Rattle.org_head.specs.Tags.{span, spans_from};
 
 use org_base::{Fault, Span};
@@ -86,7 +86,7 @@ impl Spans {
 /// The bytes of a part of a line.
 pub fn part(line: &[u8], span: Span) -> &[u8]
     requires within { IsInside line.now span }
-    ensures value { result.now ≡ part_of line.now span }
+    ensures value { result.now ≡ bytes_in line.now span }
 {
     let start = span.at as usize;
     &line[start..start + span.len as usize]

@@ -1,6 +1,7 @@
 -- The nearest entries with own tags.
 use Rattle.std.proofs.Common.{◌≡◌, ℕ, zero, suc, ◌++◌, ◌<◌, ◌≤◌, All, Bool, true, false, nat_lt, filter, reverse, Option, Some, None, List, [], ◌∷◌, length, map, get_or, append-nil, refl, sym, ap, ◌∙◌, inl, inr, arith}
 use Rattle.std.specs.List.{range_with_len, flat_map}
+use Rattle.std.specs.Option.{is_some}
 use Rattle.std.proofs.lemmas.Bool.{cases_Bool, ltb-false}
 use Rattle.std.proofs.lemmas.List.{get_or-map, reverse-append}
 use Rattle.std.proofs.lemmas.List.Elements.{filter-append, All-filter}
@@ -127,6 +128,19 @@ tags_of_tagged es i = flat_map_filter (is_tagged_at es) (own_tags_at es) (lineag
 -- a table of all entries, at a place
 pub tagged_at : (es : List Entry) (table : List (Option ℕ)) (i : ℕ) → table ≡ all_nearest_tagged es → i < length es → get_or table i None ≡ nearest_tagged es i
 tagged_at es table i e h = table_at (nearest_tagged es) table (length es) i None e h
+
+missing : (place : Option ℕ) → is_some place ≡ false → place ≡ None
+missing None h = refl
+missing (Some i) h = cc
+
+-- where it has none, no tags come from the entry and its ancestors
+pub none_tagged : (es : List Entry) (table : List (Option ℕ)) (i : ℕ) → table ≡ all_nearest_tagged es → i < length es → is_some (get_or table i None) ≡ false →
+    flat_map (own_tags_at es) (lineage es i) ≡ []
+none_tagged es table i is within none =
+    let test = is_tagged_at es in
+    let first : tagged_from es (Some i) ≡ None = sym (tagged_at es table i is within) ∙ missing (get_or table i None) none in
+    let up : filter test (up_from (levels es) (Some i)) ≡ [] = filter_up test (levels es) (Some i) ∙ ap (λ p. filter test (up_from (levels es) p)) first in
+    sym (tags_of_tagged es i) ∙ ap (flat_map (own_tags_at es)) (filter_lineage test es i ∙ ap reverse up)
 
 -- and at its parent
 pub tagged_above : (es : List Entry) (table : List (Option ℕ)) (i : ℕ) → table ≡ all_nearest_tagged es → i < length es →

@@ -3,7 +3,7 @@
 use Rattle.std.specs.Prelude.{ℕ, Bool, false, ◌||◌, Option, None, Some, List, ◌∷◌, map, get_or, bytes_eq, codes}
 use Rattle.std.specs.List.{list_any}
 use Rattle.org_entry.specs.declared.entry.Entry.{Entry}
-use Rattle.org_head.specs.Spans.{part_of}
+use Rattle.org_base.specs.Spans.{bytes_in}
 use Rattle.org_head.specs.declared.head.Head.{Head}
 use Rattle.org_outline.specs.Levels.{levels}
 use Rattle.org_outline.specs.Tree.{ancestors}
@@ -15,7 +15,7 @@ is_archive tag = bytes_eq tag (codes "ARCHIVE")
 -- a heading line has the word COMMENT or names the tag ARCHIVE
 abbrev pub hides_by : List ℕ → Option Head → Bool
 hides_by text None = false
-hides_by text (Some head) = head.comment || list_any is_archive (map (part_of text) head.tags)
+hides_by text (Some head) = head.comment || list_any is_archive (map (bytes_in text) head.tags)
 
 -- an entry hides itself and what is below it
 abbrev pub hides : Entry → Bool

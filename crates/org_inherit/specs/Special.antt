@@ -7,7 +7,7 @@ use Rattle.org_settings.specs.Settings.{FileSettings}
 use Rattle.org_drawer.specs.declared.planning.Planning.{Planning}
 use Rattle.org_entry.specs.declared.entry.Entry.{Entry}
 use Rattle.org_head.specs.Cookie.{cookie_value}
-use Rattle.org_head.specs.Spans.{part_of}
+use Rattle.org_base.specs.Spans.{bytes_in}
 use Rattle.org_head.specs.declared.head.Head.{Head}
 use Rattle.org_inherit.specs.Category.{category}
 use Rattle.org_inherit.specs.Scope.{Scope}
@@ -49,7 +49,7 @@ priority_text n = if nat_lt 64 n then n ∷ [] else decimal n
 -- X of the cookie [#X], else the file's default
 abbrev pub priority_value : FileSettings → List ℕ → Option Span → List ℕ
 priority_value settings text None = priority_text settings.default_priority
-priority_value settings text (Some cookie) = cookie_value (part_of text cookie)
+priority_value settings text (Some cookie) = cookie_value (bytes_in text cookie)
 
 -- what planning says under a keyword
 abbrev pub stamp_under : PlanningWord → Planning → Option (Stamp × Span)
@@ -63,12 +63,12 @@ stamp_span word planning = option_map (λ s. s.1) (option_and_then (stamp_under 
 
 -- what a heading's own lines say, of its entry and its head
 abbrev pub heading_value : FileSettings → Entry → Head → HeadingValue → Option (List ℕ)
-heading_value settings e head heading.Keyword = option_map (part_of e.text) head.keyword
+heading_value settings e head heading.Keyword = option_map (bytes_in e.text) head.keyword
 heading_value settings e head heading.Priority = Some (priority_value settings e.text head.priority)
 heading_value settings e head heading.Level = Some (decimal head.level)
-heading_value settings e head heading.Title = Some (part_of e.text head.title)
-heading_value settings e head heading.Tags = tags_value (map (part_of e.text) head.tags)
-heading_value settings e head (heading.Stamp word) = option_map (part_of e.text) (stamp_span word e.planning)
+heading_value settings e head heading.Title = Some (bytes_in e.text head.title)
+heading_value settings e head heading.Tags = tags_value (map (bytes_in e.text) head.tags)
+heading_value settings e head (heading.Stamp word) = option_map (bytes_in e.text) (stamp_span word e.planning)
 
 -- what the entry at a place has by its head; nothing where it has none
 abbrev pub by_head : List Entry → ℕ → (Entry → Head → Option (List ℕ)) → Option (List ℕ)

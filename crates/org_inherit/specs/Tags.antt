@@ -2,7 +2,7 @@
 use Rattle.std.specs.Prelude.{ℕ, ◌==◌, if◌then◌else◌, List, [], ◌∷◌, ◌++◌, Option, None, Some, map, length, get_or, fold, reverse, bytes_eq}
 use Rattle.std.specs.List.{list_any, flat_map}
 use Rattle.org_entry.specs.declared.entry.Entry.{Entry}
-use Rattle.org_head.specs.Spans.{part_of}
+use Rattle.org_base.specs.Spans.{bytes_in}
 use Rattle.org_head.specs.declared.head.Head.{Head}
 use Rattle.org_inherit.specs.Scope.{Scope}
 use Rattle.org_outline.specs.Levels.{levels}
@@ -11,7 +11,7 @@ use Rattle.org_outline.specs.Tree.{ancestors}
 -- the tags that a heading line itself names, in order and each as often as it is named
 abbrev pub tags_of_head : List ℕ → Option Head → List (List ℕ)
 tags_of_head text None = []
-tags_of_head text (Some head) = map (part_of text) head.tags
+tags_of_head text (Some head) = map (bytes_in text) head.tags
 
 -- an entry's own tags
 abbrev pub own_tags : Entry → List (List ℕ)

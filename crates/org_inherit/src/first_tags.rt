@@ -3,7 +3,7 @@ ghost use Rattle.std.specs.Prelude.{◌≡◌, ◌<◌, ◌||◌, ℕ, List, [],
 ghost use Rattle.std.specs.List.{list_any};
 ghost use Rattle.std.specs.Option.{option_map};
 ghost use Rattle.org_base.specs.Codes.{memory_fault};
-ghost use Rattle.org_head.specs.Spans.{part_of};
+ghost use Rattle.org_base.specs.Spans.{bytes_in};
 ghost use Rattle.org_inherit.specs.Seen.{is_seen, AreSeen};
 ghost use Rattle.org_inherit.specs.Tags.{with_tag};
 
@@ -73,7 +73,7 @@ impl FirstTags {
     /// Adds those tags that aren't there, each a part of an entry's text.
     pub(crate) fn add_parts(&mut self, entry: &Entry, parts: &[Span]) -> Result<(), Fault>
         requires { AreSeen (option_map (λ set. set.keys) self.old.seen) self.old.tags }
-        ensures tags { OnOk result (self.new.tags ≡ fold with_tag self.old.tags (map (part_of entry.now.text) parts.now)) }
+        ensures tags { OnOk result (self.new.tags ≡ fold with_tag self.old.tags (map (bytes_in entry.now.text) parts.now)) }
         ensures seen { OnOk result (AreSeen (option_map (λ set. set.keys) self.new.seen) self.new.tags) }
         ensures memory { IsOkUnless result memory_fault }
     {

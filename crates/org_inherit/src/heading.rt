@@ -3,7 +3,7 @@ ghost use Rattle.std.specs.Prelude.{◌≡◌, decimal, IfOk, IsOkUnless};
 ghost use Rattle.std.specs.Option.{option_map};
 ghost use Rattle.org_base.specs.Codes.{memory_fault};
 ghost use Rattle.org_head.specs.Cookie.{cookie_value};
-ghost use Rattle.org_head.specs.Spans.{part_of};
+ghost use Rattle.org_base.specs.Spans.{bytes_in};
 ghost use Rattle.org_inherit.specs.Special.{priority_text, priority_value, stamp_span, heading_value};
 
 use crate::special::HeadingValue;
@@ -69,7 +69,7 @@ fn priority_value(
 
 // A part of an entry's text, if it is there.
 fn part_value(alloc: Global, entry: &Entry, part: Option<Span>) -> Result<Option<Bytes>, Fault>
-    ensures value { IfOk result (λ value. value ≡ option_map (part_of entry.now.text) part) }
+    ensures value { IfOk result (λ value. value ≡ option_map (bytes_in entry.now.text) part) }
     ensures memory { IsOkUnless result memory_fault }
 {
     match part {

@@ -1,7 +1,7 @@
 //! Hidden headings.
 ghost use Rattle.std.specs.Prelude.{◌≡◌, ◌<◌, ◌≤◌, length, map};
 ghost use Rattle.std.specs.List.{list_any, range_with_len};
-ghost use Rattle.org_head.specs.Spans.{part_of};
+ghost use Rattle.org_base.specs.Spans.{bytes_in};
 ghost use Rattle.org_inherit.specs.Hidden.{is_archive, hides, is_hidden, of_parent};
 ghost use Rattle.org_outline.specs.Places.{behind};
 
@@ -16,7 +16,7 @@ fn is_archive(tag: &[u8]) -> bool
 }
 
 fn has_archive_tag(entry: &Entry, tags: &[Span]) -> bool
-    ensures value { result ≡ list_any is_archive (map (part_of entry.now.text) tags.now) }
+    ensures value { result ≡ list_any is_archive (map (bytes_in entry.now.text) tags.now) }
 {
     for tag in tags {
         if is_archive(entry.part(*tag)) {

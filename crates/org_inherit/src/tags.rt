@@ -3,7 +3,7 @@ ghost use Rattle.std.specs.Prelude.{◌≡◌, ◌<◌, ◌++◌, length, fold, 
 ghost use Rattle.std.specs.List.{flat_map};
 ghost use Rattle.std.specs.Option.{option_map};
 ghost use Rattle.org_base.specs.Codes.{memory_fault};
-ghost use Rattle.org_head.specs.Spans.{part_of};
+ghost use Rattle.org_base.specs.Spans.{bytes_in};
 ghost use Rattle.org_inherit.specs.Seen.{AreSeen};
 ghost use Rattle.org_inherit.specs.Tagged.{all_nearest_tagged, is_tagged_at};
 ghost use Rattle.org_inherit.specs.Tags.{own_tags, own_tags_at, lineage, with_tag, firsts, tags_text, tags_value, with_shown};
@@ -65,6 +65,9 @@ pub(crate) fn all_tags(
     ensures value { IfOk result (λ tags. tags ≡ firsts (file_tags.now ++ flat_map (own_tags_at outline.now) (lineage outline.now place))) }
     ensures memory { IsOkUnless result memory_fault }
 {
+    if file_tags.count() == 0 && tagged.get(place).is_none() {
+        return Ok(Texts::new(alloc));
+    }
     let mut tags = FirstTags::new(alloc);
     tags.add_all(file_tags)?;
     let line = tagged_line(alloc, outline, tagged, place)?;
@@ -76,7 +79,7 @@ pub(crate) fn all_tags(
 
 /// Parts of an entry's text, copied.
 pub(crate) fn parts(alloc: Global, entry: &Entry, spans: &[Span]) -> Result<Texts, Fault>
-    ensures value { IfOk result (λ parts. parts ≡ map (part_of entry.now.text) spans.now) }
+    ensures value { IfOk result (λ parts. parts ≡ map (bytes_in entry.now.text) spans.now) }
     ensures memory { IsOkUnless result memory_fault }
 {
     let mut parts = Texts::new(alloc);

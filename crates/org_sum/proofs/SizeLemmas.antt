@@ -6,13 +6,13 @@ use Rattle.std.specs.Option.{option_and_then, option_map, option_to_list}
 use Rattle.std.proofs.lemmas.List.Concat.{flat_map-cons}
 use Rattle.std.proofs.lemmas.List.Sums.{sum_by-cons, sum_by-append}
 use Rattle.org_base.specs.Words.{is_space}
-use Rattle.org_cal.specs.Minutes.{minute_of}
+use Rattle.org_cal.specs.Minutes.{minute_of, minute_at}
 use Rattle.org_class.proofs.Cuts.{concat-sections}
 use Rattle.org_class.specs.Classes.{section_classes}
 use Rattle.org_class.specs.Sections.{sections}
 use Rattle.org_class.specs.declared.class.Class.{Class}
 use Rattle.org_class.specs.declared.class.Class.TheVariants.{Heading, Planning, DrawerOpen, Node, DrawerEnd, BlockOpen, Verbatim, BlockEnd, Comment, Setting, Clock, Plain}
-use Rattle.org_drawer.specs.Clock.{minute_at, minutes_in, minutes_to}
+use Rattle.org_drawer.specs.Clock.{minutes_in, minutes_to}
 use Rattle.org_drawer.specs.declared.clock.ClockLine.{ClockLine}
 use Rattle.org_entry.specs.Entry.{PlacedLine, clocks_of, entry_of, placed}
 use Rattle.org_lines.proofs.LineLemmas.{concat-lines}

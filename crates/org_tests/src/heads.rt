@@ -1,7 +1,7 @@
 //! The parts of heading lines.
 ghost use Rattle.std.specs.Prelude.{◌≤◌, ◌<◌, ◌^◌, length, IfSome};
 ghost use Rattle.std.specs.List.{All};
-ghost use Rattle.org_head.specs.Spans.{IsInside};
+ghost use Rattle.org_base.specs.Spans.{IsInside};
 
 use org_base::{Fault, Span, Texts};
 use org_head::{Head, part, read_head};

@@ -1,7 +1,7 @@
 use Rattle.std.proofs.Common.{◌≡◌, ◌++◌, ◌+◌, ◌≤◌, map, length, drop}
 use Rattle.org_lines.specs.Cuts.{lines}
 use Rattle.org_class.specs.Classes.{StandStill, lines_of_setting}
-use Rattle.org_class.specs.Sections.{bytes_in}
+use Rattle.org_base.specs.Spans.{bytes_in}
 use Rattle.org_class.proofs.read.push_lines.Given as goal
 
 -- the setting lines so far, and those among the lines left, are all

@@ -3,7 +3,7 @@ use Rattle.std.proofs.Common.{◌≡◌, ◌∙◌, ◌++◌, false, ap, sym, ap
 use Rattle.std.specs.List.{list_any}
 use Rattle.org_lines.specs.Cuts.{lines}
 use Rattle.org_class.specs.Classes.{is_setting_class}
-use Rattle.org_class.specs.Sections.{bytes_in}
+use Rattle.org_base.specs.Spans.{bytes_in}
 use Rattle.org_class.proofs.SettingLemmas.{no_settings}
 use Rattle.org_class.proofs.read.push_setting_lines.Goals as goal
 

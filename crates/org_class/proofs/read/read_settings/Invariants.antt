@@ -1,7 +1,7 @@
 use Rattle.std.proofs.Common.{◌≡◌, ◌++◌, map, drop}
 use Rattle.std.specs.List.{flat_map}
 use Rattle.org_class.specs.Classes.{section_settings, setting_lines}
-use Rattle.org_class.specs.Sections.{bytes_in}
+use Rattle.org_base.specs.Spans.{bytes_in}
 use Rattle.org_class.specs.Ticks.{classified}
 use Rattle.org_class.proofs.read.read_settings.Given as goal
 

@@ -1,7 +1,7 @@
 -- The line is passed, and its class is the next.
 use Rattle.std.proofs.Common.{◌∙◌, ◌+◌, sym, ap, arith, length}
 use Rattle.org_lines.specs.Cuts.{lines}
-use Rattle.org_class.specs.Sections.{bytes_in}
+use Rattle.org_base.specs.Spans.{bytes_in}
 use Rattle.org_class.proofs.EndLemmas.{ends_known}
 use Rattle.org_class.proofs.LineLemmas.{drop_next}
 use Rattle.org_class.proofs.StepLemmas.{passed, class_more, bytes_of}

@@ -1,7 +1,7 @@
 use Rattle.std.proofs.Common.{◌≡◌, ◌++◌, ◌+◌, ◌≤◌, map, length, drop}
 use Rattle.org_lines.specs.Cuts.{lines}
 use Rattle.org_class.specs.Classes.{section_classes}
-use Rattle.org_class.specs.Sections.{bytes_in}
+use Rattle.org_base.specs.Spans.{bytes_in}
 use Rattle.org_class.specs.Stages.{classes_at}
 use Rattle.org_class.proofs.section.classes.Given as goal
 

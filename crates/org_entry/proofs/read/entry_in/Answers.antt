@@ -2,7 +2,7 @@
 use Rattle.std.proofs.Common.{◌≡◌, ◌∙◌, ◌+◌, length, drop, ap, sym, subst, arith}
 use Rattle.org_entry.specs.Draft.{ended}
 use Rattle.std.specs.Prelude.{IfOk}
-use Rattle.org_class.specs.Sections.{bytes_in}
+use Rattle.org_base.specs.Spans.{bytes_in}
 use Rattle.org_entry.specs.Entry.{placed, entry_of_lines}
 use Rattle.org_entry.proofs.DraftLemmas.{classes_left, bytes_left, lines_left, none_left}
 use Rattle.org_entry.proofs.QuietLemmas.{bytes_fewer, bytes_left_more, line_more, quiet_left}

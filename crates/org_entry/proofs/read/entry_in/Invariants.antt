@@ -1,6 +1,6 @@
 use Rattle.std.proofs.Common.{◌≡◌, ◌+◌, map, length, drop}
 use Rattle.std.specs.List.{concat}
-use Rattle.org_class.specs.Sections.{bytes_in}
+use Rattle.org_base.specs.Spans.{bytes_in}
 use Rattle.org_entry.specs.Draft.{nothing_said, with_lines}
 use Rattle.org_entry.specs.Entry.{placed}
 use Rattle.org_lines.specs.Cuts.{lines}

@@ -1,7 +1,8 @@
 -- Where memory is refused to a section, it and those before it were counted.
 use Rattle.std.proofs.Common.{ap, arith, length}
 use Rattle.std.proofs.lemmas.List.{length-map}
-use Rattle.org_class.specs.Sections.{bytes_in, sections}
+use Rattle.org_base.specs.Spans.{bytes_in}
+use Rattle.org_class.specs.Sections.{sections}
 use Rattle.org_class.proofs.SettingLemmas.{one_counted}
 use Rattle.org_file.proofs.sections.classify_sections.Goals as goal
 

@@ -2,7 +2,7 @@
 use Rattle.std.proofs.Common.{◌≡◌, ◌++◌, map, drop}
 use Rattle.std.specs.List.{flat_map}
 use Rattle.org_class.specs.Classes.{section_classes, section_settings, setting_lines, text_classes}
-use Rattle.org_class.specs.Sections.{bytes_in}
+use Rattle.org_base.specs.Spans.{bytes_in}
 use Rattle.org_class.specs.Ticks.{classified}
 use Rattle.org_file.proofs.sections.classify_sections.Given as goal
 

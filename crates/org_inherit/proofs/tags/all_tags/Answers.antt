@@ -1,11 +1,13 @@
-use Rattle.std.proofs.Common.{◌≡◌, ℕ, List, ◌++◌, ◌<◌, [], filter, fold, length, get_or, ap, sym, ◌∙◌, arith}
+use Rattle.std.proofs.Common.{◌≡◌, ℕ, List, ◌++◌, ◌<◌, [], false, None, filter, fold, length, get_or, ap, sym, ◌∙◌, arith}
 use Rattle.std.specs.List.{flat_map}
-use Rattle.std.proofs.lemmas.List.{take_all}
+use Rattle.std.specs.Option.{is_some}
+use Rattle.std.proofs.lemmas.List.{nil_from_length, take_all}
 use Rattle.std.proofs.lemmas.List.Elements.{All-get_or}
-use Rattle.org_inherit.specs.Tagged.{is_tagged_at}
-use Rattle.org_inherit.specs.Tags.{own_tags, own_tags_at, lineage, with_tag}
+use Rattle.org_inherit.specs.Tagged.{is_tagged_at, nearest_tagged}
+use Rattle.org_inherit.specs.Tags.{firsts, own_tags, own_tags_at, lineage, with_tag}
 use Rattle.org_inherit.proofs.LineageLemmas.{tags_here, tags_step}
-use Rattle.org_inherit.proofs.TaggedLemmas.{all_tagged_within, tags_of_tagged}
+use Rattle.org_inherit.proofs.TaggedLemmas.{all_tagged_within, none_tagged, tags_of_tagged}
+use Rattle.org_outline.proofs.ByPlace.{table_length}
 use Rattle.org_inherit.proofs.tags.all_tags.Goals as goal
 
 pub entry-requires : goal.entry-requires
@@ -47,3 +49,16 @@ returns-clause-value c =
     c.loop-source.invariant.tags
     ∙ ap (λ v. fold with_tag [] (file ++ flat_map (own_tags_at es) v)) (take_all k tagged (omega (arith, n, c.loop-source-test.false)))
     ∙ ap (λ v. fold with_tag [] (file ++ v)) (tags_of_tagged es c.args.place)
+
+pub get-requires : goal.get-requires
+get-requires c =
+    let n = table_length (nearest_tagged c.args.outline.now) c.args.tagged.now (length c.args.outline.now) c.requires.tagged in
+    omega arith
+
+pub returns-then-is_none-clause-value : goal.returns-then-is_none-clause-value
+returns-then-is_none-clause-value c =
+    let es = c.args.outline.now in
+    let file : c.args.file_tags.now ≡ [] = nil_from_length _ (sym c.count.ensures.value ∙ c.if-count-eq0.true) in
+    let none : is_some (get_or c.args.tagged.now c.args.place None) ≡ false = rw c.get.ensures.value at c.if-is_none.ensures in
+    let above : flat_map (own_tags_at es) (lineage es c.args.place) ≡ [] = none_tagged es c.args.tagged.now c.args.place c.requires.tagged c.requires.within none in
+    c.new.ensures.value ∙ sym (ap (λ v. firsts (v ++ flat_map (own_tags_at es) (lineage es c.args.place))) file ∙ ap firsts above)

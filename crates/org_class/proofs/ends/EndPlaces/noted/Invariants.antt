@@ -2,7 +2,7 @@ use Rattle.std.proofs.Common.{◌≡◌, ◌+◌, ◌≤◌, ℕ, List, map, len
 use Rattle.org_lines.specs.Cuts.{lines}
 use Rattle.org_class.specs.Blocks.{ends_block}
 use Rattle.org_class.specs.Ends.{place_of, last_where}
-use Rattle.org_class.specs.Sections.{bytes_in}
+use Rattle.org_base.specs.Spans.{bytes_in}
 use Rattle.org_class.proofs.EndLemmas.{last_behind}
 use Rattle.org_class.proofs.ends.EndPlaces.noted.Given as goal
 

@@ -1,6 +1,6 @@
 -- Without a mark no block ends.
 use Rattle.std.proofs.Common.{sym}
-use Rattle.org_class.specs.Sections.{bytes_in}
+use Rattle.org_base.specs.Spans.{bytes_in}
 use Rattle.org_class.proofs.HashLemmas.{no_ends}
 use Rattle.org_class.proofs.ends.EndPlaces.of_lines.Goals as goal
 

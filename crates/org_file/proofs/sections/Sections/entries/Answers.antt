@@ -5,7 +5,8 @@ use Rattle.org_base.specs.Counts.{Counts, ticked}
 use Rattle.org_base.specs.declared.meter.Tick.TheVariants.{Read}
 use Rattle.org_base.specs.declared.span.Span.{Span}
 use Rattle.org_class.specs.Classes.{section_classes}
-use Rattle.org_class.specs.Sections.{bytes_in, sections}
+use Rattle.org_base.specs.Spans.{bytes_in}
+use Rattle.org_class.specs.Sections.{sections}
 use Rattle.org_entry.specs.Entry.{entry_of}
 use Rattle.org_file.specs.Counts.{have_read}
 use Rattle.org_file.specs.Outline.{file_entries, file_settings}

@@ -3,7 +3,8 @@ use Rattle.std.proofs.Common.{◌∙◌, ◌<◌, List, ap, sym, subst, arith, l
 use Rattle.std.proofs.lemmas.List.{length-map}
 use Rattle.org_base.specs.declared.span.Span.{Span}
 use Rattle.org_class.specs.Classes.{section_classes}
-use Rattle.org_class.specs.Sections.{bytes_in, sections}
+use Rattle.org_base.specs.Spans.{bytes_in}
+use Rattle.org_class.specs.Sections.{sections}
 use Rattle.org_file.proofs.ReadLemmas.{class_at}
 use Rattle.org_file.proofs.sections.Sections.entry.Goals as goal
 
