@@ -5,12 +5,12 @@ ghost use Rattle.org_layout.specs.Days.{agenda_lines, day_line, day_lines, row_l
 
 use crate::column::push_whole;
 use crate::columns::Columns;
-use crate::line::{LineTexts, push_row};
+use crate::line::LineTexts;
 use org_agenda::{Agenda, Row};
 use org_base::Fault;
 use org_cal::{Day, day_name, push_date, push_two};
 use org_inherit::Inherits;
-use std::alloc::Global;
+use std::alloc::{AllocError, Global};
 
 /// Appends the days of an agenda: a line of each, `YYYY-MM-DD Ddd Www` with its ISO week, and a line for each row of that
 /// day: two spaces, the category with a colon in a column of 12, the times in another, the label and a space if there is a
@@ -35,9 +35,32 @@ fn agenda_of(alloc: Global, inherits: &Inherits<'_>, agenda: &Agenda) -> Result<
     ensures value { IfOk result (λ text. string_bytes text ≡ agenda_lines inherits.now agenda.now) }
     ensures memory { IsOkUnless result memory_fault }
 {
+    let mut texts = texts_for(alloc, inherits, agenda.count())?;
+    days_of(alloc, &mut texts, agenda)
+}
+
+// What the lines of so many days are made of. On several days most headings are shown again and again.
+fn texts_for<'a, 'b>(
+    alloc: Global,
+    inherits: &'a Inherits<'b>,
+    days: u32,
+) -> Result<LineTexts<'a, 'b>, AllocError>
+    ensures { IfOk result (λ texts. texts ≡ inherits.now) }
+{
+    if days > 1 {
+        LineTexts::keeping(alloc, inherits)
+    } else {
+        LineTexts::new(alloc, inherits)
+    }
+}
+
+fn days_of(alloc: Global, texts: &mut LineTexts<'_, '_>, agenda: &Agenda) -> Result<String, Fault>
+    ensures value { IfOk result (λ text. string_bytes text ≡ agenda_lines texts.old agenda.now) }
+    ensures memory { IsOkUnless result memory_fault }
+{
     let mut text = String::new(alloc);
     for ahead in 0..agenda.count() {
-        push_day(alloc, &mut text, inherits, agenda, ahead)?;
+        push_day(alloc, &mut text, texts, agenda, ahead)?;
     }
     Ok(text)
 }
@@ -47,18 +70,19 @@ fn agenda_of(alloc: Global, inherits: &Inherits<'_>, agenda: &Agenda) -> Result<
 fn push_day(
     alloc: Global,
     out: &mut String,
-    inherits: &Inherits<'_>,
+    texts: &mut LineTexts<'_, '_>,
     agenda: &Agenda,
     ahead: u32,
 ) -> Result<(), Fault>
     requires within { ahead < agenda.now.count }
     ensures ok { OnOk result (string_bytes out.new ≡ string_bytes out.old
-        ++ day_lines inherits.now agenda.now.sources agenda.now.today (agenda.now.first + ahead)) }
+        ++ day_lines texts.old agenda.now.sources agenda.now.today (agenda.now.first + ahead)) }
+    ensures unchanged { OnOk result (texts.new ≡ texts.old) }
     ensures memory { IsOkUnless result memory_fault }
 {
     push_day_line(out, agenda.day(ahead))?;
     let rows = agenda.rows(alloc, ahead)?;
-    push_rows(alloc, out, inherits, rows.as_slice())
+    push_rows(out, texts, rows.as_slice())
 }
 
 #[tactic(auto, unfolding(crate::specs::Days::day_line))]
@@ -76,26 +100,13 @@ fn push_day_line(out: &mut String, day: Day) -> Result<(), Fault>
     Ok(())
 }
 
-fn push_rows(
-    alloc: Global,
-    out: &mut String,
-    inherits: &Inherits<'_>,
-    rows: &[Row],
-) -> Result<(), Fault>
-    ensures ok { OnOk result (string_bytes out.new ≡ string_bytes out.old ++ row_lines inherits.now rows.now) }
+fn push_rows(out: &mut String, texts: &mut LineTexts<'_, '_>, rows: &[Row]) -> Result<(), Fault>
+    ensures ok { OnOk result (string_bytes out.new ≡ string_bytes out.old ++ row_lines texts.old rows.now) }
+    ensures unchanged { OnOk result (texts.new ≡ texts.old) }
     ensures memory { IsOkUnless result memory_fault }
 {
-    let mut texts = LineTexts::new(alloc)?;
     for row in rows {
-        push_row(
-            alloc,
-            out,
-            &mut texts,
-            Columns::OfDay(row),
-            inherits,
-            row.file,
-            row.heading,
-        )?;
+        texts.push(out, Columns::OfDay(row), row.file, row.heading)?;
     }
     Ok(())
 }

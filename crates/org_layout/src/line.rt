@@ -1,120 +1,117 @@
 //! The line of a heading.
-ghost use Rattle.std.specs.Prelude.{◌≡◌, ◌++◌, ◌<◌, length, string_bytes, OnOk, IsOkUnless};
+ghost use Rattle.std.specs.Prelude.{◌≡◌, ◌++◌, ◌<◌, length, slice_get, string_bytes, IfOk, OnOk, IsOkUnless, Some};
 ghost use Rattle.org_base.specs.Codes.{memory_fault};
-ghost use Rattle.org_inherit.specs.Tags.{all_tags};
-ghost use Rattle.org_layout.specs.Columns.{shown};
 ghost use Rattle.org_layout.specs.Days.{columns_text};
-ghost use Rattle.org_layout.specs.Lines.{category_column, entry_line, entry_text, row_line, scope_line};
+ghost use Rattle.org_layout.specs.Lines.{category_column, row_line};
 
 use crate::category::CategoryColumn;
-use crate::column::push_bytes;
 use crate::columns::{Columns, push_columns};
-use crate::head::write_entry;
+use crate::heads::HeadTexts;
 use org_base::Fault;
-use org_entry::Entry;
 use org_inherit::{Inherit, Inherits};
 use std::alloc::{AllocError, Global};
+use std::marker::Model;
 
-// What the lines of rows are made of, kept from row to row, so that a row takes no memory of its own.
+// What the lines of headings are made of, kept from line to line, so that a line takes no memory of its own. Contracts see
+// what the headings' files say.
 #[derive(Drop)]
-pub(crate) struct LineTexts {
+pub(crate) struct LineTexts<'a, 'b> {
+    alloc: Global,
     category: CategoryColumn,
     times: String,
     head: Vec<u8>,
+    heads: HeadTexts<'a, 'b>,
 }
 
-impl LineTexts {
-    pub(crate) fn new(alloc: Global) -> Result<LineTexts, AllocError> {
+impl<'a, 'b> Model for LineTexts<'a, 'b> {
+    ghost use Rattle.std.specs.Prelude.{List};
+    ghost use Rattle.org_inherit.specs.Scope.{Scope};
+
+    ghost Value = { List Scope };
+
+    ghost view = { λ t. t.heads };
+}
+
+impl<'a, 'b> LineTexts<'a, 'b> {
+    // For lines of which each shows another heading of these files.
+    pub(crate) fn new(
+        alloc: Global,
+        inherits: &'a Inherits<'b>,
+    ) -> Result<LineTexts<'a, 'b>, AllocError>
+        ensures { IfOk result (λ texts. texts ≡ inherits.now) }
+    {
+        LineTexts::with(alloc, HeadTexts::new(alloc, inherits))
+    }
+
+    // For lines that show headings of these files again and again.
+    pub(crate) fn keeping(
+        alloc: Global,
+        inherits: &'a Inherits<'b>,
+    ) -> Result<LineTexts<'a, 'b>, AllocError>
+        ensures { IfOk result (λ texts. texts ≡ inherits.now) }
+    {
+        LineTexts::with(alloc, HeadTexts::keeping(alloc, inherits)?)
+    }
+
+    fn with(alloc: Global, heads: HeadTexts<'a, 'b>) -> Result<LineTexts<'a, 'b>, AllocError>
+        ensures { IfOk result (λ texts. texts ≡ heads.entry) }
+    {
         Ok(LineTexts {
+            alloc,
             category: CategoryColumn::of(alloc, b"")?,
             times: String::new(alloc),
             head: Vec::new(alloc),
+            heads,
         })
     }
-}
 
-// Appends the line of the heading of an entry of a file, by their places, with further columns behind the category's.
-pub(crate) fn push_row(
-    alloc: Global,
-    out: &mut String,
-    texts: &mut LineTexts,
-    columns: Columns<'_>,
-    inherits: &Inherits<'_>,
-    file: usize,
-    heading: usize,
-) -> Result<(), Fault>
-    ensures ok { OnOk result (string_bytes out.new ≡ string_bytes out.old ++ row_line (columns_text columns.entry) inherits.now file heading) }
-    ensures memory { IsOkUnless result memory_fault }
-{
-    if file >= inherits.count() {
-        return Ok(());
+    // Appends the line of a heading of a file, by their places, with further columns behind the category's.
+    pub(crate) fn push(
+        &mut self,
+        out: &mut String,
+        columns: Columns<'_>,
+        file: usize,
+        heading: usize,
+    ) -> Result<(), Fault>
+        ensures ok { OnOk result (string_bytes out.new ≡ string_bytes out.old ++ row_line (columns_text columns.entry) self.old file heading) }
+        ensures unchanged { self.new ≡ self.old }
+        ensures memory { IsOkUnless result memory_fault }
+    {
+        let inherits = self.heads.inherits();
+        if file >= inherits.count() {
+            return Ok(());
+        }
+        self.push_of(out, columns, inherits.get(file), file, heading)
     }
-    push_heading(alloc, out, texts, columns, inherits.get(file), heading)
-}
 
-fn push_heading(
-    alloc: Global,
-    out: &mut String,
-    texts: &mut LineTexts,
-    columns: Columns<'_>,
-    inherit: &Inherit<'_>,
-    place: usize,
-) -> Result<(), Fault>
-    ensures ok { OnOk result (string_bytes out.new ≡ string_bytes out.old ++ scope_line (columns_text columns.entry) inherit.now place) }
-    ensures memory { IsOkUnless result memory_fault }
-{
-    let outline = inherit.outline();
-    if place >= outline.count() {
-        return Ok(());
+    // The same of a file that is there.
+    fn push_of(
+        &mut self,
+        out: &mut String,
+        columns: Columns<'_>,
+        inherit: &Inherit<'_>,
+        file: usize,
+        heading: usize,
+    ) -> Result<(), Fault>
+        requires there { slice_get self.old file ≡ Some inherit.now }
+        ensures ok { OnOk result (string_bytes out.new ≡ string_bytes out.old ++ row_line (columns_text columns.entry) self.old file heading) }
+        ensures unchanged { self.new ≡ self.old }
+        ensures memory { IsOkUnless result memory_fault }
+    {
+        if heading >= inherit.outline().count() {
+            return Ok(());
+        }
+        push_category(
+            self.alloc,
+            out,
+            &mut self.category,
+            inherit.category(heading),
+        )?;
+        push_columns(out, &mut self.times, columns)?;
+        self.heads.push(out, &mut self.head, file, heading)?;
+        out.push_str("\n")?;
+        Ok(())
     }
-    push_line(
-        alloc,
-        out,
-        texts,
-        columns,
-        inherit,
-        place,
-        outline.entry(place),
-    )
-}
-
-fn push_line(
-    alloc: Global,
-    out: &mut String,
-    texts: &mut LineTexts,
-    columns: Columns<'_>,
-    inherit: &Inherit<'_>,
-    place: usize,
-    entry: &Entry,
-) -> Result<(), Fault>
-    requires within { place < length inherit.now.entries }
-    ensures ok { OnOk result (string_bytes out.new ≡ string_bytes out.old ++ entry_line (columns_text columns.entry) inherit.now place entry.now) }
-    ensures memory { IsOkUnless result memory_fault }
-{
-    push_category(alloc, out, &mut texts.category, inherit.category(place))?;
-    push_columns(out, &mut texts.times, columns)?;
-    push_entry(alloc, out, &mut texts.head, inherit, place, entry)?;
-    out.push_str("\n")?;
-    Ok(())
-}
-
-// Appends what is shown of a heading.
-fn push_entry(
-    alloc: Global,
-    out: &mut String,
-    head: &mut Vec<u8>,
-    inherit: &Inherit<'_>,
-    place: usize,
-    entry: &Entry,
-) -> Result<(), Fault>
-    requires within { place < length inherit.now.entries }
-    ensures ok { OnOk result (string_bytes out.new ≡ string_bytes out.old ++ shown (entry_text entry.now (all_tags inherit.now place))) }
-    ensures memory { IsOkUnless result memory_fault }
-{
-    let tags = inherit.all_tags(place)?;
-    write_entry(alloc, head, entry, &tags)?;
-    push_bytes(out, head.as_slice())?;
-    Ok(())
 }
 
 // Appends the column of a category, which is made where the row before has another one.

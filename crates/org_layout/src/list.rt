@@ -5,7 +5,7 @@ ghost use Rattle.org_layout.specs.Lines.{list_lines};
 
 use crate::column::push_whole;
 use crate::columns::Columns;
-use crate::line::{LineTexts, push_row};
+use crate::line::LineTexts;
 use org_agenda::Row;
 use org_base::Fault;
 use org_inherit::Inherits;
@@ -34,17 +34,9 @@ fn list_of(alloc: Global, rows: &[Row], inherits: &Inherits<'_>) -> Result<Strin
     ensures memory { IsOkUnless result memory_fault }
 {
     let mut text = String::new(alloc);
-    let mut texts = LineTexts::new(alloc)?;
+    let mut texts = LineTexts::new(alloc, inherits)?;
     for row in rows {
-        push_row(
-            alloc,
-            &mut text,
-            &mut texts,
-            Columns::Nothing,
-            inherits,
-            row.file,
-            row.heading,
-        )?;
+        texts.push(&mut text, Columns::Nothing, row.file, row.heading)?;
     }
     Ok(text)
 }

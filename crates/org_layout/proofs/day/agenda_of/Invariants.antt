@@ -1,8 +1,0 @@
-use Rattle.std.proofs.Common.{◌≡◌, map, string_bytes}
-use Rattle.std.specs.List.{concat, range_with_len}
-use Rattle.org_layout.specs.Days.{day_lines}
-use Rattle.org_layout.proofs.day.agenda_of.Given as goal
-
--- the days so far
-abbrev pub invariant-loop-ahead : goal.invariant-loop-ahead
-invariant-loop-ahead l = string_bytes l.text ≡ concat (map (day_lines l.inherits l.agenda.sources l.agenda.today) (range_with_len l.agenda.first l.ahead))
