@@ -9,8 +9,9 @@ use org_stamp::{Found, stamps_in};
 use std::alloc::Global;
 use std::marker::Model;
 
-/// Stamps with their places, in order. Most sections have none, so their list stands out of line.
-#[derive(Drop)]
+/// Stamps with their places, in order. Most sections have none, so their list stands out of line; most of the others have
+/// one, so it begins with room for one.
+#[derive(Debug, Drop)]
 pub struct PlacedStamps {
     alloc: Global,
     stamps: Option<Box<Vec<Found>>>,
@@ -68,7 +69,7 @@ impl PlacedStamps {
             })?;
             return Ok(());
         }
-        let mut stamps = Vec::new(self.alloc);
+        let mut stamps = Vec::with_capacity(self.alloc, 1)?;
         stamps.push(Found {
             at: at + found.at,
             len: found.len,
@@ -103,8 +104,9 @@ impl PlacedStamps {
     }
 }
 
-/// The clocks of a section, in order. Most sections have none, so their list stands out of line.
-#[derive(Drop)]
+/// The clocks of a section, in order. Most sections have none, so their list stands out of line; it begins with room for
+/// one.
+#[derive(Debug, Drop)]
 pub struct Clocks {
     alloc: Global,
     clocks: Option<Box<Vec<ClockLine>>>,
@@ -143,7 +145,7 @@ impl Clocks {
             clocks.push(ClockLine { from, to })?;
             return Ok(());
         }
-        let mut clocks = Vec::new(self.alloc);
+        let mut clocks = Vec::with_capacity(self.alloc, 1)?;
         clocks.push(ClockLine { from, to })?;
         self.clocks = Some(Box::new(self.alloc, clocks)?);
         Ok(())
