@@ -15,7 +15,7 @@ use std::marker::Model;
 
 /// The agenda of some days in a row: contracts see the stamps that it looks at, the day that is today, the first day and
 /// how many days there are.
-#[derive(Drop)]
+#[derive(Debug, Drop)]
 pub struct Agenda {
     sources: Vec<Source>,
     // Of each day the places of those that may give rows on it.

@@ -14,7 +14,7 @@ use org_settings::Settings;
 use std::alloc::Global;
 
 /// A heading of a file: what its outline says of files, the place, the entry there, and the entry's head.
-#[derive(Drop)]
+#[derive(Debug, Drop)]
 pub struct HeadingFacts<'a, 'b> {
     pub(crate) inherit: &'a Inherit<'b>,
     pub(crate) place: usize,

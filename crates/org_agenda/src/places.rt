@@ -6,7 +6,7 @@ use std::alloc::{AllocError, Global};
 use std::marker::Model;
 
 // The places that are given to each of some days, those of one day in the order in which they came.
-#[derive(Drop)]
+#[derive(Debug, Drop)]
 pub(crate) struct Places {
     days: Vec<Vec<usize>>,
 }

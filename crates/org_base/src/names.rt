@@ -9,14 +9,14 @@ use std::alloc::Global;
 use std::collections::BTreeMap;
 use std::marker::Model;
 
-/// So many names are compared one by one.
+// So many names are compared one by one.
 pub(crate) const FEW: usize = 8;
 
 /// Names in the order in which they came. Contracts see the list of their bytes.
 ///
 /// Once they are more than a few they are found by order, so that a search takes time as the logarithm of their number,
 /// and no writer of a file can choose names that take longer, as names that a hash makes collide.
-#[derive(Drop)]
+#[derive(Debug, Drop)]
 pub struct Names {
     alloc: Global,
     names: Vec<Vec<u8>>,

@@ -9,8 +9,8 @@ use crate::digits::{four_digits, two_digits};
 use crate::period::Period;
 use jiff_core::civil;
 
-/// The block that a text names on a day.
-pub fn named(text: &[u8], today: Day) -> Option<Period>
+// The block that a text names on a day.
+pub(crate) fn named(text: &[u8], today: Day) -> Option<Period>
     ensures value { option_map (λ period. (period.first, period.last)) result ≡ blocks.block_of text.now today }
 {
     if text == b"today".as_slice() {
@@ -34,7 +34,7 @@ pub fn named(text: &[u8], today: Day) -> Option<Period>
     }
 }
 
-/// `YYYY`, `YYYY-MM`, `YYYY-Qn`, `YYYY-Www` or `YYYY-MM-DD`.
+// `YYYY`, `YYYY-MM`, `YYYY-Qn`, `YYYY-Www` or `YYYY-MM-DD`.
 fn dated_block(text: &[u8]) -> Option<Period>
     ensures value { option_map (λ period. (period.first, period.last)) result ≡ blocks.dated_block text.now }
 {
@@ -49,7 +49,7 @@ fn dated_block(text: &[u8]) -> Option<Period>
     }
 }
 
-/// `MM`, or `Q1` to `Q4`.
+// `MM`, or `Q1` to `Q4`.
 fn part_of_year(year: u16, m: u8, n: u8) -> Option<Period>
     requires { year < 10_000 }
     ensures value { option_map (λ period. (period.first, period.last)) result ≡ blocks.part_of_year year m n }
@@ -85,7 +85,7 @@ fn month_block(year: u16, month: u8) -> Option<Period>
     months_from(12 * year as u32 + (month as u32 - 1), 1)
 }
 
-/// The week of a year (ISO 8601): the week with 4 January is the first.
+// The week of a year (ISO 8601): the week with 4 January is the first.
 fn week_block(year: u16, week: u8) -> Option<Period>
     ensures value { option_map (λ period. (period.first, period.last)) result ≡ blocks.week_block year week }
 {
@@ -109,7 +109,7 @@ fn day_block(number: u32) -> Option<Period>
     })
 }
 
-/// The week that a Monday begins.
+// The week that a Monday begins.
 fn week_from(monday: u32) -> Option<Period>
     requires { monday < 2 ^ 31 }
     ensures value { option_map (λ period. (period.first, period.last)) result ≡ blocks.week_from monday }
@@ -119,7 +119,7 @@ fn week_from(monday: u32) -> Option<Period>
     Some(Period { first, last })
 }
 
-/// The months from January of the year 0 to the day's.
+// The months from January of the year 0 to the day's.
 fn this_month(day: Day) -> u32
     ensures value { result ≡ blocks.this_month day }
     ensures first { 12 ≤ result }
@@ -129,7 +129,7 @@ fn this_month(day: Day) -> u32
     12 * year as u32 + (month as u32 - 1)
 }
 
-/// So many months, the first counted from January of the year 0.
+// So many months, the first counted from January of the year 0.
 fn months_from(index: u32, count: u32) -> Option<Period>
     requires some { 1 ≤ count }
     requires within_year { count ≤ 12 }
@@ -144,7 +144,7 @@ fn months_from(index: u32, count: u32) -> Option<Period>
     Some(Period { first, last })
 }
 
-/// The day of a month, or its last day where the month is shorter.
+// The day of a month, or its last day where the month is shorter.
 fn day_of_month(index: u32, day: u8) -> Day
     requires first { 12 ≤ index }
     requires last { index < 120_000 }

@@ -80,7 +80,7 @@ impl Day {
         }
     }
 
-    /// The day with these parts, if there is one.
+    // The day with these parts, if there is one.
     pub(crate) fn made(year: u16, month: u8, day: u8) -> Option<Day>
         ensures value { result ≡ day_of year month day }
     {
@@ -207,7 +207,7 @@ impl Day {
         Day::after(self.to_date(), n.years())
     }
 
-    /// The day a span after a date, from the year 1 on.
+    // The day a span after a date, from the year 1 on.
     fn after(date: Date, span: Span) -> Option<Day>
         ensures succeeds { IsSome result
             ↔ (CanAddToDate date span × (pos 1 ≤ℤ (date_add date span +ℤ pos 719_163))) }
@@ -226,7 +226,7 @@ impl Day {
         Date::from_plain(self.to_plain())
     }
 
-    /// The date of `jiff`.
+    // The date of `jiff`.
     fn to_plain(self) -> civil::Date
         ensures number { epoch_day result +ℤ pos 719_163 ≡ pos self }
         ensures year { pos 1 ≤ℤ result.year }
@@ -235,7 +235,7 @@ impl Day {
         civil::Date::from_unix_epoch_day(self.number as i64 - 719_163).unwrap()
     }
 
-    /// The day of a date, if it has the year 1 or a later one.
+    // The day of a date, if it has the year 1 or a later one.
     fn of_date(date: Date) -> Option<Day>
         ensures succeeds { IsSome result ↔ (pos 1 ≤ℤ (epoch_day date +ℤ pos 719_163)) }
         ensures value { IfSome result (λ n. pos n ≡ epoch_day date +ℤ pos 719_163) }

@@ -13,8 +13,8 @@ pub fn two_digits(tens: u8, ones: u8) -> Option<u8>
     }
 }
 
-/// The number that four ASCII digits spell.
-pub fn four_digits(a: u8, b: u8, c: u8, d: u8) -> Option<u16>
+// The number that four ASCII digits spell.
+pub(crate) fn four_digits(a: u8, b: u8, c: u8, d: u8) -> Option<u16>
     ensures value { result ≡ texts.four_digits a b c d }
 {
     let high = two_digits(a, b)?;

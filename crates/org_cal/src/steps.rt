@@ -19,7 +19,7 @@ pub enum Step {
 }
 
 /// The pieces of a period that are still to come: contracts see their list, each with its first and last day.
-#[derive(Drop)]
+#[derive(Debug, Drop)]
 pub struct Steps {
     step: Step,
     next: u32,
@@ -52,7 +52,7 @@ impl Period {
 }
 
 impl Steps {
-    /// How many pieces are still to come.
+    // How many pieces are still to come.
     fn count_left(&self) -> u32
         ensures value { result ≡ length self.now }
     {
@@ -93,7 +93,7 @@ impl Iterator for Steps {
     }
 }
 
-/// The last day of a piece that begins on a day, in a period with this last day.
+// The last day of a piece that begins on a day, in a period with this last day.
 fn piece_end(step: Step, last: Day, first: Day) -> Day
     requires { first ≤ last }
     ensures value { result ≡ piece_end step last first }

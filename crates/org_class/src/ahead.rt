@@ -18,7 +18,7 @@ use org_text::Text;
 use std::alloc::Global;
 use std::marker::Model;
 
-/// The lines behind a line of a section, seen as their list.
+// The lines behind a line of a section, seen as their list.
 #[derive(Drop)]
 pub(crate) struct Ahead<'a, T: Text> {
     text: &'a T,
@@ -44,7 +44,7 @@ impl<'a, T: Text> Model for Ahead<'a, T> {
 }
 
 impl<'a, T: Text> Ahead<'a, T> {
-    /// The lines of a part of the text that are behind so many lines of a section, whose end lines are known.
+    // The lines of a part of the text that are behind so many lines of a section, whose end lines are known.
     pub(crate) fn new(text: &'a T, rest: Span, number: usize, ends: &'a EndPlaces) -> Ahead<'a, T>
         requires within { rest.at + rest.len ≤ length (T.content text.now) }
         requires known { KnowsEnds ends.now number (lines (bytes_in (T.content text.now) rest)) }
@@ -58,7 +58,7 @@ impl<'a, T: Text> Ahead<'a, T> {
         }
     }
 
-    /// Whether the line before them opens a block.
+    // Whether the line before them opens a block.
     #[tactic(auto, using(crate::proofs::MarkLemmas::block_has_hash))]
     pub(crate) fn opens_block(&self, alloc: Global, line: &[u8]) -> Result<bool, Fault>
         ensures value { IfOk result (λ opens. opens ≡ opens_block line.now self.now) }
@@ -75,7 +75,7 @@ impl<'a, T: Text> Ahead<'a, T> {
         Ok(self.number < last)
     }
 
-    /// Whether node lines, none or more, and then the end of the drawer stand at their front.
+    // Whether node lines, none or more, and then the end of the drawer stand at their front.
     pub(crate) fn closes_drawer(&self, alloc: Global) -> Result<bool, Fault>
         ensures value { IfOk result (λ closes. closes ≡ closes_drawer self.now) }
         ensures memory { IsOkUnless result memory_fault }

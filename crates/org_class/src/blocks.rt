@@ -4,14 +4,14 @@ ghost use Rattle.org_class.specs.Blocks.{begins_with, block_name, ends_block};
 
 use org_base::words::{first_word, same_word, trimmed};
 
-/// Whether the text begins with the word, but for the case of ASCII letters.
+// Whether the text begins with the word, but for the case of ASCII letters.
 pub(crate) fn begins_with(text: &[u8], word: &[u8]) -> bool
     ensures value { result ≡ begins_with text.now word.now }
 {
     same_word(&text[..text.len().min(word.len())], word)
 }
 
-/// The name of the block that the line would open: X of `#+BEGIN_X`. Empty where there is none.
+// The name of the block that the line would open: X of `#+BEGIN_X`. Empty where there is none.
 pub(crate) fn block_name(line: &[u8]) -> &[u8]
     ensures value { result.now ≡ block_name line.now }
 {
@@ -23,7 +23,7 @@ pub(crate) fn block_name(line: &[u8]) -> &[u8]
     }
 }
 
-/// Whether the line ends a block of this name.
+// Whether the line ends a block of this name.
 pub(crate) fn ends_block(name: &[u8], line: &[u8]) -> bool
     ensures value { result ≡ ends_block name.now line.now }
 {

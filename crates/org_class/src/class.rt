@@ -41,7 +41,7 @@ pub enum Class {
 }
 
 /// The classes of a section's lines in order, seen as their list. Up to 16 of them need no memory.
-#[derive(Drop)]
+#[derive(Debug, Drop)]
 pub struct Classes {
     classes: SmallVec<Class, 16>,
 }

@@ -19,8 +19,8 @@ use std::alloc::Global;
 use std::collections::BTreeMap;
 use std::marker::Model;
 
-/// A number for each name; 0 where none was noted. The case of ASCII letters doesn't count. Names are found by order,
-/// since what they hash to is the writer's to choose.
+// A number for each name; 0 where none was noted. The case of ASCII letters doesn't count. Names are found by order,
+// since what they hash to is the writer's to choose.
 #[derive(Drop)]
 pub(crate) struct EndPlaces {
     by_name: BTreeMap<Vec<u8>, usize>,
@@ -67,7 +67,7 @@ impl EndPlaces {
         Ok(())
     }
 
-    /// The number of the last end line of each name, in a part of the text.
+    // The number of the last end line of each name, in a part of the text.
     pub(crate) fn of_lines<T: Text>(alloc: Global, text: &T, part: Span) -> Result<EndPlaces, Fault>
         requires within { part.at + part.len ≤ length (T.content text.now) }
         ensures value { IfOk result (λ places. AreLastEnds places (lines (bytes_in (T.content text.now) part))) }
@@ -94,7 +94,7 @@ impl EndPlaces {
         Ok(places)
     }
 
-    /// The name's number.
+    // The name's number.
     pub(crate) fn place(&self, alloc: Global, name: &[u8]) -> Result<usize, Fault>
         ensures value { IfOk result (λ n. n ≡ place_of self.now name.now) }
         ensures memory { IsOkUnless result memory_fault }

@@ -7,7 +7,7 @@ use crate::class::Class;
 use org_base::words::{first_word, trim_start};
 use org_stamp::is_clock;
 
-/// Whether the first word of the line begins with `#`, as in comments, in settings and in lines that open blocks.
+// Whether the first word of the line begins with `#`, as in comments, in settings and in lines that open blocks.
 pub(crate) fn has_hash(line: &[u8]) -> bool
     ensures value { result ≡ has_hash line.now }
 {
@@ -15,7 +15,7 @@ pub(crate) fn has_hash(line: &[u8]) -> bool
     !text.is_empty() && text[0] == b'#'
 }
 
-/// Whether the first word of the line is `#` alone.
+// Whether the first word of the line is `#` alone.
 pub(crate) fn is_comment(line: &[u8]) -> bool
     ensures value { result ≡ is_comment line.now }
 {
@@ -41,7 +41,7 @@ fn is_setting(line: &[u8]) -> bool
     is_setting_word(first_word(line))
 }
 
-/// The class of a line that belongs to no heading, drawer or block.
+// The class of a line that belongs to no heading, drawer or block.
 #[tactic(auto, using(crate::proofs::MarkLemmas::comment_has_hash, crate::proofs::MarkLemmas::setting_has_hash))]
 pub(crate) fn line_class(line: &[u8]) -> Class
     ensures value { result ≡ line_class line.now }

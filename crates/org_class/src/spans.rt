@@ -14,7 +14,7 @@ use std::alloc::Global;
 use std::marker::Model;
 
 /// Parts of a text in order, seen as their list.
-#[derive(Drop)]
+#[derive(Debug, Drop)]
 pub struct SectionSpans {
     spans: Vec<Span>,
 }

@@ -18,7 +18,7 @@ use org_stamp::is_planning;
 use org_text::Text;
 use std::alloc::Global;
 
-/// What may come next in a section.
+// What may come next in a section.
 #[derive(Drop)]
 pub(crate) enum Stage {
     /// The section's first line.
@@ -38,8 +38,8 @@ pub(crate) enum Stage {
 }
 
 impl Stage {
-    /// The class of the line that comes next. The stage is then what may come behind it. Want of memory is the only
-    /// refusal.
+    // The class of the line that comes next. The stage is then what may come behind it. Want of memory is the only
+    // refusal.
     pub(crate) fn pass<T: Text>(
         &mut self,
         alloc: Global,

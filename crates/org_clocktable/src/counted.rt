@@ -24,7 +24,7 @@ use std::alloc::{AllocError, Global};
 use std::marker::Model;
 
 /// The entries of a file, and which of them count in a clock table.
-#[derive(Drop)]
+#[derive(Debug, Drop)]
 pub struct CountedFile<'a> {
     outline: &'a Outline,
     counted: Vec<bool>,

@@ -9,21 +9,21 @@ use std::marker::Model;
 
 // A clock of the heading at a place.
 #[derive(Clone, Copy, Debug, PartialEq, Eq)]
-pub struct PlacedClock {
+pub(crate) struct PlacedClock {
     pub place: usize,
     pub clock: ClockLine,
 }
 
 // The place of a heading with a clock, and what the clocks before that one have.
 #[derive(Clone, Copy, Debug, PartialEq, Eq)]
-pub struct Mark {
+pub(crate) struct Mark {
     pub place: usize,
     pub before: u64,
 }
 
 // What clocks have in some days. Contracts see it as a sum by places: what the clocks of headings before a place have. Only
 // clocks that have minutes in the days take room.
-#[derive(Drop)]
+#[derive(Debug, Drop)]
 pub(crate) struct Marks {
     period: Period,
     marks: Vec<Mark>,

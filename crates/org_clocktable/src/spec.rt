@@ -12,7 +12,7 @@ use std::marker::Model;
 
 /// What a clock table is asked for: its period, the deepest level that is shown, the file if it is one file alone, how the
 /// period is cut into steps, whether efforts are shown, and the expression that headings must meet to count.
-#[derive(Drop)]
+#[derive(Debug, Drop)]
 pub struct TableSpec<'a> {
     period: Period,
     most: u32,

@@ -41,7 +41,7 @@ impl ClockLine {
     }
 }
 
-/// How many minutes two stretches have in common, each up to its end.
+// How many minutes two stretches have in common, each up to its end.
 fn common(from: u64, to: u64, first: u64, past: u64) -> u64
     ensures value { result ≡ spec.common from to first past }
     ensures most { result ≤ to }

@@ -27,7 +27,7 @@ pub fn read_drawer(alloc: Global, lines: &Texts) -> Result<Drawer, Fault>
     Ok(drawer)
 }
 
-/// Adds what a line gives.
+// Adds what a line gives.
 fn add_line(drawer: &mut Drawer, line: &[u8]) -> Result<(), Fault>
     ensures ok { OnOk result (drawer.new ≡ with_all drawer.old (option_to_list (spec.given_of line.now))) }
     ensures memory { IsOkUnless result memory_fault }

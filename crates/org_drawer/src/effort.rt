@@ -27,7 +27,7 @@ pub fn effort_minutes(text: &[u8]) -> Option<u64>
     }
 }
 
-/// The digits at the front, and what follows them.
+// The digits at the front, and what follows them.
 #[tactic(auto, using(crate::proofs::EffortLemmas::digits_before))]
 fn split_digits(text: &[u8]) -> (&[u8], &[u8])
     ensures front { result.0.now ≡ take (prefix_len is_ascii_digit text.now) text.now }
@@ -37,7 +37,7 @@ fn split_digits(text: &[u8]) -> (&[u8], &[u8])
     text.split_at(leading_digits(text))
 }
 
-/// How many digits stand at the front.
+// How many digits stand at the front.
 fn leading_digits(text: &[u8]) -> usize
     ensures value { result ≡ prefix_len is_ascii_digit text.now }
     ensures within { result ≤ length text.now }
@@ -45,7 +45,7 @@ fn leading_digits(text: &[u8]) -> usize
     text.iter().take_while(|b| b.is_ascii_digit()).count()
 }
 
-/// The number that digits write, where they are at most so many.
+// The number that digits write, where they are at most so many.
 #[tactic(auto, using(crate::proofs::EffortLemmas::digits_below))]
 fn number_of(most: usize, digits: &[u8]) -> Option<u64>
     requires few { most ≤ 6 }
@@ -60,7 +60,7 @@ fn number_of(most: usize, digits: &[u8]) -> Option<u64>
     }
 }
 
-/// The number that up to six digits write.
+// The number that up to six digits write.
 fn value_of(digits: &[u8]) -> u64
     requires few { length digits.now ≤ 6 }
     requires digits { AllDigits 10 digits.now }
@@ -73,7 +73,7 @@ fn value_of(digits: &[u8]) -> u64
     n
 }
 
-/// `H:MM`, of the digits before the colon and what stands behind it.
+// `H:MM`, of the digits before the colon and what stands behind it.
 fn hours(digits: &[u8], rest: &[u8]) -> Option<u64>
     requires { AllDigits 10 digits.now }
     ensures value { result ≡ spec.hours digits.now rest.now }
@@ -83,7 +83,7 @@ fn hours(digits: &[u8], rest: &[u8]) -> Option<u64>
     Some(hour * 60 + sixtieths(rest)?)
 }
 
-/// Two digits of 00 to 59.
+// Two digits of 00 to 59.
 fn sixtieths(text: &[u8]) -> Option<u64>
     ensures value { result ≡ spec.sixtieths text.now }
     ensures below { IfSome result (λ n. n < 60) }
@@ -95,7 +95,7 @@ fn sixtieths(text: &[u8]) -> Option<u64>
     if n < 60 { Some(n as u64) } else { None }
 }
 
-/// A number and a unit, of the digits and what stands behind them.
+// A number and a unit, of the digits and what stands behind them.
 fn units(digits: &[u8], rest: &[u8]) -> Option<u64>
     requires { AllDigits 10 digits.now }
     ensures value { result ≡ spec.units digits.now rest.now }
@@ -112,7 +112,7 @@ fn is_space(byte: u8) -> bool
     matches!(byte, b' ' | b'\t' | b'\r')
 }
 
-/// How much white space stands at the front.
+// How much white space stands at the front.
 fn leading_spaces(text: &[u8]) -> usize
     ensures value { result ≡ prefix_len is_space text.now }
     ensures within { result ≤ length text.now }
@@ -120,7 +120,7 @@ fn leading_spaces(text: &[u8]) -> usize
     text.iter().take_while(|b| is_space(**b)).count()
 }
 
-/// The minutes of a unit.
+// The minutes of a unit.
 fn unit_minutes(unit: &[u8]) -> Option<u64>
     ensures value { result ≡ spec.unit_minutes unit.now }
     ensures most { IfSome result (λ minutes. minutes ≤ 525_960) }

@@ -5,7 +5,7 @@ ghost use Rattle.org_drawer.specs.Node as spec;
 
 use org_base::words::{first_word, trim_start, trimmed};
 
-/// What a node line gives (Org Syntax, "Node Properties").
+// What a node line gives (Org Syntax, "Node Properties").
 #[derive(Drop)]
 pub(crate) struct Node<'a> {
     /// The name as it is written.
@@ -16,7 +16,7 @@ pub(crate) struct Node<'a> {
     pub value: &'a [u8],
 }
 
-/// What the line gives; None exactly where it is no node line.
+// What the line gives; None exactly where it is no node line.
 pub(crate) fn node_of(line: &[u8]) -> Option<Node<'_>>
     ensures value { option_map (λ n. record { name = n.name.now; appends = n.appends; value = n.value.now }) result ≡ spec.given_of line.now }
 {
@@ -48,7 +48,7 @@ fn is_node_word(word: &[u8]) -> bool
     len > 0 && word[len] != b'+'
 }
 
-/// Whether a plus stands before the last byte.
+// Whether a plus stands before the last byte.
 fn has_plus(word: &[u8]) -> bool
     requires { 3 ≤ length word.now }
     ensures value { result ≡ spec.has_plus word.now }
@@ -56,7 +56,7 @@ fn has_plus(word: &[u8]) -> bool
     word[word.len() - 2] == b'+'
 }
 
-/// The length of NAME.
+// The length of NAME.
 fn name_len(word: &[u8]) -> usize
     requires { 3 ≤ length word.now }
     ensures value { result ≡ spec.name_len word.now }
@@ -66,7 +66,7 @@ fn name_len(word: &[u8]) -> usize
     word.len() - behind
 }
 
-/// What a first word and the line from it on give.
+// What a first word and the line from it on give.
 fn node_from<'a>(word: &'a [u8], rest: &'a [u8]) -> Node<'a>
     requires is_node { spec.is_node_word word.now ≡ true }
     requires within { length word.now ≤ length rest.now }

@@ -35,7 +35,7 @@ pub fn read_planning(line: &[u8]) -> Option<Planning>
     Some(planning)
 }
 
-/// The same with one more pair, which counts before those of its keyword so far.
+// The same with one more pair, which counts before those of its keyword so far.
 fn with_pair(planning: Planning, pair: Pair) -> Planning
     requires at { pair.at < 2 ^ 32 }
     requires len { pair.len < 2 ^ 32 }

@@ -24,9 +24,9 @@ use std::alloc::Global;
 /// The most days that an agenda has.
 pub const MOST_DAYS: u32 = 366;
 
-/// The text of the agenda of so many days from a date on. `Date` exactly where the calendar has no such day, `Days` exactly
-/// where it has and the days are none, more than [`MOST_DAYS`], or end past 9999-12-31, both before anything is looked at;
-/// else want of memory is the only refusal. Sections are classified and read as for a list.
+// The text of the agenda of so many days from a date on. `Date` exactly where the calendar has no such day, `Days` exactly
+// where it has and the days are none, more than [`MOST_DAYS`], or end past 9999-12-31, both before anything is looked at;
+// else want of memory is the only refusal. Sections are classified and read as for a list.
 pub(crate) fn dated_text<T: Text>(
     alloc: Global,
     meter: &mut Meter,

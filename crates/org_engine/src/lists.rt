@@ -22,9 +22,9 @@ use org_match::Match;
 use org_text::Text;
 use std::alloc::Global;
 
-/// The text of the list of the headings that have one of these keywords, or of none, one that isn't done. Each section of
-/// each file is classified once and read once, as the meter counts. Want of memory is the only refusal; then some of the
-/// sections may have been counted.
+// The text of the list of the headings that have one of these keywords, or of none, one that isn't done. Each section of
+// each file is classified once and read once, as the meter counts. Want of memory is the only refusal; then some of the
+// sections may have been counted.
 pub(crate) fn todo_text<T: Text>(
     alloc: Global,
     meter: &mut Meter,
@@ -55,9 +55,9 @@ fn todo_of<T: Text>(
     text_of(alloc, &inherits, rows.as_slice())
 }
 
-/// The text of the list of the headings of which the expression holds at the world's moment. `MatchAt` exactly where the
-/// text is none, before anything else is looked at; then `Regexp` where `regex` refuses a pattern; want of memory may come
-/// at any time. Sections are classified and read as by [`todo_text`].
+// The text of the list of the headings of which the expression holds at the world's moment. `MatchAt` exactly where the
+// text is none, before anything else is looked at; then `Regexp` where `regex` refuses a pattern; want of memory may come
+// at any time. Sections are classified and read as by [`todo_text`].
 pub(crate) fn match_text<T: Text>(
     alloc: Global,
     meter: &mut Meter,

@@ -12,8 +12,8 @@ use org_inherit::Inherits;
 use org_text::Text;
 use std::alloc::Global;
 
-/// What the files of a world say, in order. Each section of each file is classified once and read once, as the meter
-/// counts. Want of memory is the only refusal; then some of the sections may have been counted.
+// What the files of a world say, in order. Each section of each file is classified once and read once, as the meter
+// counts. Want of memory is the only refusal; then some of the sections may have been counted.
 pub(crate) fn read_world<T: Text>(
     alloc: Global,
     meter: &mut Meter,
@@ -33,7 +33,7 @@ pub(crate) fn read_world<T: Text>(
     Ok(read)
 }
 
-/// What the outlines of the files say of headings, in the files' order. Want of memory is the only refusal.
+// What the outlines of the files say of headings, in the files' order. Want of memory is the only refusal.
 pub(crate) fn inherits_of<'a, T: Text>(
     alloc: Global,
     world: &'a World<T>,

@@ -12,7 +12,7 @@ use std::alloc::{AllocError, Global};
 use std::marker::Model;
 
 // What a session keeps: its number, and the world as it was.
-#[derive(Drop)]
+#[derive(Debug, Drop)]
 pub(crate) struct Pin<T: Text> {
     session: u64,
     world: World<T>,
@@ -41,7 +41,7 @@ impl<T: Text> Pin<T> {
 }
 
 // The worlds that sessions keep, in the order in which they were pinned.
-#[derive(Drop)]
+#[derive(Debug, Drop)]
 pub(crate) struct Pins<T: Text> {
     pins: Vec<Pin<T>>,
 }

@@ -41,8 +41,6 @@ pub(crate) fn edited<T: Text>(seen: &T, at: u64, del: u64, ins: &[u8]) -> Result
         return Err(Fault::Plain(Code::Utf8));
     };
     let mut text = seen.share()?;
-    match text.edit(at, del, ins) {
-        Ok(()) => Ok(text),
-        Err(fault) => Err(fault),
-    }
+    text.edit(at, del, ins)?;
+    Ok(text)
 }

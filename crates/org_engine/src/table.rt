@@ -28,10 +28,10 @@ use org_layout::table_text as push_step;
 use org_text::{MAX_BYTES, Text};
 use std::alloc::Global;
 
-/// The text of the clock table that options ask for on the world's day. `Option` exactly where they aren't in their grammar,
-/// then the expression's refusals as of a match list, then `Unknown` where there is no file of the name that they give;
-/// want of memory may come at any time. Each section of each file is classified once and read once, as the meter counts;
-/// after a refusal some of the sections may have been counted.
+// The text of the clock table that options ask for on the world's day. `Option` exactly where they aren't in their grammar,
+// then the expression's refusals as of a match list, then `Unknown` where there is no file of the name that they give;
+// want of memory may come at any time. Each section of each file is classified once and read once, as the meter counts;
+// after a refusal some of the sections may have been counted.
 pub(crate) fn table_text<T: Text>(
     alloc: Global,
     meter: &mut Meter,

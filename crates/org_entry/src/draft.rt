@@ -20,7 +20,7 @@ use org_stamp::Stamp;
 use std::alloc::Global;
 use std::marker::Model;
 
-/// What the lines of a section so far say.
+// What the lines of a section so far say.
 #[derive(Drop)]
 pub(crate) struct Draft {
     alloc: Global,
@@ -41,7 +41,7 @@ impl Model for Draft {
 }
 
 impl Draft {
-    /// Nothing yet.
+    // Nothing yet.
     pub(crate) fn new(alloc: Global) -> Draft
         ensures value { result ≡ nothing_said }
     {
@@ -56,7 +56,7 @@ impl Draft {
         }
     }
 
-    /// Adds what one more line says, which stands at a place of the section.
+    // Adds what one more line says, which stands at a place of the section.
     pub(crate) fn add(
         &mut self,
         settings: &Settings,
@@ -124,7 +124,7 @@ impl Draft {
         }
     }
 
-    /// The entry where no line is left.
+    // The entry where no line is left.
     pub(crate) fn ended(self) -> Result<Entry, Fault>
         ensures value { IfOk result (λ entry. entry ≡ ended self) }
         ensures memory { IsOkUnless result memory_fault }

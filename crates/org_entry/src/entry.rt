@@ -12,7 +12,7 @@ use org_head::Head;
 
 /// What a section says (Org Syntax, "Sections"). All places count from the section's start, so that they stay true where
 /// the section moves.
-#[derive(Drop)]
+#[derive(Debug, Drop)]
 pub struct Entry {
     /// The heading line and the planning line, line feeds included. A section's heading and planning lines are its first
     /// two lines, so places in them are places in this text too.

@@ -11,7 +11,7 @@ use std::alloc::Global;
 use std::marker::Model;
 
 /// What the planning line of a section says, if it has one; seen as that.
-#[derive(Drop)]
+#[derive(Debug, Drop)]
 pub struct OwnPlanning {
     planning: Option<Box<Planning>>,
 }
@@ -58,7 +58,7 @@ impl OwnPlanning {
 }
 
 /// The properties of a section's drawer, none where it has no drawer; seen as their list.
-#[derive(Drop)]
+#[derive(Debug, Drop)]
 pub struct OwnProperties {
     drawer: Option<Box<Drawer>>,
 }

@@ -6,8 +6,8 @@ ghost use Rattle.org_expression.specs.Decimal as spec;
 
 const ZERO: u128 = 1_000_000_000_000_000_000_000_000_000;
 
-/// The number of up to eighteen digits.
-pub fn read_whole(digits: &[u8]) -> u128
+// The number of up to eighteen digits.
+pub(crate) fn read_whole(digits: &[u8]) -> u128
     requires digits { list_all is_ascii_digit digits.now ≡ true }
     requires room { length digits.now ≤ 18 }
     ensures value { result ≡ spec.read_on 0 digits.now }
@@ -20,7 +20,7 @@ pub fn read_whole(digits: &[u8]) -> u128
     n
 }
 
-/// The number with nine decimals more.
+// The number with nine decimals more.
 fn read_decimals(whole: u128, fraction: &[u8]) -> u128
     requires room { whole < 10 ^ 18 }
     ensures value { result ≡ spec.read_decimals whole 9 fraction.now }
@@ -36,7 +36,7 @@ fn read_decimals(whole: u128, fraction: &[u8]) -> u128
     n
 }
 
-/// The digit at the front, else 0.
+// The digit at the front, else 0.
 fn front_value(text: &[u8]) -> u8
     ensures value { result ≡ spec.front_value text.now }
     ensures small { result ≤ 9 }
@@ -47,7 +47,7 @@ fn front_value(text: &[u8]) -> u8
     }
 }
 
-/// What stands behind a digit at the front.
+// What stands behind a digit at the front.
 fn behind(text: &[u8]) -> &[u8]
     ensures value { result.now ≡ spec.behind text.now }
 {
@@ -57,8 +57,8 @@ fn behind(text: &[u8]) -> &[u8]
     }
 }
 
-/// How many digits stand at the front.
-pub fn digit_count(text: &[u8]) -> usize
+// How many digits stand at the front.
+pub(crate) fn digit_count(text: &[u8]) -> usize
     ensures value { result ≡ length (spec.front_digits text.now) }
     ensures within { result ≤ length text.now }
 {
@@ -85,7 +85,7 @@ pub fn number(is_negative: bool, whole: &[u8], fraction: &[u8]) -> u128
     if is_negative { ZERO - n } else { ZERO + n }
 }
 
-/// The number of digits, and perhaps a point and more.
+// The number of digits, and perhaps a point and more.
 fn unsigned(is_negative: bool, text: &[u8]) -> u128
     ensures value { result ≡ spec.unsigned is_negative text.now }
 {

@@ -13,10 +13,10 @@ use org_base::is_tag_char;
 use std::alloc::{AllocError, Global};
 use std::marker::Model;
 
-/// The parts that are read, and the term that is being read with what stands before it. Where a value is read, the name
-/// and the operator before it are kept; the shape says which of the texts count.
+// The parts that are read, and the term that is being read with what stands before it. Where a value is read, the name
+// and the operator before it are kept; the shape says which of the texts count.
 #[derive(Drop)]
-pub struct Draft {
+pub(crate) struct Draft {
     kind: Kind,
     tags: Vec<Item>,
     todo: Vec<Item>,
@@ -57,8 +57,8 @@ impl Model for Draft {
 }
 
 impl Draft {
-    /// Nothing is read.
-    pub fn new(alloc: Global) -> Draft
+    // Nothing is read.
+    pub(crate) fn new(alloc: Global) -> Draft
         ensures value { result ≡ spec.empty_draft }
     {
         Draft {
@@ -78,7 +78,7 @@ impl Draft {
         }
     }
 
-    /// The term that was read last.
+    // The term that was read last.
     fn term(&self) -> Result<Term, AllocError>
         ensures value { IfOk result (λ t. tree_term t ≡ spec.term_of self.now) }
     {
@@ -109,7 +109,7 @@ impl Draft {
         Ok(term)
     }
 
-    /// Ends the term that was read last.
+    // Ends the term that was read last.
     fn close(&mut self, link: Link, sign: Sign) -> Result<(), AllocError>
         ensures value { OnOk result (self.new ≡ spec.with_parts self.old (spec.parts_of self.old) (link_of link) (sign_of sign)) }
     {
@@ -129,7 +129,7 @@ impl Draft {
         Ok(())
     }
 
-    /// Takes a character where a term may begin.
+    // Takes a character where a term may begin.
     fn begin(&mut self, c: char) -> Result<(), AllocError>
         ensures value { OnOk result (self.new ≡ spec.begin c self.old) }
     {
@@ -155,7 +155,7 @@ impl Draft {
         Ok(())
     }
 
-    /// Takes the character behind a whole term.
+    // Takes the character behind a whole term.
     fn follow(&mut self, c: char) -> Result<(), AllocError>
         ensures value { OnOk result (self.new ≡ spec.follow c self.old) }
     {
@@ -172,7 +172,7 @@ impl Draft {
         }
     }
 
-    /// Takes the first character of a value.
+    // Takes the first character of a value.
     fn begin_value(&mut self, c: char) -> Result<(), AllocError>
         ensures value { OnOk result (self.new ≡ spec.begin_value c self.old) }
     {
@@ -202,7 +202,7 @@ impl Draft {
         Ok(())
     }
 
-    /// Takes an operator, or its first character.
+    // Takes an operator, or its first character.
     fn compare(&mut self, op: Op) -> Result<(), AllocError>
         ensures value { OnOk result (self.new ≡ record self.old { op = op_of op }) }
     {
@@ -210,7 +210,7 @@ impl Draft {
         Ok(())
     }
 
-    /// Takes a character behind the first of a name.
+    // Takes a character behind the first of a name.
     fn in_name(&mut self, c: char) -> Result<(), AllocError>
         ensures value { OnOk result (self.new ≡ spec.in_name c self.old) }
     {
@@ -224,8 +224,8 @@ impl Draft {
         }
     }
 
-    /// Takes a character, in the state that the ones before it lead to.
-    pub fn absorb(&mut self, state: State, c: char) -> Result<(), AllocError>
+    // Takes a character, in the state that the ones before it lead to.
+    pub(crate) fn absorb(&mut self, state: State, c: char) -> Result<(), AllocError>
         ensures value { OnOk result (self.new ≡ spec.absorb state c self.old) }
     {
         match state {
@@ -256,8 +256,8 @@ impl Draft {
         }
     }
 
-    /// The expression, where it may end in this state.
-    pub fn finish(mut self, state: State) -> Result<Option<Written>, AllocError>
+    // The expression, where it may end in this state.
+    pub(crate) fn finish(mut self, state: State) -> Result<Option<Written>, AllocError>
         ensures value { IfOk result (λ r. r ≡ spec.finished (Some state) self) }
     {
         if !is_final(state) {

@@ -33,7 +33,7 @@ impl Written {
     }
 }
 
-/// The expression that the text is, with its patterns as they are written.
+// The expression that the text is, with its patterns as they are written.
 fn parse(alloc: Global, text: &str) -> Result<Option<Written>, AllocError>
     ensures value { IfOk result (λ found. found ≡ read_all (chars text.now)) }
 {

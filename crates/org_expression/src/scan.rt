@@ -6,16 +6,16 @@ ghost use Rattle.org_expression.specs.Automaton.{reach, run, is_final_at};
 use crate::state::State;
 use crate::step::{is_final, step};
 
-/// How far a text is an expression: the bytes of its longest front of whole characters that begins some expression,
-/// and whether it is one itself.
+// How far a text is an expression: the bytes of its longest front of whole characters that begins some expression,
+// and whether it is one itself.
 #[derive(Clone, Copy)]
-pub struct Extent {
+pub(crate) struct Extent {
     pub at: usize,
     pub is_whole: bool,
 }
 
-/// How far a text is an expression of the grammar.
-pub fn measure(text: &str) -> Extent
+// How far a text is an expression of the grammar.
+pub(crate) fn measure(text: &str) -> Extent
     // The longest front that begins some expression.
     ensures longest { IsLongestFront (chars text.now) result.at }
     ensures within { result.at ≤ length text.now }
@@ -24,7 +24,7 @@ pub fn measure(text: &str) -> Extent
     scan(text)
 }
 
-/// How many bytes can be read as the front of an expression, and whether the text is an expression.
+// How many bytes can be read as the front of an expression, and whether the text is an expression.
 fn scan(text: &str) -> Extent
     ensures within { result.at ≤ length text.now }
     ensures at { result.at ≡ reach (Some State.Start) (chars text.now) }

@@ -1,8 +1,8 @@
 //! Shapes of terms.
 
-/// What the term that is being read is.
+// What the term that is being read is.
 #[derive(Clone, Copy, PartialEq, Eq)]
-pub enum Shape {
+pub(crate) enum Shape {
     AsTag,
     AsFound,
     AsNumber,

@@ -1,15 +1,15 @@
 //! States of the automaton.
 
-/// A part of an expression: before the slash, or after it.
+// A part of an expression: before the slash, or after it.
 #[derive(Clone, Copy, PartialEq, Eq)]
-pub enum Part {
+pub(crate) enum Part {
     InTags,
     InTodo,
 }
 
-/// What a front of an expression ends in.
+// What a front of an expression ends in.
 #[derive(Clone, Copy, PartialEq, Eq)]
-pub enum State {
+pub(crate) enum State {
     Start,
     Linked(Part),
     Signed(Part),

@@ -6,7 +6,7 @@ ghost use Rattle.org_expression.specs.Automaton as spec;
 use crate::state::{Part, State};
 use org_base::is_tag_char;
 
-/// A sign.
+// A sign.
 fn sign_to(part: Part, c: char) -> Option<State>
     ensures value { result ≡ spec.sign_step part c }
 {
@@ -16,7 +16,7 @@ fn sign_to(part: Part, c: char) -> Option<State>
     }
 }
 
-/// The first character of a term.
+// The first character of a term.
 fn term_to(part: Part, c: char) -> Option<State>
     ensures value { result ≡ spec.term_step part c }
 {
@@ -28,14 +28,14 @@ fn term_to(part: Part, c: char) -> Option<State>
     }
 }
 
-/// A sign, or the first character of a term.
+// A sign, or the first character of a term.
 fn begin_to(part: Part, c: char) -> Option<State>
     ensures value { result ≡ spec.begin_step part c }
 {
     sign_to(part, c).or(term_to(part, c))
 }
 
-/// What stands behind a whole term.
+// What stands behind a whole term.
 fn next_to(part: Part, c: char) -> Option<State>
     ensures value { result ≡ spec.next_step part c }
 {
@@ -47,7 +47,7 @@ fn next_to(part: Part, c: char) -> Option<State>
     }
 }
 
-/// The first character of a value that is no pattern.
+// The first character of a value that is no pattern.
 fn value_to(c: char) -> Option<State>
     ensures value { result ≡ spec.value_step c }
 {
@@ -59,7 +59,7 @@ fn value_to(c: char) -> Option<State>
     }
 }
 
-/// What stands behind the first character of a name.
+// What stands behind the first character of a name.
 fn name_to(part: Part, c: char) -> Option<State>
     ensures value { result ≡ spec.name_step part c }
 {
@@ -73,8 +73,8 @@ fn name_to(part: Part, c: char) -> Option<State>
     }
 }
 
-/// What a front ends in, once one more character is there; `None` where no expression begins so.
-pub fn step(state: State, c: char) -> Option<State>
+// What a front ends in, once one more character is there; `None` where no expression begins so.
+pub(crate) fn step(state: State, c: char) -> Option<State>
     ensures value { result ≡ spec.step state c }
 {
     match state {
@@ -112,8 +112,8 @@ pub fn step(state: State, c: char) -> Option<State>
     }
 }
 
-/// Whether an expression may end here.
-pub fn is_final(state: State) -> bool
+// Whether an expression may end here.
+pub(crate) fn is_final(state: State) -> bool
     ensures value { result ≡ spec.is_final state }
 {
     matches!(

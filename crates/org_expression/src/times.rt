@@ -42,7 +42,7 @@ pub fn front_minute(text: &[u8]) -> Option<u64>
     }
 }
 
-/// `<today>`, `<tomorrow>`, or a day counted from today.
+// `<today>`, `<tomorrow>`, or a day counted from today.
 fn named_day(today: Day, text: &[u8]) -> Option<Day>
     ensures value { result ≡ spec.named_day today text.now }
 {
@@ -58,7 +58,7 @@ fn named_day(today: Day, text: &[u8]) -> Option<Day>
     }
 }
 
-/// A sign, one to four digits, a unit and `>`.
+// A sign, one to four digits, a unit and `>`.
 fn relative_day(today: Day, text: &[u8]) -> Option<Day>
     ensures value { result ≡ spec.relative_day today text.now }
 {
@@ -69,7 +69,7 @@ fn relative_day(today: Day, text: &[u8]) -> Option<Day>
     }
 }
 
-/// One to four digits, a unit and `>`.
+// One to four digits, a unit and `>`.
 fn counted_day(today: Day, is_back: bool, text: &[u8]) -> Option<Day>
     ensures value { result ≡ spec.counted_day today is_back text.now }
 {
@@ -81,7 +81,7 @@ fn counted_day(today: Day, is_back: bool, text: &[u8]) -> Option<Day>
     day_moved(today, is_back, read_whole(digits) as u64, unit)
 }
 
-/// The letter of a unit and `>`, and nothing else.
+// The letter of a unit and `>`, and nothing else.
 fn last_unit(text: &[u8]) -> Option<Unit>
     ensures value { result ≡ spec.last_unit text.now }
 {
@@ -94,7 +94,7 @@ fn last_unit(text: &[u8]) -> Option<Unit>
     }
 }
 
-/// The day so many units later, or earlier, if it lies in the years 1 to 9999. Hours are no unit here.
+// The day so many units later, or earlier, if it lies in the years 1 to 9999. Hours are no unit here.
 fn day_moved(day: Day, is_back: bool, n: u64, unit: Unit) -> Option<Day>
     requires few { n < 10 ^ 18 }
     ensures value { result ≡ spec.day_moved is_back n unit day }
@@ -110,7 +110,7 @@ fn day_moved(day: Day, is_back: bool, n: u64, unit: Unit) -> Option<Day>
     day.add_units(n as i64, unit)
 }
 
-/// The minute of a stamp that is the whole text.
+// The minute of a stamp that is the whole text.
 fn whole_stamp(text: &[u8]) -> Option<u64>
     ensures value { result ≡ spec.whole_stamp text.now (stamp_of text.now) }
 {
@@ -120,7 +120,7 @@ fn whole_stamp(text: &[u8]) -> Option<u64>
     }
 }
 
-/// The minute of a stamp; a missing time is 00:00.
+// The minute of a stamp; a missing time is 00:00.
 fn stamp_minute(stamp: Stamp) -> u64
     ensures value { result ≡ minute_at (stamp.day, stamp.time) }
 {

@@ -3,7 +3,7 @@ use crate::words::Words;
 use std::marker::Model;
 
 /// What joins a term to the one before it: its sign alone, `&` or `|`.
-#[derive(Clone, Copy, PartialEq, Eq)]
+#[derive(Clone, Copy, Debug, PartialEq, Eq)]
 pub enum Link {
     Direct,
     And,
@@ -11,7 +11,7 @@ pub enum Link {
 }
 
 /// What stands before a term.
-#[derive(Clone, Copy, PartialEq, Eq)]
+#[derive(Clone, Copy, Debug, PartialEq, Eq)]
 pub enum Sign {
     Unsigned,
     Plus,
@@ -19,7 +19,7 @@ pub enum Sign {
 }
 
 /// The operators `<`, `=`, `>`, `<=`, `>=` and `<>`.
-#[derive(Clone, Copy, PartialEq, Eq)]
+#[derive(Clone, Copy, Debug, PartialEq, Eq)]
 pub enum Op {
     Less,
     Equal,
@@ -30,7 +30,7 @@ pub enum Op {
 }
 
 /// Which parts there are: tags alone, keywords behind `/`, keywords behind `/!`.
-#[derive(Clone, Copy, PartialEq, Eq)]
+#[derive(Clone, Copy, Debug, PartialEq, Eq)]
 pub enum Kind {
     Tags,
     Todo,
@@ -39,7 +39,7 @@ pub enum Kind {
 
 /// A value as it is written: a number with a minus or none and its digits before and behind the point, a quoted
 /// text, a pattern.
-#[derive(Drop)]
+#[derive(Debug, Drop)]
 pub enum Value {
     Number(bool, Words, Words),
     Quoted(Words),
@@ -47,7 +47,7 @@ pub enum Value {
 }
 
 /// A term as it is written: a tag, a pattern for tags, a comparison of a named property.
-#[derive(Drop)]
+#[derive(Debug, Drop)]
 pub enum Term {
     Tag(Words),
     Found(Words),
@@ -55,7 +55,7 @@ pub enum Term {
 }
 
 /// A term as it is written, with what stands before it.
-#[derive(Drop)]
+#[derive(Debug, Drop)]
 pub struct Item {
     pub link: Link,
     pub sign: Sign,
@@ -63,7 +63,7 @@ pub struct Item {
 }
 
 /// An expression as it is written, which contracts see as that of the grammar. Without keywords `todo` doesn't count.
-#[derive(Drop)]
+#[derive(Debug, Drop)]
 pub struct Written {
     pub kind: Kind,
     pub tags: Vec<Item>,

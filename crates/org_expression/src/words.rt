@@ -3,7 +3,7 @@ use std::alloc::{AllocError, Global};
 use std::marker::Model;
 
 /// A text of an expression, which contracts see as its characters.
-#[derive(Drop)]
+#[derive(Debug, Drop)]
 pub struct Words {
     text: String,
 }
@@ -19,7 +19,7 @@ impl Model for Words {
 impl Words {
     ghost use Rattle.std.specs.Prelude.{◌≡◌, ◌++◌, ◌∷◌, [], OnOk, OnErr, IfOk, chars, encode_utf8_all, string_bytes};
 
-    /// No characters.
+    // No characters.
     pub(crate) fn new(alloc: Global) -> Words
         ensures value { result ≡ [] }
     {
@@ -36,7 +36,7 @@ impl Words {
         self.text.as_str()
     }
 
-    /// Adds a character. An `Err` leaves the text as it was.
+    // Adds a character. An `Err` leaves the text as it was.
     pub(crate) fn push(&mut self, c: char) -> Result<(), AllocError>
         ensures ok { OnOk result (self.new ≡ self.old ++ c ∷ []) }
         ensures err { OnErr result (self.new ≡ self.old) }
@@ -45,7 +45,7 @@ impl Words {
         Ok(())
     }
 
-    /// Takes all characters out.
+    // Takes all characters out.
     pub(crate) fn clear(&mut self)
         ensures value { self.new ≡ [] }
     {

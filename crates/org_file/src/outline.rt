@@ -15,7 +15,7 @@ use std::alloc::Global;
 use std::marker::Model;
 
 /// What a file says: its outline, and the settings by which it was read.
-#[derive(Drop)]
+#[derive(Debug, Drop)]
 pub struct FileOutline {
     outline: Outline,
     settings: Settings,

@@ -5,7 +5,7 @@ ghost use Rattle.org_head.specs.Cookie.{cookie_value, is_cookie};
 
 use org_settings::{is_priority, priority_number};
 
-/// Whether the word is a cookie `[#X]`.
+// Whether the word is a cookie `[#X]`.
 pub(crate) fn is_cookie(word: &[u8]) -> bool
     ensures value { result ≡ is_cookie word.now }
 {
@@ -17,7 +17,7 @@ pub(crate) fn is_cookie(word: &[u8]) -> bool
         && is_priority(&word[2..len - 1])
 }
 
-/// The number of a cookie `[#X]`.
+// The number of a cookie `[#X]`.
 pub(crate) fn cookie_number(cookie: &[u8]) -> u8
     requires { IsTrue (is_cookie cookie.now) }
     ensures value { result ≡ priority_number (cookie_value cookie.now) }

@@ -6,7 +6,7 @@ use org_base::Span;
 use org_settings::Settings;
 
 /// The parts of a heading line, as spans of the line's bytes (Org Syntax, "Headings").
-#[derive(Drop)]
+#[derive(Debug, Drop)]
 pub struct Head {
     /// The number of stars.
     pub level: u32,

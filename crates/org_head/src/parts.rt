@@ -8,7 +8,7 @@ ghost use Rattle.org_head.specs.Parts.{is_comment_word, is_colon, are_tag_chars,
 
 use org_base::is_tag_char;
 
-/// Whether the word hides its heading.
+// Whether the word hides its heading.
 pub(crate) fn is_comment_word(word: &[u8]) -> bool
     ensures value { result ≡ is_comment_word word.now }
 {
@@ -44,7 +44,7 @@ fn is_tag_text(word: &[u8]) -> bool
     }
 }
 
-/// Whether the word is `:a:b:`.
+// Whether the word is `:a:b:`.
 pub(crate) fn is_tag_word(word: &[u8]) -> bool
     ensures value { result ≡ is_tag_word word.now }
 {
@@ -66,7 +66,7 @@ fn trailing_letters(text: &[u8]) -> usize
         .count()
 }
 
-/// The last word of a text at whose end no gap stands.
+// The last word of a text at whose end no gap stands.
 pub(crate) fn last_word(text: &[u8]) -> &[u8]
     ensures value { result.now ≡ last_word text.now }
 {

@@ -10,7 +10,7 @@ use std::alloc::Global;
 use std::marker::Model;
 
 /// Parts of a line in order. Up to two of them need no memory.
-#[derive(Drop)]
+#[derive(Debug, Drop)]
 pub struct Spans {
     spans: SmallVec<Span, 2>,
 }

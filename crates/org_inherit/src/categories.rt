@@ -9,8 +9,8 @@ use org_outline::Outline;
 use std::alloc::Global;
 use std::marker::Model;
 
-/// The categories of the first entries of an outline, lent; seen as their list.
-#[derive(Drop)]
+// The categories of the first entries of an outline, lent; seen as their list.
+#[derive(Debug, Drop)]
 pub(crate) struct Categories<'a> {
     list: Vec<&'a [u8]>,
 }
@@ -24,7 +24,7 @@ impl<'a> Model for Categories<'a> {
 }
 
 impl<'a> Categories<'a> {
-    /// No categories, with room for so many. Want of memory is its only refusal.
+    // No categories, with room for so many. Want of memory is its only refusal.
     pub(crate) fn with_room(alloc: Global, count: usize) -> Result<Categories<'a>, Fault>
         ensures value { IfOk result (λ categories. categories ≡ []) }
         ensures memory { IsOkUnless result memory_fault }
@@ -33,8 +33,8 @@ impl<'a> Categories<'a> {
         Ok(Categories { list })
     }
 
-    /// The category of the entry that comes next: its own value of `CATEGORY`, else its parent's category, and the file's
-    /// where it has no parent.
+    // The category of the entry that comes next: its own value of `CATEGORY`, else its parent's category, and the file's
+    // where it has no parent.
     pub(crate) fn next(
         &self,
         outline: &'a Outline,
@@ -54,7 +54,7 @@ impl<'a> Categories<'a> {
         }
     }
 
-    /// Puts one more at the end.
+    // Puts one more at the end.
     pub(crate) fn push(&mut self, category: &'a [u8]) -> Result<(), Fault>
         ensures ok { OnOk result (self.new ≡ self.old ++ category.now ∷ []) }
         ensures memory { IsOkUnless result memory_fault }
@@ -63,7 +63,7 @@ impl<'a> Categories<'a> {
         Ok(())
     }
 
-    /// The category of the entry at a place.
+    // The category of the entry at a place.
     pub(crate) fn get(&self, place: usize) -> &'a [u8]
         requires { place < length self.now }
         ensures value { slice_get self.now place ≡ Some result.now }

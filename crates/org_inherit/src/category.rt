@@ -39,7 +39,7 @@ fn bytes_behind(bytes: &[u8], byte: u8) -> usize
     bytes.iter().rev().take_while(|b| **b != byte).count()
 }
 
-/// What a file says of the category of its headings, lent.
+// What a file says of the category of its headings, lent.
 pub(crate) fn file_category<'a>(
     outline: &'a Outline,
     settings: &'a Settings,

@@ -12,11 +12,11 @@ use org_entry::Entry;
 use std::alloc::Global;
 use std::collections::BTreeSet;
 
-/// So many tags are compared one by one.
+// So many tags are compared one by one.
 const FEW: usize = 8;
 
-/// Tags, of equal ones the first. A set holds the same tags once they are more than a few; it is ordered, since what tags
-/// hash to is the writer's to choose.
+// Tags, of equal ones the first. A set holds the same tags once they are more than a few; it is ordered, since what tags
+// hash to is the writer's to choose.
 #[derive(Drop)]
 pub(crate) struct FirstTags {
     alloc: Global,
@@ -25,7 +25,7 @@ pub(crate) struct FirstTags {
 }
 
 impl FirstTags {
-    /// No tags.
+    // No tags.
     pub(crate) fn new(alloc: Global) -> FirstTags
         ensures tags { result.tags ≡ [] }
         ensures seen { AreSeen (option_map (λ set. set.keys) result.seen) result.tags }
@@ -57,7 +57,7 @@ impl FirstTags {
         Ok(())
     }
 
-    /// Adds those tags that aren't there.
+    // Adds those tags that aren't there.
     pub(crate) fn add_all(&mut self, tags: &Texts) -> Result<(), Fault>
         requires { AreSeen (option_map (λ set. set.keys) self.old.seen) self.old.tags }
         ensures tags { OnOk result (self.new.tags ≡ fold with_tag self.old.tags tags.now) }
@@ -70,7 +70,7 @@ impl FirstTags {
         Ok(())
     }
 
-    /// Adds those tags that aren't there, each a part of an entry's text.
+    // Adds those tags that aren't there, each a part of an entry's text.
     pub(crate) fn add_parts(&mut self, entry: &Entry, parts: &[Span]) -> Result<(), Fault>
         requires { AreSeen (option_map (λ set. set.keys) self.old.seen) self.old.tags }
         ensures tags { OnOk result (self.new.tags ≡ fold with_tag self.old.tags (map (bytes_in entry.now.text) parts.now)) }

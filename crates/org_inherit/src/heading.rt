@@ -15,7 +15,7 @@ use org_settings::Settings;
 use org_stamp::PlanningWord;
 use std::alloc::Global;
 
-/// A copy of bytes.
+// A copy of bytes.
 pub(crate) fn copied(alloc: Global, bytes: &[u8]) -> Result<Bytes, Fault>
     ensures value { IfOk result (λ copy. copy ≡ bytes.now) }
     ensures memory { IsOkUnless result memory_fault }
@@ -92,7 +92,7 @@ fn stamp_span(entry: &Entry, word: PlanningWord) -> Option<Span>
     Some(*span)
 }
 
-/// What a heading's own lines say, of its entry and its head.
+// What a heading's own lines say, of its entry and its head.
 pub(crate) fn heading_value(
     alloc: Global,
     settings: &Settings,

@@ -47,7 +47,7 @@ fn of_parent(table: &[bool], parent: Option<usize>) -> bool
     }
 }
 
-/// Whether an entry is hidden, from the same of the entries before it.
+// Whether an entry is hidden, from the same of the entries before it.
 pub(crate) fn is_hidden(outline: &Outline, before: &[bool], place: usize) -> bool
     requires within { place < length outline.now }
     requires before { before.now ≡ map (is_hidden outline.now) (range_with_len 0 place) }

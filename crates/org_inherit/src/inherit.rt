@@ -24,7 +24,7 @@ use std::marker::Model;
 /// What the outline of one file says of its entries, seen as the entries, the file's settings and name, and the names
 /// whose values are inherited (Org manual 9.6, "Tag Inheritance", "Property Inheritance"). Places are those of the
 /// outline, from 0.
-#[derive(Drop)]
+#[derive(Debug, Drop)]
 pub struct Inherit<'a> {
     alloc: Global,
     outline: &'a Outline,

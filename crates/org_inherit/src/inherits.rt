@@ -6,7 +6,7 @@ use std::alloc::{AllocFailed, Global};
 use std::marker::Model;
 
 /// What the outlines of several files say, in order.
-#[derive(Drop)]
+#[derive(Debug, Drop)]
 pub struct Inherits<'a> {
     list: Vec<Inherit<'a>>,
 }

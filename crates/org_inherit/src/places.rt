@@ -8,8 +8,8 @@ use org_base::Fault;
 use std::alloc::Global;
 use std::marker::Model;
 
-/// Places of entries, some of them missing, in order. Each takes one word.
-#[derive(Drop)]
+// Places of entries, some of them missing, in order. Each takes one word.
+#[derive(Debug, Drop)]
 pub(crate) struct Places {
     // How many places there are up to each, with it; 0 where it is missing.
     words: Vec<usize>,
@@ -25,7 +25,7 @@ impl Model for Places {
 }
 
 impl Places {
-    /// No places, with room for so many. Want of memory is its only refusal.
+    // No places, with room for so many. Want of memory is its only refusal.
     pub(crate) fn with_room(alloc: Global, count: usize) -> Result<Places, Fault>
         ensures value { IfOk result (λ places. places ≡ []) }
         ensures memory { IsOkUnless result memory_fault }
@@ -34,7 +34,7 @@ impl Places {
         Ok(Places { words })
     }
 
-    /// Puts one more at the end. Want of memory is its only refusal.
+    // Puts one more at the end. Want of memory is its only refusal.
     pub(crate) fn push(&mut self, place: Option<usize>) -> Result<(), Fault>
         requires { behind place < 2 ^ 64 }
         ensures ok { OnOk result (self.new ≡ self.old ++ place ∷ []) }
@@ -48,7 +48,7 @@ impl Places {
         Ok(())
     }
 
-    /// The one at an index, from 0.
+    // The one at an index, from 0.
     pub(crate) fn get(&self, index: usize) -> Option<usize>
         requires { index < length self.now }
         ensures value { result ≡ get_or self.now index None }
@@ -56,7 +56,7 @@ impl Places {
         self.words[index].checked_sub(1)
     }
 
-    /// The one at an index, where there is an index.
+    // The one at an index, where there is an index.
     pub(crate) fn at(&self, index: Option<usize>) -> Option<usize>
         requires { behind index ≤ length self.now }
         ensures value { result ≡ at_place self.now index }

@@ -4,7 +4,7 @@ ghost use Rattle.std.specs.Prelude.{◌≡◌};
 use org_base::words::same_word;
 use org_stamp::PlanningWord;
 
-/// What a special name names (Org manual 9.6, "Special Properties").
+// What a special name names (Org manual 9.6, "Special Properties").
 #[derive(Clone, Copy)]
 pub(crate) enum Special {
     /// `CATEGORY`: the category.
@@ -17,7 +17,7 @@ pub(crate) enum Special {
     Own(HeadingValue),
 }
 
-/// What a heading's own lines say.
+// What a heading's own lines say.
 #[derive(Clone, Copy)]
 pub(crate) enum HeadingValue {
     /// `TODO`: the keyword.
@@ -37,7 +37,7 @@ pub(crate) enum HeadingValue {
 impl Special {
     ghost use Rattle.org_inherit.specs.Special.{special_named};
 
-    /// What a name names, if it is a special one. Letter case doesn't count.
+    // What a name names, if it is a special one. Letter case doesn't count.
     pub(crate) fn named(name: &[u8]) -> Option<Special>
         ensures value { result ≡ special_named name.now }
     {

@@ -14,9 +14,9 @@ use org_base::Fault;
 use org_outline::Outline;
 use std::alloc::Global;
 
-/// Of each entry by its place whether it is hidden, the nearest entry with own tags, itself or an ancestor, and its
-/// category.
-#[derive(Drop)]
+// Of each entry by its place whether it is hidden, the nearest entry with own tags, itself or an ancestor, and its
+// category.
+#[derive(Debug, Drop)]
 pub(crate) struct Tables<'a> {
     pub hidden: Vec<bool>,
     pub tagged: Places,
@@ -24,7 +24,7 @@ pub(crate) struct Tables<'a> {
 }
 
 impl<'a> Tables<'a> {
-    /// Those of all entries, in one pass over the outline, in a file with this category. Want of memory is its only refusal.
+    // Those of all entries, in one pass over the outline, in a file with this category. Want of memory is its only refusal.
     pub(crate) fn of(
         alloc: Global,
         outline: &'a Outline,

@@ -17,7 +17,7 @@ fn is_tagged(entry: &Entry) -> bool
     }
 }
 
-/// The nearest entry with own tags, itself or an ancestor, from those of the entries before it.
+// The nearest entry with own tags, itself or an ancestor, from those of the entries before it.
 pub(crate) fn nearest_tagged(outline: &Outline, before: &Places, place: usize) -> Option<usize>
     requires within { place < length outline.now }
     requires before { before.now ≡ map (nearest_tagged outline.now) (range_with_len 0 place) }

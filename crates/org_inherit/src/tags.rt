@@ -51,8 +51,8 @@ fn tagged_line(
     Ok(line)
 }
 
-/// A file's tags, the tags of the entry's ancestors from the outermost and its own; of equal ones the first. The table has
-/// the nearest entries with own tags, so that no other entry is looked at.
+// A file's tags, the tags of the entry's ancestors from the outermost and its own; of equal ones the first. The table has
+// the nearest entries with own tags, so that no other entry is looked at.
 pub(crate) fn all_tags(
     alloc: Global,
     file_tags: &Texts,
@@ -77,7 +77,7 @@ pub(crate) fn all_tags(
     Ok(tags.tags)
 }
 
-/// Parts of an entry's text, copied.
+// Parts of an entry's text, copied.
 pub(crate) fn parts(alloc: Global, entry: &Entry, spans: &[Span]) -> Result<Texts, Fault>
     ensures value { IfOk result (λ parts. parts ≡ map (bytes_in entry.now.text) spans.now) }
     ensures memory { IsOkUnless result memory_fault }
@@ -114,7 +114,7 @@ fn push_tag(text: &mut Vec<u8>, tag: &[u8]) -> Result<(), Fault>
     Ok(())
 }
 
-/// The text of tags; None where there are none.
+// The text of tags; None where there are none.
 pub(crate) fn tags_value(alloc: Global, tags: &Texts) -> Result<Option<Bytes>, Fault>
     ensures value { IfOk result (λ value. value ≡ tags_value tags.now) }
     ensures memory { IsOkUnless result memory_fault }

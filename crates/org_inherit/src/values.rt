@@ -9,7 +9,7 @@ use org_base::words::same_word;
 use org_outline::Outline;
 use org_settings::Settings;
 
-/// The own value of a name, else that of the nearest ancestor that has one, lent.
+// The own value of a name, else that of the nearest ancestor that has one, lent.
 pub(crate) fn nearest_value<'a>(outline: &'a Outline, place: usize, name: &[u8]) -> Option<&'a [u8]>
     requires { place < length outline.now }
     ensures value { option_map (λ value. value.now) result ≡ nearest_value outline.now name.now place }
@@ -24,7 +24,7 @@ pub(crate) fn nearest_value<'a>(outline: &'a Outline, place: usize, name: &[u8])
     None
 }
 
-/// What the drawer of the lines before the first heading gives, lent.
+// What the drawer of the lines before the first heading gives, lent.
 pub(crate) fn front_value<'a>(outline: &'a Outline, name: &[u8]) -> Option<&'a [u8]>
     ensures value { option_map (λ value. value.now) result ≡ front_value outline.now name.now }
 {
@@ -38,7 +38,7 @@ pub(crate) fn front_value<'a>(outline: &'a Outline, name: &[u8]) -> Option<&'a [
     }
 }
 
-/// What the file gives to a name, lent.
+// What the file gives to a name, lent.
 pub(crate) fn file_value<'a>(
     outline: &'a Outline,
     settings: &'a Settings,
@@ -52,7 +52,7 @@ pub(crate) fn file_value<'a>(
     }
 }
 
-/// Whether the name is among these. Letter case doesn't count.
+// Whether the name is among these. Letter case doesn't count.
 pub(crate) fn is_inherited(names: &Texts, name: &[u8]) -> bool
     ensures value { result ≡ is_inherited names.now name.now }
 {

@@ -17,7 +17,7 @@ use std::borrow::CowSlice;
 use std::marker::Model;
 
 /// A line with its line feed, if it has one.
-#[derive(Drop)]
+#[derive(Debug, Drop)]
 pub struct Line<'a> {
     /// Where it stands in the text.
     pub span: Span,
@@ -27,7 +27,7 @@ pub struct Line<'a> {
 
 /// The lines of a span that are still to come. A line that can't be lent takes memory; where that is refused the
 /// fault is the last item.
-#[derive(Drop)]
+#[derive(Debug, Drop)]
 pub struct Lines<'a, T: Text> {
     alloc: Global,
     text: &'a T,

@@ -18,10 +18,10 @@ use org_expression::{Link, Sign};
 use std::alloc::Global;
 use std::marker::Model;
 
-/// A term with what stands before it, and what searches for its pattern where it has one. Contracts see the grammar's
-/// item.
+// A term with what stands before it, and what searches for its pattern where it has one. Contracts see the grammar's
+// item.
 #[derive(Drop)]
-pub struct Asked<'a> {
+pub(crate) struct Asked<'a> {
     item: &'a BuiltItem,
     searcher: Option<Searcher<'a>>,
 }
@@ -40,8 +40,8 @@ impl<'a> Model for Asked<'a> {
 }
 
 impl<'a> Asked<'a> {
-    /// The item, with what searches for its pattern. Want of memory is its only refusal.
-    pub fn new(alloc: Global, item: &'a BuiltItem) -> Result<Asked<'a>, Fault>
+    // The item, with what searches for its pattern. Want of memory is its only refusal.
+    pub(crate) fn new(alloc: Global, item: &'a BuiltItem) -> Result<Asked<'a>, Fault>
         ensures value { IfOk result (λ asked. asked ≡ built_item_of item.now) }
         ensures memory { IsOkUnless result memory_fault }
     {
@@ -52,15 +52,15 @@ impl<'a> Asked<'a> {
         Ok(Asked { item, searcher })
     }
 
-    /// Whether a bar stands before the term.
-    pub fn begins_part(&self) -> bool
+    // Whether a bar stands before the term.
+    pub(crate) fn begins_part(&self) -> bool
         ensures value { result ≡ spec.is_or (spec.link_of self.now) }
     {
         self.item.link == Link::Or
     }
 
-    /// Whether one of the tags is what the term asks for. A comparison asks for none.
-    pub fn meets_one(&mut self, tags: &Texts) -> bool
+    // Whether one of the tags is what the term asks for. A comparison asks for none.
+    pub(crate) fn meets_one(&mut self, tags: &Texts) -> bool
         ensures value { result ≡ list_any (meets self.old) tags.now }
         ensures same { self.new ≡ self.old }
     {
@@ -75,9 +75,9 @@ impl<'a> Asked<'a> {
         }
     }
 
-    /// Whether the term holds of a heading, or doesn't behind a minus, where it is known whether one of its tags is what
-    /// the term asks for. A missing property counts as an empty text. Want of memory is its only refusal.
-    pub fn holds<F: Facts>(
+    // Whether the term holds of a heading, or doesn't behind a minus, where it is known whether one of its tags is what
+    // the term asks for. A missing property counts as an empty text. Want of memory is its only refusal.
+    pub(crate) fn holds<F: Facts>(
         &mut self,
         alloc: Global,
         facts: &F,
@@ -104,8 +104,8 @@ impl<'a> Asked<'a> {
     }
 }
 
-/// A minus negates its term.
-pub fn signed(sign: Sign, holds: bool) -> bool
+// A minus negates its term.
+pub(crate) fn signed(sign: Sign, holds: bool) -> bool
     ensures value { result ≡ spec.signed (sign_of sign) holds }
 {
     match sign {
@@ -114,7 +114,7 @@ pub fn signed(sign: Sign, holds: bool) -> bool
     }
 }
 
-/// Whether the name is one of the tags.
+// Whether the name is one of the tags.
 fn has_tag(tags: &Texts, name: &[u8]) -> bool
     ensures value { result ≡ list_any (bytes_eq name.now) tags.now }
 {
@@ -126,7 +126,7 @@ fn has_tag(tags: &Texts, name: &[u8]) -> bool
     false
 }
 
-/// Whether the pattern is found in one of the tags.
+// Whether the pattern is found in one of the tags.
 fn finds_tag(tags: &Texts, searcher: &mut Searcher<'_>) -> bool
     ensures value { result ≡ list_any (found searcher.old) tags.now }
     ensures same { searcher.new ≡ searcher.old }

@@ -11,8 +11,8 @@ use org_cal::Moment;
 use org_expression::{Op, front_minute, is_time, named_minute, number, number_at};
 use std::cmp::Ordering;
 
-/// Whether a text meets an operator and a value at a moment. The searcher is that of the value's pattern.
-pub fn compares(
+// Whether a text meets an operator and a value at a moment. The searcher is that of the value's pattern.
+pub(crate) fn compares(
     moment: Moment,
     op: Op,
     text: &[u8],
@@ -41,7 +41,7 @@ pub fn compares(
     }
 }
 
-/// `=` wants the pattern to be found, `<>` wants it not to be.
+// `=` wants the pattern to be found, `<>` wants it not to be.
 fn by_pattern(op: Op, is_found: bool) -> bool
     ensures value { result ≡ spec.by_pattern (op_of op) is_found }
 {
@@ -51,7 +51,7 @@ fn by_pattern(op: Op, is_found: bool) -> bool
     }
 }
 
-/// Whether the operator allows this order of two values.
+// Whether the operator allows this order of two values.
 fn allows(op: Op, order: Ordering) -> bool
     ensures value { result ≡ spec.allows (op_of op) order }
 {
@@ -65,7 +65,7 @@ fn allows(op: Op, order: Ordering) -> bool
     }
 }
 
-/// Whether a text meets an operator and a quoted text, which may stand for a time.
+// Whether a text meets an operator and a quoted text, which may stand for a time.
 fn by_quoted(moment: Moment, op: Op, text: &[u8], quoted: &[u8]) -> bool
     ensures value { result ≡ spec.by_quoted moment (op_of op) text.now quoted.now }
 {
@@ -75,7 +75,7 @@ fn by_quoted(moment: Moment, op: Op, text: &[u8], quoted: &[u8]) -> bool
     by_times(op, front_minute(text), named_minute(moment, quoted))
 }
 
-/// Whether two minutes meet an operator: never where one of them is missing.
+// Whether two minutes meet an operator: never where one of them is missing.
 fn by_times(op: Op, left: Option<u64>, right: Option<u64>) -> bool
     ensures value { result ≡ spec.by_times (op_of op) left right }
 {

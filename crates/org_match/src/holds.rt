@@ -132,7 +132,7 @@ impl Match {
     }
 }
 
-/// The items, each with what searches for its pattern.
+// The items, each with what searches for its pattern.
 fn asked_of<'a>(alloc: Global, items: &'a [BuiltItem]) -> Result<Vec<Asked<'a>>, Fault>
     ensures value { IfOk result (λ asked. asked.items ≡ map built_item_of items.now) }
     ensures memory { IsOkUnless result memory_fault }
@@ -144,7 +144,7 @@ fn asked_of<'a>(alloc: Global, items: &'a [BuiltItem]) -> Result<Vec<Asked<'a>>,
     Ok(asked)
 }
 
-/// Whether one of the items asks of tags.
+// Whether one of the items asks of tags.
 fn ask_tags(items: &[BuiltItem]) -> bool
     ensures value { result ≡ ask_tags (map built_item_of items.now) }
 {
@@ -156,7 +156,7 @@ fn ask_tags(items: &[BuiltItem]) -> bool
     false
 }
 
-/// The verdicts of items on tags, each together with the one before it where there is one.
+// The verdicts of items on tags, each together with the one before it where there is one.
 fn verdicts_of(
     alloc: Global,
     before: &[bool],
@@ -174,7 +174,7 @@ fn verdicts_of(
     Ok(verdicts)
 }
 
-/// The tags of a heading, if they are asked for.
+// The tags of a heading, if they are asked for.
 fn tags_if<F: Facts>(alloc: Global, facts: &F, asked: bool) -> Result<Texts, Fault>
     ensures value { IfOk result (λ tags. asked ≡ true → tags ≡ F.tags facts.now) }
     ensures memory { IsOkUnless result memory_fault }
@@ -186,7 +186,7 @@ fn tags_if<F: Facts>(alloc: Global, facts: &F, asked: bool) -> Result<Texts, Fau
     }
 }
 
-/// Whether all terms of some part between bars hold.
+// Whether all terms of some part between bars hold.
 fn tags_hold<F: Facts>(
     alloc: Global,
     facts: &F,
@@ -212,7 +212,7 @@ fn tags_hold<F: Facts>(
     Ok(all)
 }
 
-/// Whether the terms before one hold, and it too. Where they don't, it isn't looked at.
+// Whether the terms before one hold, and it too. Where they don't, it isn't looked at.
 fn holds_too<F: Facts>(
     alloc: Global,
     facts: &F,
@@ -232,7 +232,7 @@ fn holds_too<F: Facts>(
     item.holds(alloc, facts, is_met, *moment)
 }
 
-/// Whether all keywords of some part between bars are the heading's, or aren't behind a minus.
+// Whether all keywords of some part between bars are the heading's, or aren't behind a minus.
 fn todo_holds<F: Facts>(facts: &F, items: &[BuiltItem]) -> bool
     ensures value { result ≡ spec.items_hold (spec.todo_term_holds (F.keyword facts.now)) (map built_item_of items.now) }
 {
@@ -251,7 +251,7 @@ fn todo_holds<F: Facts>(facts: &F, items: &[BuiltItem]) -> bool
     all
 }
 
-/// Whether a term behind the slash holds.
+// Whether a term behind the slash holds.
 fn todo_term_holds<F: Facts>(facts: &F, term: &BuiltTerm) -> bool
     ensures value { result ≡ spec.todo_term_holds (F.keyword facts.now) (built_term_of term.now) }
 {

@@ -33,16 +33,16 @@ use std::env;
 use std::io::{Input, Read};
 use std::process::ExitCode;
 
-/// How many questions are asked.
+// How many questions are asked.
 const QUESTIONS: u64 = 1_000_000;
 
-/// Over how many days they go.
+// Over how many days they go.
 const DAYS: u64 = 1_000;
 
-/// The first of the calendar's last days.
+// The first of the calendar's last days.
 const FIRST_FAR: u64 = 3_651_060;
 
-/// What is measured.
+// What is measured.
 #[derive(Clone, Copy)]
 enum Part<'a> {
     Stamps,

@@ -8,7 +8,7 @@ use crate::outline::Outline;
 use std::marker::Model;
 
 /// The places of an entry's ancestors that are still to come, the nearest first: contracts see their list.
-#[derive(Drop)]
+#[derive(Debug, Drop)]
 pub struct Ancestors<'a> {
     outline: &'a Outline,
     next: Option<usize>,

@@ -12,7 +12,7 @@ use std::ops::Range;
 use std::rc::Rc;
 
 // Entries, and by their places their parents and where their subtrees end.
-#[derive(Drop)]
+#[derive(Debug, Drop)]
 pub(crate) struct Body {
     list: Vec<Rc<Entry>>,
     tables: Tables,
@@ -41,7 +41,7 @@ fn append(list: &mut Vec<Rc<Entry>>, more: &[Rc<Entry>]) -> Result<(), AllocErro
 }
 
 impl Body {
-    /// The entries of a list. Want of memory hands the list back.
+    // The entries of a list. Want of memory hands the list back.
     pub(crate) fn new(
         alloc: Global,
         list: Vec<Rc<Entry>>,
@@ -55,14 +55,14 @@ impl Body {
         }
     }
 
-    /// The list of the entries.
+    // The list of the entries.
     pub(crate) fn into_list(self) -> Vec<Rc<Entry>>
         ensures value { map (λ e. e.value) result.items ≡ self }
     {
         self.list
     }
 
-    /// These entries in the place of those in the range.
+    // These entries in the place of those in the range.
     pub(crate) fn replaced(
         &self,
         alloc: Global,

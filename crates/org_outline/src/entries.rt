@@ -9,7 +9,7 @@ use std::marker::Model;
 use std::rc::Rc;
 
 /// Entries that are to be put into an outline, in order.
-#[derive(Drop)]
+#[derive(Debug, Drop)]
 pub struct Entries {
     alloc: Global,
     list: Vec<Rc<Entry>>,

@@ -18,7 +18,7 @@ use std::rc::Rc;
 
 /// The entries of one text in order, with the tree that the levels of their heads give (Org Syntax, "Headings and
 /// Sections"). Places count from 0. An entry without head is no heading: it has no parent and nothing below it.
-#[derive(Drop)]
+#[derive(Debug, Drop)]
 pub struct Outline {
     alloc: Global,
     // None has no entries, so an empty outline takes no memory.
@@ -37,7 +37,7 @@ impl Model for Outline {
 }
 
 /// Want of memory, with the entries that weren't put in.
-#[derive(Drop)]
+#[derive(Debug, Drop)]
 pub struct Refused {
     pub entries: Entries,
 }

@@ -10,8 +10,8 @@ use org_entry::Entry;
 use std::alloc::{AllocError, Global};
 use std::rc::Rc;
 
-/// The parents and the subtree ends of entries, by their places.
-#[derive(Drop)]
+// The parents and the subtree ends of entries, by their places.
+#[derive(Debug, Drop)]
 pub(crate) struct Tables {
     // How many entries there are up to the parent of each, with it; 0 where it has none.
     pub parents: Vec<usize>,
@@ -19,7 +19,7 @@ pub(crate) struct Tables {
 }
 
 impl Tables {
-    /// Those of the entries of a list.
+    // Those of the entries of a list.
     pub(crate) fn of(alloc: Global, list: &[Rc<Entry>]) -> Result<Tables, AllocError>
         ensures value { IfOk result (λ t. HasTables (map (λ e. e.value) list.now) t.parents.items t.ends.items) }
     {

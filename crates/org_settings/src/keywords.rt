@@ -11,14 +11,14 @@ use std::alloc::Global;
 use std::marker::Model;
 
 // Whether a keyword is a done one, and the place of the first of its sequence.
-#[derive(Clone, Copy)]
+#[derive(Clone, Copy, Debug)]
 struct Standing {
     is_done: bool,
     first: usize,
 }
 
-/// The keywords of a file in the order of their first places.
-#[derive(Drop)]
+// The keywords of a file in the order of their first places.
+#[derive(Debug, Drop)]
 pub(crate) struct Keywords {
     words: Names,
     standings: Vec<Standing>,
@@ -37,7 +37,7 @@ impl Model for Keywords {
 }
 
 impl Keywords {
-    /// No keywords.
+    // No keywords.
     pub(crate) fn new(alloc: Global) -> Keywords
         ensures value { result ≡ [] }
     {
@@ -47,14 +47,14 @@ impl Keywords {
         }
     }
 
-    /// How many keywords there are.
+    // How many keywords there are.
     pub(crate) fn count(&self) -> usize
         ensures value { result ≡ length self.now }
     {
         self.words.count()
     }
 
-    /// The place of a word among the keywords.
+    // The place of a word among the keywords.
     pub(crate) fn place(&self, word: &[u8]) -> Option<usize>
         ensures value { result ≡ keyword_place self.now word.now }
         ensures within { IfSome result (λ place. place < length self.now) }
@@ -116,7 +116,7 @@ impl Keywords {
         Ok(())
     }
 
-    /// Whether the keyword at a place is a done one.
+    // Whether the keyword at a place is a done one.
     pub(crate) fn is_done(&self, place: usize) -> bool
         requires { place < length self.now }
         ensures value { result ≡ keyword_done self.now place }
@@ -124,7 +124,7 @@ impl Keywords {
         self.standings[place].is_done
     }
 
-    /// The place of the first keyword of the sequence that holds the one at a place.
+    // The place of the first keyword of the sequence that holds the one at a place.
     pub(crate) fn first_of_sequence(&self, place: usize) -> usize
         requires { place < length self.now }
         ensures value { result ≡ keyword_first self.now place }
@@ -132,7 +132,7 @@ impl Keywords {
         self.standings[place].first
     }
 
-    /// The word of the keyword at a place; empty where there is none.
+    // The word of the keyword at a place; empty where there is none.
     pub(crate) fn word(&self, place: usize) -> &[u8]
         ensures value { result.now ≡ keyword_word self.now place }
     {
@@ -143,7 +143,7 @@ impl Keywords {
         }
     }
 
-    /// Adds the keywords of one more setting line, if it names any.
+    // Adds the keywords of one more setting line, if it names any.
     pub(crate) fn add_line(&mut self, alloc: Global, line: &[u8]) -> Result<(), Fault>
         ensures ok { OnOk result (self.new ≡ add_line self.old line.now) }
         ensures memory { IsOkUnless result memory_fault }
@@ -155,7 +155,7 @@ impl Keywords {
         self.add_sequence(alloc, words.as_slice())
     }
 
-    /// The keywords of a file that names none: `TODO`, and `DONE` as done.
+    // The keywords of a file that names none: `TODO`, and `DONE` as done.
     pub(crate) fn standard(alloc: Global) -> Result<Keywords, Fault>
         ensures value { IfOk result (λ k. k ≡ standard_keywords) }
         ensures memory { IsOkUnless result memory_fault }

@@ -32,7 +32,7 @@ fn push_piece<'a>(
     Ok(())
 }
 
-/// The longest runs of the text without white space, line feeds and the byte.
+// The longest runs of the text without white space, line feeds and the byte.
 pub(crate) fn pieces<'a>(alloc: Global, text: &'a [u8], also: u8) -> Result<Vec<&'a [u8]>, Fault>
     ensures value { IfOk result (λ v. map (λ x. x.now) v.items ≡ pieces also text.now) }
     ensures memory { IsOkUnless result memory_fault }
@@ -49,7 +49,7 @@ pub(crate) fn pieces<'a>(alloc: Global, text: &'a [u8], also: u8) -> Result<Vec<
     Ok(found)
 }
 
-/// The words of the text.
+// The words of the text.
 pub(crate) fn words<'a>(alloc: Global, text: &'a [u8]) -> Result<Vec<&'a [u8]>, Fault>
     ensures value { IfOk result (λ v. map (λ x. x.now) v.items ≡ words text.now) }
     ensures memory { IsOkUnless result memory_fault }

@@ -66,7 +66,7 @@ fn default_of(words: &[&[u8]]) -> Option<u8>
     }
 }
 
-/// The default priority that a setting line names, if it is the highest, lowest and default one.
+// The default priority that a setting line names, if it is the highest, lowest and default one.
 pub(crate) fn default_in(alloc: Global, line: &[u8]) -> Result<Option<u8>, Fault>
     ensures value { IfOk result (λ found. found ≡ default_in line.now) }
     ensures most { IfOk result (λ found. IfSome found (λ number. number ≤ greatest_priority)) }

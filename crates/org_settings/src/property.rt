@@ -54,7 +54,7 @@ fn add_given(properties: &mut Properties, text: &[u8]) -> Result<(), Fault>
     properties.add(name, is_appended(word), value_behind(text))
 }
 
-/// Adds what a line gives, if it names a property.
+// Adds what a line gives, if it names a property.
 pub(crate) fn add_property(properties: &mut Properties, line: &[u8]) -> Result<(), Fault>
     ensures ok { OnOk result (properties.new ≡ with_all properties.old (property_in line.now)) }
     ensures memory { IsOkUnless result memory_fault }

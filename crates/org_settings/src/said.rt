@@ -15,7 +15,7 @@ use org_base::{Bytes, Fault, Properties, Texts};
 use std::alloc::Global;
 use std::marker::Model;
 
-/// What setting lines have said so far.
+// What setting lines have said so far.
 #[derive(Drop)]
 pub(crate) struct Said {
     keywords: Keywords,
@@ -38,7 +38,7 @@ impl Model for Said {
 }
 
 impl Said {
-    /// Nothing yet.
+    // Nothing yet.
     pub(crate) fn new(alloc: Global) -> Said
         ensures value { result ≡ nothing_said }
     {
@@ -51,7 +51,7 @@ impl Said {
         }
     }
 
-    /// Adds what one more line says.
+    // Adds what one more line says.
     pub(crate) fn add(&mut self, alloc: Global, line: &[u8]) -> Result<(), Fault>
         ensures ok { OnOk result (self.new ≡ with_line self.old line.now) }
         ensures memory { IsOkUnless result memory_fault }
@@ -68,7 +68,7 @@ impl Said {
         Ok(())
     }
 
-    /// What holds where no line says more.
+    // What holds where no line says more.
     pub(crate) fn settled(self, alloc: Global) -> Result<Settings, Fault>
         ensures value { IfOk result (λ settings. settings ≡ settled self) }
         ensures memory { IsOkUnless result memory_fault }

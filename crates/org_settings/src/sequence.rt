@@ -16,7 +16,7 @@ fn before_paren(word: &[u8]) -> usize
     word.iter().take_while(|b| **b != b'(').count()
 }
 
-/// The word without what stands from its first `(` on, if it ends in `)`.
+// The word without what stands from its first `(` on, if it ends in `)`.
 pub(crate) fn without_parens(word: &[u8]) -> &[u8]
     ensures value { result.now ≡ without_parens word.now }
 {
@@ -29,7 +29,7 @@ pub(crate) fn without_parens(word: &[u8]) -> &[u8]
     }
 }
 
-/// Whether a keyword is left of the word.
+// Whether a keyword is left of the word.
 pub(crate) fn is_named(word: &[u8]) -> bool
     ensures value { result ≡ is_named word.now }
 {
@@ -62,7 +62,7 @@ fn named_until(words: &[&[u8]]) -> usize
     until
 }
 
-/// The place from which on the line's keywords are done.
+// The place from which on the line's keywords are done.
 pub(crate) fn done_from(words: &[&[u8]]) -> usize
     ensures within { result ≤ length words.now }
     ensures value { result ≡ done_from (map (λ x. x.now) words.now) }

@@ -21,7 +21,7 @@ fn setting_key(line: &[u8]) -> &[u8]
     if len < 2 { &[] } else { &text[2..len] }
 }
 
-/// VALUE of a setting line.
+// VALUE of a setting line.
 pub(crate) fn setting_value(line: &[u8]) -> &[u8]
     ensures value { result.now ≡ setting_value line.now }
 {
@@ -34,7 +34,7 @@ pub(crate) fn setting_value(line: &[u8]) -> &[u8]
     }
 }
 
-/// Whether the setting line has the key. The case of ASCII letters doesn't count.
+// Whether the setting line has the key. The case of ASCII letters doesn't count.
 pub(crate) fn has_key(key: &[u8], line: &[u8]) -> bool
     ensures value { result ≡ has_key key.now line.now }
 {

@@ -14,7 +14,7 @@ use std::marker::Model;
 
 /// What the settings of a file say: its keywords in order, its tags, its category, its properties and its
 /// default priority.
-#[derive(Drop)]
+#[derive(Debug, Drop)]
 pub struct Settings {
     keywords: Keywords,
     file_tags: Texts,

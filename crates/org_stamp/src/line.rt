@@ -12,11 +12,11 @@ use crate::stamp::{Found, Stamp};
 use std::marker::Model;
 
 /// The stamps of a line that are still to come: contracts see their list.
-#[derive(Drop)]
+#[derive(Debug, Drop)]
 pub struct Stamps<'a> {
     line: &'a [u8],
     at: usize,
-    /// The first closing bracket from `at` on, or the line's length; or a place before `at`.
+    // The first closing bracket from `at` on, or the line's length; or a place before `at`.
     close: usize,
 }
 
@@ -35,7 +35,7 @@ impl<'a> Model for Stamps<'a> {
         × (s.at ≤ s.close → s.close ≡ s.at + position_or_len is_close (drop s.at s.line.now)) };
 }
 
-/// The first closing bracket from the place on, or the line's length, where it is known unless that lies before.
+// The first closing bracket from the place on, or the line's length, where it is known unless that lies before.
 fn next_close(line: &[u8], at: usize, known: usize) -> usize
     requires within { at ≤ length line.now }
     requires known { at ≤ known → known ≡ at + position_or_len is_close (drop at line.now) }
@@ -48,7 +48,7 @@ fn next_close(line: &[u8], at: usize, known: usize) -> usize
     at + first_close(rest)
 }
 
-/// Whether a digit stands behind the place, as behind the bracket that opens a stamp.
+// Whether a digit stands behind the place, as behind the bracket that opens a stamp.
 fn digit_follows(line: &[u8], at: usize) -> bool
     requires within { at < length line.now }
     ensures value { result ≡ is_ascii_digit (get_or line.now (at + 1) 0) }
@@ -110,7 +110,7 @@ pub fn stamps_in(line: &[u8]) -> Stamps<'_>
     }
 }
 
-/// Where the walk of a line begins: at its front, or behind it where no closing bracket stands in it, as no stamp does then.
+// Where the walk of a line begins: at its front, or behind it where no closing bracket stands in it, as no stamp does then.
 fn first_place(line: &[u8], close: usize) -> usize
     requires close { close ≡ position_or_len is_close line.now }
     ensures within { result ≤ length line.now }

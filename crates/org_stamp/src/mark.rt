@@ -36,22 +36,22 @@ pub struct Delay {
     pub unit: Unit,
 }
 
-/// A repeater or a delay, as they stand in a stamp.
+// A repeater or a delay, as they stand in a stamp.
 #[derive(Clone, Copy, Debug, PartialEq, Eq)]
-pub enum Mark {
+pub(crate) enum Mark {
     Repeat(Repeater),
     Wait(Delay),
 }
 
-/// What a mark begins with.
+// What a mark begins with.
 #[derive(Clone, Copy, Debug, PartialEq, Eq)]
-pub enum Sign {
+pub(crate) enum Sign {
     Repeats(Kind),
     Waits(bool),
 }
 
-/// The unit of a letter.
-pub fn unit_of(letter: u8) -> Option<Unit>
+// The unit of a letter.
+pub(crate) fn unit_of(letter: u8) -> Option<Unit>
     ensures value { result ≡ spec.unit_of letter }
 {
     match letter {
@@ -64,7 +64,7 @@ pub fn unit_of(letter: u8) -> Option<Unit>
     }
 }
 
-/// The number after its first digits, with at most so many more, its unit, and what follows.
+// The number after its first digits, with at most so many more, its unit, and what follows.
 fn amount_from(room: u8, n: u16, bytes: &[u8]) -> Option<((u16, Unit), &[u8])>
     requires few { room ≤ 3 }
     requires small { n ≤ spec.top room }
@@ -84,7 +84,7 @@ fn amount_from(room: u8, n: u16, bytes: &[u8]) -> Option<((u16, Unit), &[u8])>
     }
 }
 
-/// One to four digits and a unit at the front, and what follows.
+// One to four digits and a unit at the front, and what follows.
 fn amount(bytes: &[u8]) -> Option<((u16, Unit), &[u8])>
     ensures value { option_map (λ found. (found.0, found.1.now)) result ≡ spec.amount bytes.now }
 {
@@ -94,7 +94,7 @@ fn amount(bytes: &[u8]) -> Option<((u16, Unit), &[u8])>
     }
 }
 
-/// What a mark begins with, and what follows.
+// What a mark begins with, and what follows.
 fn sign_at(word: &[u8]) -> Option<(Sign, &[u8])>
     ensures value { option_map (λ found. (found.0, found.1.now)) result ≡ spec.sign_at word.now }
 {
@@ -108,7 +108,7 @@ fn sign_at(word: &[u8]) -> Option<(Sign, &[u8])>
     }
 }
 
-/// Nothing, or a slash and an amount that ends the word.
+// Nothing, or a slash and an amount that ends the word.
 fn limit(bytes: &[u8]) -> Option<Option<(u16, Unit)>>
     ensures value { result ≡ spec.limit bytes.now }
 {
@@ -126,8 +126,8 @@ fn limit(bytes: &[u8]) -> Option<Option<(u16, Unit)>>
     }
 }
 
-/// The mark that a word is.
-pub fn mark_of(word: &[u8]) -> Option<Mark>
+// The mark that a word is.
+pub(crate) fn mark_of(word: &[u8]) -> Option<Mark>
     ensures value { result ≡ spec.mark_of word.now }
 {
     let (sign, rest) = sign_at(word)?;
@@ -135,7 +135,7 @@ pub fn mark_of(word: &[u8]) -> Option<Mark>
     finished(sign, found.0, found.1, rest)
 }
 
-/// The mark of a sign, a number with its unit and the rest of the word.
+// The mark of a sign, a number with its unit and the rest of the word.
 fn finished(sign: Sign, n: u16, unit: Unit, rest: &[u8]) -> Option<Mark>
     ensures value { result ≡ spec.finished sign ((n, unit), rest.now) }
 {

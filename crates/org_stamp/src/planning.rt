@@ -9,7 +9,7 @@ use crate::read::{ranged_len, single_of, stamp_of};
 use crate::stamp::Stamp;
 use crate::word::leading_spaces;
 
-/// The keyword at the front, and its length with its colon.
+// The keyword at the front, and its length with its colon.
 fn word_at(bytes: &[u8]) -> Option<(PlanningWord, usize)>
     ensures value { result ≡ spec.word_at bytes.now }
     ensures bound { IfSome result (λ found. (0 < found.1) × (found.1 ≤ length bytes.now)) }
@@ -25,7 +25,7 @@ fn word_at(bytes: &[u8]) -> Option<(PlanningWord, usize)>
     }
 }
 
-/// How much white space stands at the front, and what follows it.
+// How much white space stands at the front, and what follows it.
 fn past_spaces(bytes: &[u8]) -> (usize, &[u8])
     ensures count { result.0 ≡ prefix_len is_space bytes.now }
     ensures rest { result.1.now ≡ drop result.0 bytes.now }
@@ -35,7 +35,7 @@ fn past_spaces(bytes: &[u8]) -> (usize, &[u8])
     (gap, &bytes[gap..])
 }
 
-/// The pair of a keyword whose stamp begins at the place.
+// The pair of a keyword whose stamp begins at the place.
 fn pair_of(word: PlanningWord, at: usize, bytes: &[u8]) -> Option<Pair>
     requires { at + length bytes.now < 2 ^ 63 }
     ensures value { result ≡ spec.pair_of word at bytes.now }
@@ -52,7 +52,7 @@ fn pair_of(word: PlanningWord, at: usize, bytes: &[u8]) -> Option<Pair>
     })
 }
 
-/// The pair whose keyword stands at the place.
+// The pair whose keyword stands at the place.
 fn pair_at(line: &[u8], at: usize) -> Option<Pair>
     requires { at ≤ length line.now }
     ensures value { result ≡ spec.pair_at at (drop at line.now) }

@@ -100,7 +100,7 @@ fn push_open(out: &mut String, active: bool) -> Result<(), Fault>
     Ok(())
 }
 
-/// The date and the name of the day.
+// The date and the name of the day.
 fn push_day(out: &mut String, day: Day) -> Result<(), Fault>
     ensures ok { OnOk result (string_bytes out.new ≡ string_bytes out.old ++ spec.day_text day) }
     ensures memory { IsOkUnless result memory_fault }
@@ -111,7 +111,7 @@ fn push_day(out: &mut String, day: Day) -> Result<(), Fault>
     Ok(())
 }
 
-/// The opening bracket, the date and the name of the day.
+// The opening bracket, the date and the name of the day.
 fn push_start(out: &mut String, active: bool, day: Day) -> Result<(), Fault>
     ensures ok { OnOk result (string_bytes out.new ≡ string_bytes out.old ++ open_of active ∷ spec.day_text day) }
     ensures memory { IsOkUnless result memory_fault }
@@ -139,7 +139,7 @@ fn push_first(out: &mut String, stamp: &Stamp) -> Result<(), Fault>
     push_end(out, stamp.active)
 }
 
-/// The second stamp of a range, if there is one.
+// The second stamp of a range, if there is one.
 fn push_last(
     out: &mut String,
     active: bool,

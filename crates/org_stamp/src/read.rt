@@ -44,7 +44,7 @@ pub fn read_single(line: &[u8], at: usize) -> Option<(Stamp, usize)>
     single_of(rest)
 }
 
-/// The place of the first closing bracket, or the length.
+// The place of the first closing bracket, or the length.
 pub(crate) fn first_close(bytes: &[u8]) -> usize
     ensures value { result ≡ position_or_len is_close bytes.now }
     ensures within { result ≤ length bytes.now }
@@ -55,7 +55,7 @@ pub(crate) fn first_close(bytes: &[u8]) -> usize
     }
 }
 
-/// The stamp whose bytes behind the opening bracket are these, with the first closing bracket at that place.
+// The stamp whose bytes behind the opening bracket are these, with the first closing bracket at that place.
 fn closed(active: bool, bytes: &[u8], close: usize) -> Option<(Stamp, usize)>
     requires close { close ≡ position_or_len is_close bytes.now }
     ensures value { result ≡ spec.closed active bytes.now (position is_close bytes.now) }
@@ -69,7 +69,7 @@ fn closed(active: bool, bytes: &[u8], close: usize) -> Option<(Stamp, usize)>
     Some((found, close + 2))
 }
 
-/// The stamp of one day at the front, and its length, where the first closing bracket is known.
+// The stamp of one day at the front, and its length, where the first closing bracket is known.
 #[tactic(auto, unfolding(crate::specs::Read::single_of))]
 fn single_before(bytes: &[u8], close: usize) -> Option<(Stamp, usize)>
     requires close { close ≡ position_or_len is_close bytes.now }
@@ -83,7 +83,7 @@ fn single_before(bytes: &[u8], close: usize) -> Option<(Stamp, usize)>
     }
 }
 
-/// The stamp of one day at the front, and its length.
+// The stamp of one day at the front, and its length.
 #[tactic(auto, unfolding(crate::specs::Read::single_of))]
 pub(crate) fn single_of(bytes: &[u8]) -> Option<(Stamp, usize)>
     ensures value { result ≡ spec.single_of bytes.now }
@@ -95,7 +95,7 @@ pub(crate) fn single_of(bytes: &[u8]) -> Option<(Stamp, usize)>
     }
 }
 
-/// The longest stamp at the front, and its length, where the first closing bracket is known.
+// The longest stamp at the front, and its length, where the first closing bracket is known.
 pub(crate) fn stamp_before(bytes: &[u8], close: usize) -> Option<(Stamp, usize)>
     requires close { close ≡ position_or_len is_close bytes.now }
     ensures value { result ≡ spec.stamp_of bytes.now }
@@ -105,7 +105,7 @@ pub(crate) fn stamp_before(bytes: &[u8], close: usize) -> Option<(Stamp, usize)>
     Some(ranged(first, len, &bytes[len..]))
 }
 
-/// The longest stamp at the front, and its length.
+// The longest stamp at the front, and its length.
 pub(crate) fn stamp_of(bytes: &[u8]) -> Option<(Stamp, usize)>
     ensures value { result ≡ spec.stamp_of bytes.now }
     ensures within { IfSome result (λ found. found.1 ≤ length bytes.now) }
@@ -114,7 +114,7 @@ pub(crate) fn stamp_of(bytes: &[u8]) -> Option<(Stamp, usize)>
     Some(ranged(first, len, &bytes[len..]))
 }
 
-/// A stamp with its length, or the range that it begins with what follows it.
+// A stamp with its length, or the range that it begins with what follows it.
 fn ranged(first: Stamp, len: usize, rest: &[u8]) -> (Stamp, usize)
     requires { len + length rest.now < 2 ^ 63 }
     ensures value { result ≡ spec.ranged first len rest.now }
@@ -131,7 +131,7 @@ fn ranged(first: Stamp, len: usize, rest: &[u8]) -> (Stamp, usize)
     }
 }
 
-/// The length of a stamp with what follows it, if it begins a range, else its own.
+// The length of a stamp with what follows it, if it begins a range, else its own.
 pub(crate) fn ranged_len(active: bool, len: usize, rest: &[u8]) -> usize
     requires { len + length rest.now < 2 ^ 63 }
     ensures value { result ≡ spec.ranged_len active len rest.now }

@@ -4,14 +4,14 @@ ghost use Rattle.std.specs.List.{position_or_len, prefix_len};
 ghost use Rattle.org_base.specs.Words.{is_space};
 ghost use Rattle.org_stamp.specs.Word as spec;
 
-/// Whether the byte is a space, a tab or a CR.
-pub fn is_space(byte: u8) -> bool
+// Whether the byte is a space, a tab or a CR.
+pub(crate) fn is_space(byte: u8) -> bool
     ensures value { result ≡ is_space byte }
 {
     matches!(byte, b' ' | b'\t' | b'\r')
 }
 
-/// How much white space stands at the front.
+// How much white space stands at the front.
 pub(crate) fn leading_spaces(bytes: &[u8]) -> usize
     ensures value { result ≡ prefix_len is_space bytes.now }
     ensures within { result ≤ length bytes.now }
@@ -19,7 +19,7 @@ pub(crate) fn leading_spaces(bytes: &[u8]) -> usize
     bytes.iter().take_while(|b| is_space(**b)).count()
 }
 
-/// How many bytes stand before the first white space.
+// How many bytes stand before the first white space.
 fn word_len(bytes: &[u8]) -> usize
     ensures value { result ≡ position_or_len is_space bytes.now }
     ensures within { result ≤ length bytes.now }
@@ -27,8 +27,8 @@ fn word_len(bytes: &[u8]) -> usize
     bytes.iter().take_while(|b| !is_space(**b)).count()
 }
 
-/// The first word of the bytes, and what follows it.
-pub fn next_word(bytes: &[u8]) -> Option<(&[u8], &[u8])>
+// The first word of the bytes, and what follows it.
+pub(crate) fn next_word(bytes: &[u8]) -> Option<(&[u8], &[u8])>
     ensures word { MatchOption result (spec.words bytes.now ≡ [])
         (λ found. spec.words bytes.now ≡ found.0.now ∷ spec.words found.1.now) }
     ensures shorter { IfSome result (λ found. length found.1.now < length bytes.now) }

@@ -2,6 +2,8 @@
 use Rattle.std.specs.Prelude.{◌≡◌, ◌≤◌, ℕ, Bool, ◌||◌, nat_lt, nat_le, Result, MatchResult}
 use Rattle.org_base.specs.Counts.{one_more}
 use Rattle.org_wire.specs.declared.counted.Counted.{Counted}
+use Rattle.org_wire.specs.declared.input.TheConstants.{MOST_READS}
+use Rattle.org_wire.specs.declared.room.TheConstants.{MOST_ROOM}
 
 -- a failed call is counted as failed, and no other
 abbrev pub CountsFailure : {X E : Type 0} → Result X E → ℕ → ℕ → Type 0
@@ -9,7 +11,7 @@ CountsFailure result old new = MatchResult result (λ _. new ≡ old) (λ _. new
 
 -- the most reads of a run
 abbrev pub most_reads : ℕ
-most_reads = 1099511627776
+most_reads = MOST_READS
 
 -- a call failed, or the reads ran out
 abbrev pub is_broken : {D : Type 0} → Counted D → Bool
@@ -21,4 +23,4 @@ StaysBounded old new = old ≤ most_reads → new ≤ most_reads
 
 -- the most bytes that one read gives
 abbrev pub most_room : ℕ
-most_room = 65536
+most_room = MOST_ROOM

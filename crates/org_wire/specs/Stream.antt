@@ -12,6 +12,7 @@ use Rattle.org_cal.specs.declared.moment.Moment.{Moment}
 use Rattle.org_text.specs.Replace.{max_bytes}
 use Rattle.org_wire.specs.Lines.{cut_at, longest}
 use Rattle.org_wire.specs.Lines as lines
+use Rattle.org_wire.specs.declared.words.TheConstants.{MOST_NUMBER}
 use Rattle.org_wire.specs.declared.command.Command.{Command}
 use Rattle.org_wire.specs.declared.command.Command.TheVariants.{Add, Agenda, At, Clock, Complete, Drop, Edit, Inherit, Match, Pin, Text, Todo, Unpin}
 use Rattle.org_wire.specs.declared.command.Frame.{Frame}
@@ -28,7 +29,7 @@ pub data Line : Type 0 where
 
 -- the largest number
 abbrev pub most_number : ℕ
-most_number = 1000000000000000000
+most_number = MOST_NUMBER
 
 -- the number that more digits make of a number
 abbrev pub number_from : ℕ → List ℕ → Option ℕ

@@ -7,7 +7,7 @@ use org_base::{Bytes, Fault, Name, Texts};
 use org_cal::Moment;
 
 /// What a session saw of a file before it changes it: the file's name, and the serial of its text.
-#[derive(Drop)]
+#[derive(Debug, Drop)]
 pub struct Seen {
     /// The session's number.
     pub session: u64,
@@ -18,7 +18,7 @@ pub struct Seen {
 }
 
 /// A command, one variant for each line that is one. A view has a session where it is asked of what that one keeps.
-#[derive(Drop)]
+#[derive(Debug, Drop)]
 pub enum Command {
     /// `add NAME LEN`, with its payload: adds a file.
     Add(Name, Bytes),
@@ -66,7 +66,7 @@ pub(crate) fn framed(frame: Frame, bytes: Bytes) -> Command
 }
 
 /// What comes next on a stream.
-#[derive(Drop)]
+#[derive(Debug, Drop)]
 pub enum Next {
     /// A command, with its payload.
     Given(Command),

@@ -10,7 +10,7 @@ use std::io::{Read, Write};
 
 /// A reader or a writer, how often it was called and how often a call failed. A count stops at 2^64 - 1. Of a writer it
 /// knows whether all that was written was flushed. It is never called behind a call that failed.
-#[derive(Drop)]
+#[derive(Debug, Drop)]
 pub struct Counted<D> {
     inner: D,
     calls: u64,
@@ -54,7 +54,7 @@ impl<D> Counted<D> {
 }
 
 impl<R: Read> Counted<R> {
-    /// One read. After an error the reader holds the bytes that it held.
+    // One read. After an error the reader holds the bytes that it held.
     pub(crate) fn read(&mut self, buf: &mut [u8]) -> io::Result<usize>
         requires fresh { self.old.failed ≡ 0 }
         ensures bound { ReadsAtMost result buf.new }
@@ -74,7 +74,7 @@ impl<R: Read> Counted<R> {
 }
 
 impl<W: Write> Counted<W> {
-    /// Writes some of the bytes. A write of none is a failure.
+    // Writes some of the bytes. A write of none is a failure.
     pub(crate) fn write(&mut self, buf: &[u8]) -> io::Result<usize>
         requires some { 0 < length buf.now }
         requires fresh { self.old.failed ≡ 0 }
@@ -100,7 +100,7 @@ impl<W: Write> Counted<W> {
         }
     }
 
-    /// One flush, which leaves the bytes as they are.
+    // One flush, which leaves the bytes as they are.
     pub(crate) fn flush(&mut self) -> io::Result<()>
         requires fresh { self.old.failed ≡ 0 }
         ensures unchanged { Keeps (W.contents self.old.inner) (W.contents self.new.inner) }

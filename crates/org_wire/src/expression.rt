@@ -6,7 +6,7 @@ use std::alloc::{AllocError, Global};
 use std::marker::Model;
 
 /// The text of an expression or of options, seen as the list of its bytes. It is no longer than a command's line.
-#[derive(Drop)]
+#[derive(Debug, Drop)]
 pub struct Expression {
     text: String,
 }

@@ -16,10 +16,10 @@ use org_text::MAX_BYTES;
 use std::alloc::Global;
 use std::io::Read;
 
-/// The most reads of a run.
+// The most reads of a run.
 const MOST_READS: u64 = 1_099_511_627_776;
 
-/// Whether bytes are there.
+// Whether bytes are there.
 #[derive(Drop)]
 pub(crate) enum Ready {
     There,
@@ -27,7 +27,7 @@ pub(crate) enum Ready {
     Failed,
 }
 
-/// What came as the next byte.
+// What came as the next byte.
 #[derive(Drop)]
 pub(crate) enum Byte {
     Given(u8),
@@ -35,7 +35,7 @@ pub(crate) enum Byte {
     Failed,
 }
 
-/// What ended a line.
+// What ended a line.
 #[derive(Drop)]
 pub(crate) enum LineEnd {
     Whole,
@@ -45,7 +45,7 @@ pub(crate) enum LineEnd {
     Failed,
 }
 
-/// What ended a payload.
+// What ended a payload.
 #[derive(Drop)]
 pub(crate) enum Payload {
     Whole(Bytes),
@@ -55,7 +55,7 @@ pub(crate) enum Payload {
 }
 
 /// A stream over a reader that it lends, with room for a line and for bytes that were read ahead.
-#[derive(Drop)]
+#[derive(Debug, Drop)]
 pub struct Input<'a, R> {
     reader: &'a mut Counted<R>,
     room: Room,
@@ -96,7 +96,7 @@ impl<'a, R: Read> Input<'a, R> {
         })
     }
 
-    /// A stream over a reader, a line buffer and room that are there.
+    // A stream over a reader, a line buffer and room that are there.
     pub(crate) fn over(
         alloc: Global,
         reader: &'a mut Counted<R>,
@@ -116,7 +116,7 @@ impl<'a, R: Read> Input<'a, R> {
         }
     }
 
-    /// The reader, given back.
+    // The reader, given back.
     pub(crate) fn into_reader(self) -> &'a mut Counted<R>
         ensures value { result.now ≡ self.entry.reader.now }
         ensures same_reference { result.ghost_name ≡ self.entry.reader.ghost_name }
@@ -169,7 +169,7 @@ impl<'a, R: Read> Input<'a, R> {
         }
     }
 
-    /// Reads up to the next LF, which it takes too, and keeps the line before it. Of a long line the rest is skipped.
+    // Reads up to the next LF, which it takes too, and keeps the line before it. Of a long line the rest is skipped.
     pub(crate) fn read_line(&mut self) -> LineEnd
         requires fresh { self.old.reader.now.failed ≡ 0 }
         ensures line { ReadsLine result (left R.remaining self.old) self.new.line (left R.remaining self.new) }
@@ -273,7 +273,7 @@ impl<'a, R: Read> Input<'a, R> {
         }
     }
 
-    /// The command of the line that was read, with its payload.
+    // The command of the line that was read, with its payload.
     pub(crate) fn read_whole(&mut self) -> Next
         requires fresh { self.old.reader.now.failed ≡ 0 }
         ensures value { IfSome (left R.remaining self.old) (λ bytes.

@@ -7,11 +7,11 @@ use org_base::Fault;
 use std::alloc::Global;
 use std::marker::Model;
 
-/// The most bytes that a command line may have before its LF.
+// The most bytes that a command line may have before its LF.
 pub(crate) const LONGEST: usize = 4096;
 
-/// Room for one line, made once, seen as the bytes of the line that is in it.
-#[derive(Drop)]
+// Room for one line, made once, seen as the bytes of the line that is in it.
+#[derive(Debug, Drop)]
 pub(crate) struct LineBuffer {
     bytes: Vec<u8>,
     len: usize,
@@ -29,7 +29,7 @@ impl Model for LineBuffer {
 }
 
 impl LineBuffer {
-    /// An empty line. Want of memory is its only refusal.
+    // An empty line. Want of memory is its only refusal.
     pub(crate) fn new(alloc: Global) -> Result<LineBuffer, Fault>
         ensures value { IfOk result (λ line. line ≡ []) }
         ensures memory { IsOkUnless result memory_fault }
@@ -50,7 +50,7 @@ impl LineBuffer {
         self.len == 0
     }
 
-    /// Whether no byte more goes in.
+    // Whether no byte more goes in.
     pub(crate) fn is_full(&self) -> bool
         ensures value { result ≡ nat_le longest (length self.now) }
         ensures most { length self.now ≤ longest }

@@ -8,7 +8,7 @@ ghost use Rattle.org_wire.specs.Stream.{words_from};
 use org_base::{Fault, Texts};
 use std::alloc::Global;
 
-/// The words with one such byte between them; none where nothing is given.
+// The words with one such byte between them; none where nothing is given.
 pub(crate) fn words_in(alloc: Global, gap: u8, words: Option<&[u8]>) -> Result<Texts, Fault>
     ensures value { IfOk result (λ names. names ≡ words_in gap (option_map (λ text. text.now) words.entry)) }
     ensures memory { IsOkUnless result memory_fault }

@@ -9,7 +9,7 @@ use crate::words::{
 };
 use org_cal::Moment;
 
-/// What a line says. A view has a session where it is asked of what that one keeps.
+// What a line says. A view has a session where it is asked of what that one keeps.
 #[derive(Drop)]
 pub(crate) enum Parsed<'a> {
     /// No command.
@@ -38,7 +38,7 @@ pub(crate) enum Parsed<'a> {
     Edit(SeenWords<'a>, u64, u64, u64),
 }
 
-/// What a line says. Words are separated by exactly one space, and none is empty.
+// What a line says. Words are separated by exactly one space, and none is empty.
 #[tactic(auto, unfolding(crate::specs::Stream::line_of))]
 pub(crate) fn parse_line(line: &[u8]) -> Parsed<'_>
     ensures value { line_of line.now ≡ said result }

@@ -8,7 +8,7 @@ use org_base::{Bytes, Code, Fault};
 use std::io::Write;
 
 /// A reply to a command.
-#[derive(Drop)]
+#[derive(Debug, Drop)]
 pub enum Reply {
     /// `ok SERIAL`: a change was made, and this is its serial.
     Serial(u64),

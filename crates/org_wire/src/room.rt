@@ -12,11 +12,11 @@ use std::io;
 use std::io::Read;
 use std::marker::Model;
 
-/// How many bytes are read at once.
+// How many bytes are read at once.
 pub(crate) const MOST_ROOM: usize = 65_536;
 
-/// Room of a size that never changes, seen as the bytes in it that weren't taken yet.
-#[derive(Drop)]
+// Room of a size that never changes, seen as the bytes in it that weren't taken yet.
+#[derive(Debug, Drop)]
 pub(crate) struct Room {
     room: Vec<u8>,
     at: usize,
@@ -35,7 +35,7 @@ impl Model for Room {
 }
 
 impl Room {
-    /// Empty room of so many bytes. Want of memory is its only refusal.
+    // Empty room of so many bytes. Want of memory is its only refusal.
     pub(crate) fn new(alloc: Global, size: usize) -> Result<Room, Fault>
         requires { (0 < size) × (size ≤ most_room) }
         ensures value { IfOk result (λ room. room ≡ []) }
@@ -49,14 +49,14 @@ impl Room {
         })
     }
 
-    /// All that is there.
+    // All that is there.
     pub(crate) fn ready(&self) -> &[u8]
         ensures value { result.now ≡ self.now }
     {
         &self.room[self.at..self.end]
     }
 
-    /// Takes so many bytes off the front.
+    // Takes so many bytes off the front.
     pub(crate) fn advance(&mut self, count: usize)
         requires { count ≤ length self.old }
         ensures value { self.new ≡ drop count self.old }
@@ -64,7 +64,7 @@ impl Room {
         self.at += count;
     }
 
-    /// Takes the first byte, if one is there.
+    // Takes the first byte, if one is there.
     pub(crate) fn take(&mut self) -> Option<u8>
         ensures some { IfSome result (λ byte. self.old ≡ byte ∷ self.new) }
         ensures none { IfNone result (self.old ≡ []) }
@@ -78,7 +78,7 @@ impl Room {
         Some(byte)
     }
 
-    /// One read, where nothing is there. Answers whether bytes came; after an error there are none.
+    // One read, where nothing is there. Answers whether bytes came; after an error there are none.
     pub(crate) fn fill<R: Read>(&mut self, reader: &mut Counted<R>) -> io::Result<bool>
         requires empty { self.old ≡ [] }
         requires fresh { reader.old.failed ≡ 0 }

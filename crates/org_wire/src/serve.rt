@@ -14,7 +14,7 @@ use org_cal::Moment;
 use org_engine::{Engine, View};
 use org_text::Text;
 
-/// Carries a command out.
+// Carries a command out.
 pub(crate) fn serve<T: Text>(engine: &mut Engine<T>, command: Command) -> Reply
     ensures value { Serves command engine.old.state result engine.new.state }
     ensures counts { CountsFor command engine.old.state engine.old.counts engine.new.counts }
@@ -96,7 +96,7 @@ fn set_moment<T: Text>(engine: &mut Engine<T>, moment: Option<Moment>) -> Reply
     }
 }
 
-/// Makes up to so many background steps, until none is left or one finds no memory. The state stays.
+// Makes up to so many background steps, until none is left or one finds no memory. The state stays.
 pub(crate) fn work<T: Text>(engine: &mut Engine<T>, idle: u64)
     ensures state { engine.new.state ≡ engine.old.state }
     ensures counts { engine.new.counts ≡ engine.old.counts }

@@ -9,10 +9,10 @@ ghost use Rattle.org_wire.specs.Stream.{are_words, first_number, is_name, is_one
 use org_base::is_file_name;
 use org_cal::Moment;
 
-/// The largest number that a word can be.
+// The largest number that a word can be.
 const MOST_NUMBER: u64 = 1_000_000_000_000_000_000;
 
-/// What a session saw, on a line.
+// What a session saw, on a line.
 #[derive(Clone, Copy)]
 pub(crate) struct SeenWords<'a> {
     pub(crate) session: u64,
