@@ -1,11 +1,9 @@
 //! Names, found by order.
-ghost use Rattle.std.specs.Prelude.{◌≡◌, ◌<◌, [], ◌∷◌, ◌++◌, ℕ, List, Some, length, map, take, position, bytes_eq, slice_get, IfOk, IfSome, OnOk, OnErr, IsOkUnless};
+ghost use Rattle.std.specs.Prelude.{◌≡◌, ◌<◌, [], ◌∷◌, ◌++◌, ℕ, List, Some, length, map, take, position, bytes_eq, slice_get, IfOk, IfSome, OnOk, OnErr};
 ghost use Rattle.std.specs.Option.{option_map, option_or};
-ghost use Rattle.org_base.specs.Codes.{memory_fault};
 ghost use Rattle.org_base.specs.Found.{number_at, only_at, AreFound};
 
-use crate::fault::Fault;
-use std::alloc::Global;
+use std::alloc::{AllocError, Global};
 use std::collections::BTreeMap;
 use std::marker::Model;
 
@@ -86,10 +84,9 @@ impl Names {
     }
 
     /// Puts a name at the end. Where memory is refused the names are as before.
-    pub fn add(&mut self, name: Vec<u8>) -> Result<(), Fault>
+    pub fn add(&mut self, name: Vec<u8>) -> Result<(), AllocError>
         ensures ok { OnOk result (self.new ≡ self.old ++ name.items ∷ []) }
         ensures err { OnErr result (self.new ≡ self.old) }
-        ensures memory { IsOkUnless result memory_fault }
     {
         self.names.reserve(1)?;
         note_next(
@@ -109,10 +106,9 @@ fn note(
     places: &mut BTreeMap<Vec<u8>, usize>,
     name: &[u8],
     place: usize,
-) -> Result<(), Fault>
+) -> Result<(), AllocError>
     ensures ok { OnOk result ((q : List ℕ) → number_at places.new.entries q ≡ option_or (number_at places.old.entries q) (only_at name.now place q)) }
     ensures err { OnErr result (places.new.entries ≡ places.old.entries) }
-    ensures memory { IsOkUnless result memory_fault }
 {
     if places.contains_key(name) {
         return Ok(());
@@ -123,9 +119,8 @@ fn note(
 }
 
 // The first place of each name.
-fn places_of(alloc: Global, names: &[Vec<u8>]) -> Result<BTreeMap<Vec<u8>, usize>, Fault>
+fn places_of(alloc: Global, names: &[Vec<u8>]) -> Result<BTreeMap<Vec<u8>, usize>, AllocError>
     ensures value { IfOk result (λ places. AreFound (Some places.entries) (map (λ v. v.items) names.now)) }
-    ensures memory { IsOkUnless result memory_fault }
 {
     let mut places = BTreeMap::new(alloc);
     for place in 0..names.len() {
@@ -140,11 +135,10 @@ fn note_next(
     places: &mut Option<BTreeMap<Vec<u8>, usize>>,
     names: &[Vec<u8>],
     name: &[u8],
-) -> Result<(), Fault>
+) -> Result<(), AllocError>
     requires found { AreFound (option_map (λ m. m.entries) places.old) (map (λ v. v.items) names.now) }
     ensures ok { OnOk result (AreFound (option_map (λ m. m.entries) places.new) (map (λ v. v.items) names.now ++ name.now ∷ [])) }
     ensures err { OnErr result (AreFound (option_map (λ m. m.entries) places.new) (map (λ v. v.items) names.now)) }
-    ensures memory { IsOkUnless result memory_fault }
 {
     if let Some(places) = places {
         return note(alloc, places, name, names.len());

@@ -1,19 +1,17 @@
 //! Days and times as text.
-ghost use Rattle.std.specs.Prelude.{◌≡◌, ◌+◌, ◌<◌, ◌≤◌, [], ◌∷◌, ◌++◌, OnOk, OnErr, IsOkUnless, string_bytes, string_capacity, string_len};
-ghost use Rattle.org_base.specs.Codes.{memory_fault};
+ghost use Rattle.std.specs.Prelude.{◌≡◌, ◌+◌, ◌<◌, ◌≤◌, [], ◌∷◌, ◌++◌, OnOk, OnErr, string_bytes, string_capacity, string_len};
 ghost use Rattle.org_cal.specs.Parts.{weekday_of};
 ghost use Rattle.org_cal.specs.Texts as texts;
 
 use crate::day::Day;
 use crate::time_of_day::TimeOfDay;
-use org_base::Fault;
+use std::alloc::AllocError;
 
 /// Appends a number below 100 in two digits. Want of memory is the only refusal, and leaves `out` as it was.
-pub fn push_two(out: &mut String, number: u8) -> Result<(), Fault>
+pub fn push_two(out: &mut String, number: u8) -> Result<(), AllocError>
     requires below { number < 100 }
     ensures ok { OnOk result (string_bytes out.new ≡ string_bytes out.old ++ texts.two number) }
     ensures err { OnErr result (string_bytes out.new ≡ string_bytes out.old) }
-    ensures memory { IsOkUnless result memory_fault }
 {
     out.reserve(2)?;
     put_two(out, number);
@@ -21,10 +19,9 @@ pub fn push_two(out: &mut String, number: u8) -> Result<(), Fault>
 }
 
 /// Appends `YYYY-MM-DD`. Want of memory is the only refusal, and leaves `out` as it was.
-pub fn push_date(out: &mut String, day: Day) -> Result<(), Fault>
+pub fn push_date(out: &mut String, day: Day) -> Result<(), AllocError>
     ensures ok { OnOk result (string_bytes out.new ≡ string_bytes out.old ++ texts.date_text day) }
     ensures err { OnErr result (string_bytes out.new ≡ string_bytes out.old) }
-    ensures memory { IsOkUnless result memory_fault }
 {
     let (year, month, date) = day.parts();
     out.reserve(10)?;
@@ -38,10 +35,9 @@ pub fn push_date(out: &mut String, day: Day) -> Result<(), Fault>
 }
 
 /// Appends `HH:MM`. Want of memory is the only refusal, and leaves `out` as it was.
-pub fn push_time(out: &mut String, time: TimeOfDay) -> Result<(), Fault>
+pub fn push_time(out: &mut String, time: TimeOfDay) -> Result<(), AllocError>
     ensures ok { OnOk result (string_bytes out.new ≡ string_bytes out.old ++ texts.time_text time) }
     ensures err { OnErr result (string_bytes out.new ≡ string_bytes out.old) }
-    ensures memory { IsOkUnless result memory_fault }
 {
     let minutes = time.minutes();
     out.reserve(5)?;

@@ -7,7 +7,7 @@ ghost use Rattle.org_drawer.specs.Node as spec;
 
 use crate::node::node_of;
 use org_base::{Fault, Texts};
-use std::alloc::Global;
+use std::alloc::{AllocError, Global};
 
 /// The properties of a drawer, each name with its value. `get` is never refused.
 pub use org_base::Properties as Drawer;
@@ -28,9 +28,8 @@ pub fn read_drawer(alloc: Global, lines: &Texts) -> Result<Drawer, Fault>
 }
 
 // Adds what a line gives.
-fn add_line(drawer: &mut Drawer, line: &[u8]) -> Result<(), Fault>
+fn add_line(drawer: &mut Drawer, line: &[u8]) -> Result<(), AllocError>
     ensures ok { OnOk result (drawer.new ≡ with_all drawer.old (option_to_list (spec.given_of line.now))) }
-    ensures memory { IsOkUnless result memory_fault }
 {
     match node_of(line) {
         Some(node) => drawer.add(node.name, node.appends, node.value),

@@ -1,14 +1,13 @@
 //! What a line has between its category and its heading.
-ghost use Rattle.std.specs.Prelude.{◌≡◌, ◌++◌, string_bytes, OnOk, IsOkUnless};
-ghost use Rattle.org_base.specs.Codes.{memory_fault};
+ghost use Rattle.std.specs.Prelude.{◌≡◌, ◌++◌, string_bytes, OnOk};
 ghost use Rattle.org_cal.specs.Texts.{time_text};
 ghost use Rattle.org_layout.specs.Columns.{padded};
 ghost use Rattle.org_layout.specs.Days.{columns_text, day_columns, end_text, label_text, times_text};
 
 use crate::column::push_padded;
 use org_agenda::{Row, RowKind};
-use org_base::Fault;
 use org_cal::{TimeOfDay, push_time};
+use std::alloc::AllocError;
 
 // The column of times of a row that has none.
 const NO_TIMES: &str = "            ";
@@ -27,9 +26,8 @@ pub(crate) fn push_columns(
     out: &mut String,
     times: &mut String,
     columns: Columns<'_>,
-) -> Result<(), Fault>
+) -> Result<(), AllocError>
     ensures ok { OnOk result (string_bytes out.new ≡ string_bytes out.old ++ columns_text columns.entry) }
-    ensures memory { IsOkUnless result memory_fault }
 {
     match columns {
         Columns::Nothing => Ok(()),
@@ -39,9 +37,8 @@ pub(crate) fn push_columns(
 
 // Appends the times in a column of 12, and the label.
 #[tactic(auto, unfolding(crate::specs::Days::day_columns))]
-fn push_day_columns(out: &mut String, times: &mut String, row: &Row) -> Result<(), Fault>
+fn push_day_columns(out: &mut String, times: &mut String, row: &Row) -> Result<(), AllocError>
     ensures ok { OnOk result (string_bytes out.new ≡ string_bytes out.old ++ day_columns row.now) }
-    ensures memory { IsOkUnless result memory_fault }
 {
     push_times(out, times, row.start, row.end)?;
     push_label(out, row.kind, row.number, row.of)
@@ -53,9 +50,8 @@ fn push_times(
     times: &mut String,
     start: Option<TimeOfDay>,
     end: Option<TimeOfDay>,
-) -> Result<(), Fault>
+) -> Result<(), AllocError>
     ensures ok { OnOk result (string_bytes out.new ≡ string_bytes out.old ++ padded (times_text start end) 12) }
-    ensures memory { IsOkUnless result memory_fault }
 {
     match start {
         None => out.push_str(NO_TIMES)?,
@@ -67,18 +63,20 @@ fn push_times(
     Ok(())
 }
 
-fn write_times(times: &mut String, start: TimeOfDay, end: Option<TimeOfDay>) -> Result<(), Fault>
+fn write_times(
+    times: &mut String,
+    start: TimeOfDay,
+    end: Option<TimeOfDay>,
+) -> Result<(), AllocError>
     ensures ok { OnOk result (string_bytes times.new ≡ time_text start ++ end_text end) }
-    ensures memory { IsOkUnless result memory_fault }
 {
     times.clear();
     push_time(times, start)?;
     push_end(times, end)
 }
 
-fn push_end(out: &mut String, end: Option<TimeOfDay>) -> Result<(), Fault>
+fn push_end(out: &mut String, end: Option<TimeOfDay>) -> Result<(), AllocError>
     ensures ok { OnOk result (string_bytes out.new ≡ string_bytes out.old ++ end_text end) }
-    ensures memory { IsOkUnless result memory_fault }
 {
     match end {
         None => Ok(()),
@@ -90,9 +88,8 @@ fn push_end(out: &mut String, end: Option<TimeOfDay>) -> Result<(), Fault>
 }
 
 #[tactic(auto, unfolding(crate::specs::Days::label_text))]
-fn push_label(out: &mut String, kind: RowKind, number: u32, of: u32) -> Result<(), Fault>
+fn push_label(out: &mut String, kind: RowKind, number: u32, of: u32) -> Result<(), AllocError>
     ensures ok { OnOk result (string_bytes out.new ≡ string_bytes out.old ++ label_text kind number of) }
-    ensures memory { IsOkUnless result memory_fault }
 {
     match kind {
         RowKind::Listed | RowKind::OnDay => (),

@@ -86,9 +86,8 @@ fn push_day(
 }
 
 #[tactic(auto, unfolding(crate::specs::Days::day_line))]
-fn push_day_line(out: &mut String, day: Day) -> Result<(), Fault>
+fn push_day_line(out: &mut String, day: Day) -> Result<(), AllocError>
     ensures ok { OnOk result (string_bytes out.new ≡ string_bytes out.old ++ day_line day) }
-    ensures memory { IsOkUnless result memory_fault }
 {
     push_date(out, day)?;
     out.push_str(" ")?;

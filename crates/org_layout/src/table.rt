@@ -9,7 +9,7 @@ use org_cal::{Period, push_date, push_two};
 use org_clocktable::{Of, TableRow};
 use org_entry::Entry;
 use org_inherit::{Inherit, Inherits};
-use std::alloc::Global;
+use std::alloc::{AllocError, Global};
 
 /// Appends a step of a clock table: a line with its first and last day, and a line for each row: the clock sum in a column of
 /// 9, the effort sum in another if it is asked for, and `*`, the name of a file, or the title of a heading behind two spaces
@@ -38,9 +38,8 @@ fn table_of(
     with_effort: bool,
     period: &Period,
     rows: &[TableRow],
-) -> Result<String, Fault>
+) -> Result<String, AllocError>
     ensures value { IfOk result (λ text. string_bytes text ≡ step_lines with_effort inherits.now (period.now.first, period.now.last) rows.now) }
-    ensures memory { IsOkUnless result memory_fault }
 {
     let mut text = String::new(alloc);
     push_step(&mut text, period)?;
@@ -54,9 +53,8 @@ fn push_rows(
     inherits: &Inherits<'_>,
     with_effort: bool,
     rows: &[TableRow],
-) -> Result<(), Fault>
+) -> Result<(), AllocError>
     ensures ok { OnOk result (string_bytes out.new ≡ string_bytes out.old ++ table_lines with_effort inherits.now rows.now) }
-    ensures memory { IsOkUnless result memory_fault }
 {
     // The text of a sum, kept from row to row.
     let mut sum = String::new(alloc);
@@ -83,9 +81,8 @@ fn row_at(rows: &[TableRow], place: usize) -> TableRow
 }
 
 #[tactic(auto, unfolding(crate::specs::Tables::step_line))]
-fn push_step(out: &mut String, period: &Period) -> Result<(), Fault>
+fn push_step(out: &mut String, period: &Period) -> Result<(), AllocError>
     ensures ok { OnOk result (string_bytes out.new ≡ string_bytes out.old ++ step_line (period.now.first, period.now.last)) }
-    ensures memory { IsOkUnless result memory_fault }
 {
     push_date(out, period.first)?;
     out.push_str(" ")?;
@@ -103,9 +100,8 @@ fn push_row(
     of: Of,
     clock: u64,
     effort: u64,
-) -> Result<(), Fault>
+) -> Result<(), AllocError>
     ensures ok { OnOk result (string_bytes out.new ≡ string_bytes out.old ++ table_line with_effort inherits.now of clock effort) }
-    ensures memory { IsOkUnless result memory_fault }
 {
     push_sum(out, sum, clock)?;
     push_effort(out, sum, with_effort, effort)?;
@@ -119,9 +115,8 @@ fn push_effort(
     sum: &mut String,
     with_effort: bool,
     effort: u64,
-) -> Result<(), Fault>
+) -> Result<(), AllocError>
     ensures ok { OnOk result (string_bytes out.new ≡ string_bytes out.old ++ effort_column with_effort effort) }
-    ensures memory { IsOkUnless result memory_fault }
 {
     if with_effort {
         push_sum(out, sum, effort)
@@ -131,9 +126,8 @@ fn push_effort(
 }
 
 #[tactic(auto, unfolding(crate::specs::Tables::sum_column))]
-fn push_sum(out: &mut String, sum: &mut String, minutes: u64) -> Result<(), Fault>
+fn push_sum(out: &mut String, sum: &mut String, minutes: u64) -> Result<(), AllocError>
     ensures ok { OnOk result (string_bytes out.new ≡ string_bytes out.old ++ sum_column minutes) }
-    ensures memory { IsOkUnless result memory_fault }
 {
     let hours = minutes / 60;
     sum.clear();
@@ -144,9 +138,8 @@ fn push_sum(out: &mut String, sum: &mut String, minutes: u64) -> Result<(), Faul
 }
 
 #[tactic(auto, unfolding(crate::specs::Tables::name_text))]
-fn push_name(out: &mut String, inherits: &Inherits<'_>, of: Of) -> Result<(), Fault>
+fn push_name(out: &mut String, inherits: &Inherits<'_>, of: Of) -> Result<(), AllocError>
     ensures ok { OnOk result (string_bytes out.new ≡ string_bytes out.old ++ name_text inherits.now of) }
-    ensures memory { IsOkUnless result memory_fault }
 {
     match of {
         Of::All => out.push_str("*")?,

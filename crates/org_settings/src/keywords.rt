@@ -1,13 +1,12 @@
 //! The keywords of a file.
-ghost use Rattle.std.specs.Prelude.{◌≡◌, ◌<◌, [], map, length, IfOk, IfSome, OnOk, IsOkUnless};
-ghost use Rattle.org_base.specs.Codes.{memory_fault};
+ghost use Rattle.std.specs.Prelude.{◌≡◌, ◌<◌, [], map, length, IfOk, IfSome, OnOk};
 ghost use Rattle.org_settings.specs.Keywords.{add_word, add_words, add_sequence, add_line, standard_keywords, is_keyword_line, keyword_place, keyword_done, keyword_first, keyword_word};
 
 use crate::pieces::words;
 use crate::sequence::{done_from, is_named, without_parens};
 use crate::setting_line::{has_key, setting_value};
-use org_base::{Fault, Names};
-use std::alloc::Global;
+use org_base::Names;
+use std::alloc::{AllocError, Global};
 use std::marker::Model;
 
 // Whether a keyword is a done one, and the place of the first of its sequence.
@@ -69,9 +68,8 @@ impl Keywords {
         word: &[u8],
         is_done: bool,
         first: usize,
-    ) -> Result<(), Fault>
+    ) -> Result<(), AllocError>
         ensures ok { OnOk result (self.new ≡ add_word is_done first self.old word.now) }
-        ensures memory { IsOkUnless result memory_fault }
     {
         if !is_named(word) {
             return Ok(());
@@ -94,9 +92,8 @@ impl Keywords {
         words: &[&[u8]],
         is_done: bool,
         first: usize,
-    ) -> Result<(), Fault>
+    ) -> Result<(), AllocError>
         ensures ok { OnOk result (self.new ≡ add_words is_done first self.old (map (λ x. x.now) words.now)) }
-        ensures memory { IsOkUnless result memory_fault }
     {
         for word in words {
             self.add_word(alloc, word, is_done, first)?;
@@ -105,9 +102,8 @@ impl Keywords {
     }
 
     // Adds the keywords of one more line.
-    fn add_sequence(&mut self, alloc: Global, words: &[&[u8]]) -> Result<(), Fault>
+    fn add_sequence(&mut self, alloc: Global, words: &[&[u8]]) -> Result<(), AllocError>
         ensures ok { OnOk result (self.new ≡ add_sequence self.old (map (λ x. x.now) words.now)) }
-        ensures memory { IsOkUnless result memory_fault }
     {
         let first = self.count();
         let done = done_from(words);
@@ -144,9 +140,8 @@ impl Keywords {
     }
 
     // Adds the keywords of one more setting line, if it names any.
-    pub(crate) fn add_line(&mut self, alloc: Global, line: &[u8]) -> Result<(), Fault>
+    pub(crate) fn add_line(&mut self, alloc: Global, line: &[u8]) -> Result<(), AllocError>
         ensures ok { OnOk result (self.new ≡ add_line self.old line.now) }
-        ensures memory { IsOkUnless result memory_fault }
     {
         if !is_keyword_line(line) {
             return Ok(());
@@ -156,9 +151,8 @@ impl Keywords {
     }
 
     // The keywords of a file that names none: `TODO`, and `DONE` as done.
-    pub(crate) fn standard(alloc: Global) -> Result<Keywords, Fault>
+    pub(crate) fn standard(alloc: Global) -> Result<Keywords, AllocError>
         ensures value { IfOk result (λ k. k ≡ standard_keywords) }
-        ensures memory { IsOkUnless result memory_fault }
     {
         let mut keywords = Keywords::new(alloc);
         let words: [&[u8]; 2] = [b"TODO", b"DONE"];

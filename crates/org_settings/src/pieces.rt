@@ -1,11 +1,9 @@
 //! Pieces of a text between separators.
-ghost use Rattle.std.specs.Prelude.{◌≡◌, ◌≤◌, ◌++◌, map, length, IfOk, OnOk, IsOkUnless};
+ghost use Rattle.std.specs.Prelude.{◌≡◌, ◌≤◌, ◌++◌, map, length, IfOk, OnOk};
 ghost use Rattle.std.specs.List.{slice_range};
-ghost use Rattle.org_base.specs.Codes.{memory_fault};
 ghost use Rattle.org_settings.specs.Pieces.{is_between, piece, pieces, words};
 
-use org_base::Fault;
-use std::alloc::Global;
+use std::alloc::{AllocError, Global};
 
 // Whether the byte is white space, a line feed or the other separator.
 fn is_between(also: u8, byte: u8) -> bool
@@ -20,11 +18,10 @@ fn push_piece<'a>(
     text: &'a [u8],
     from: usize,
     to: usize,
-) -> Result<(), Fault>
+) -> Result<(), AllocError>
     requires order { from ≤ to }
     requires within { to ≤ length text.now }
     ensures ok { OnOk result (map (λ x. x.now) found.new.items ≡ map (λ x. x.now) found.old.items ++ piece (slice_range text.now from to)) }
-    ensures memory { IsOkUnless result memory_fault }
 {
     if from < to {
         found.push(&text[from..to])?;
@@ -33,9 +30,12 @@ fn push_piece<'a>(
 }
 
 // The longest runs of the text without white space, line feeds and the byte.
-pub(crate) fn pieces<'a>(alloc: Global, text: &'a [u8], also: u8) -> Result<Vec<&'a [u8]>, Fault>
+pub(crate) fn pieces<'a>(
+    alloc: Global,
+    text: &'a [u8],
+    also: u8,
+) -> Result<Vec<&'a [u8]>, AllocError>
     ensures value { IfOk result (λ v. map (λ x. x.now) v.items ≡ pieces also text.now) }
-    ensures memory { IsOkUnless result memory_fault }
 {
     let mut found = Vec::new(alloc);
     let mut start = 0;
@@ -50,9 +50,8 @@ pub(crate) fn pieces<'a>(alloc: Global, text: &'a [u8], also: u8) -> Result<Vec<
 }
 
 // The words of the text.
-pub(crate) fn words<'a>(alloc: Global, text: &'a [u8]) -> Result<Vec<&'a [u8]>, Fault>
+pub(crate) fn words<'a>(alloc: Global, text: &'a [u8]) -> Result<Vec<&'a [u8]>, AllocError>
     ensures value { IfOk result (λ v. map (λ x. x.now) v.items ≡ words text.now) }
-    ensures memory { IsOkUnless result memory_fault }
 {
     pieces(alloc, text, b' ')
 }

@@ -1,13 +1,11 @@
 //! Priorities.
-ghost use Rattle.std.specs.Prelude.{◌≡◌, ◌≤◌, map, IfOk, IfSome, IsTrue, IsOkUnless};
-ghost use Rattle.org_base.specs.Codes.{memory_fault};
+ghost use Rattle.std.specs.Prelude.{◌≡◌, ◌≤◌, map, IfOk, IfSome, IsTrue};
 ghost use Rattle.org_settings.specs.Priority.{is_priority, priority_number, greatest_priority};
 ghost use Rattle.org_settings.specs.SettingLines.{default_of_three, default_of, default_in};
 
 use crate::pieces::words;
 use crate::setting_line::{has_key, setting_value};
-use org_base::Fault;
-use std::alloc::Global;
+use std::alloc::{AllocError, Global};
 
 /// Whether the text is a priority: A to Z, or 0 to 64 without a leading zero (Org manual 9.6, "Priorities").
 pub fn is_priority(text: &[u8]) -> bool
@@ -67,10 +65,9 @@ fn default_of(words: &[&[u8]]) -> Option<u8>
 }
 
 // The default priority that a setting line names, if it is the highest, lowest and default one.
-pub(crate) fn default_in(alloc: Global, line: &[u8]) -> Result<Option<u8>, Fault>
+pub(crate) fn default_in(alloc: Global, line: &[u8]) -> Result<Option<u8>, AllocError>
     ensures value { IfOk result (λ found. found ≡ default_in line.now) }
     ensures most { IfOk result (λ found. IfSome found (λ number. number ≤ greatest_priority)) }
-    ensures memory { IsOkUnless result memory_fault }
 {
     if !has_key(b"PRIORITIES", line) {
         return Ok(None);

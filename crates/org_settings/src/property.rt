@@ -1,12 +1,12 @@
 //! What a line `#+PROPERTY: NAME VALUE` gives.
-ghost use Rattle.std.specs.Prelude.{◌≡◌, OnOk, IsOkUnless};
-ghost use Rattle.org_base.specs.Codes.{memory_fault};
+ghost use Rattle.std.specs.Prelude.{◌≡◌, OnOk};
 ghost use Rattle.org_base.specs.Properties.{with_all};
 ghost use Rattle.org_settings.specs.SettingLines.{is_appended, name_of, is_name, value_behind, given_by, property_in};
 
 use crate::setting_line::{has_key, setting_value};
+use org_base::Properties;
 use org_base::words::{first_word, trim_start, trimmed};
-use org_base::{Fault, Properties};
+use std::alloc::AllocError;
 
 // Whether the word ends in `+`.
 fn is_appended(word: &[u8]) -> bool
@@ -42,9 +42,8 @@ fn value_behind(text: &[u8]) -> &[u8]
 }
 
 // Adds what a text `NAME VALUE` or `NAME+ VALUE` gives.
-fn add_given(properties: &mut Properties, text: &[u8]) -> Result<(), Fault>
+fn add_given(properties: &mut Properties, text: &[u8]) -> Result<(), AllocError>
     ensures ok { OnOk result (properties.new ≡ with_all properties.old (given_by text.now)) }
-    ensures memory { IsOkUnless result memory_fault }
 {
     let word = first_word(text);
     let name = name_of(word);
@@ -55,9 +54,8 @@ fn add_given(properties: &mut Properties, text: &[u8]) -> Result<(), Fault>
 }
 
 // Adds what a line gives, if it names a property.
-pub(crate) fn add_property(properties: &mut Properties, line: &[u8]) -> Result<(), Fault>
+pub(crate) fn add_property(properties: &mut Properties, line: &[u8]) -> Result<(), AllocError>
     ensures ok { OnOk result (properties.new ≡ with_all properties.old (property_in line.now)) }
-    ensures memory { IsOkUnless result memory_fault }
 {
     if !has_key(b"PROPERTY", line) {
         return Ok(());

@@ -12,7 +12,7 @@ use crate::property::add_property;
 use crate::setting_line::{has_key, setting_value};
 use crate::settings::Settings;
 use org_base::{Bytes, Fault, Properties, Texts};
-use std::alloc::Global;
+use std::alloc::{AllocError, Global};
 use std::marker::Model;
 
 // What setting lines have said so far.
@@ -69,9 +69,8 @@ impl Said {
     }
 
     // What holds where no line says more.
-    pub(crate) fn settled(self, alloc: Global) -> Result<Settings, Fault>
+    pub(crate) fn settled(self, alloc: Global) -> Result<Settings, AllocError>
         ensures value { IfOk result (λ settings. settings ≡ settled self) }
-        ensures memory { IsOkUnless result memory_fault }
     {
         let Said {
             keywords,
@@ -87,9 +86,8 @@ impl Said {
 }
 
 // The keywords, or the standard ones where there are none.
-fn or_standard(alloc: Global, keywords: Keywords) -> Result<Keywords, Fault>
+fn or_standard(alloc: Global, keywords: Keywords) -> Result<Keywords, AllocError>
     ensures value { IfOk result (λ k. k ≡ if length keywords == 0 then standard_keywords else keywords) }
-    ensures memory { IsOkUnless result memory_fault }
 {
     if keywords.count() == 0 {
         Keywords::standard(alloc)
@@ -122,9 +120,8 @@ fn push_tags(alloc: Global, tags: &mut Texts, line: &[u8]) -> Result<(), Fault>
 }
 
 // The category that a line names.
-fn category_in(alloc: Global, line: &[u8]) -> Result<Option<Bytes>, Fault>
+fn category_in(alloc: Global, line: &[u8]) -> Result<Option<Bytes>, AllocError>
     ensures value { IfOk result (λ category. category ≡ category_in line.now) }
-    ensures memory { IsOkUnless result memory_fault }
 {
     if !has_key(b"CATEGORY", line) {
         return Ok(None);

@@ -67,7 +67,7 @@ impl Settings {
         for place in 0..lines.count() {
             said.add(alloc, lines.get(place))?;
         }
-        said.settled(alloc)
+        Ok(said.settled(alloc)?)
     }
 
     /// The place of a word among the file's keywords, from 0. Letter case counts.

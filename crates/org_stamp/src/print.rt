@@ -9,7 +9,7 @@ use crate::mark::{Delay, Kind, Repeater};
 use crate::stamp::Stamp;
 use org_base::Fault;
 use org_cal::{Day, TimeOfDay, Unit, day_name, push_date, push_time};
-use std::alloc::Global;
+use std::alloc::{AllocError, Global};
 
 fn letter(unit: Unit) -> char
     ensures value { result ≡ spec.letter unit }
@@ -23,9 +23,8 @@ fn letter(unit: Unit) -> char
     }
 }
 
-fn push_amount(out: &mut String, n: u16, unit: Unit) -> Result<(), Fault>
+fn push_amount(out: &mut String, n: u16, unit: Unit) -> Result<(), AllocError>
     ensures ok { OnOk result (string_bytes out.new ≡ string_bytes out.old ++ spec.amount_text (n, unit)) }
-    ensures memory { IsOkUnless result memory_fault }
 {
     let letter = letter(unit);
     write!(out, "{n}{letter}")?;
@@ -36,9 +35,8 @@ fn push_times(
     out: &mut String,
     time: Option<TimeOfDay>,
     end_time: Option<TimeOfDay>,
-) -> Result<(), Fault>
+) -> Result<(), AllocError>
     ensures ok { OnOk result (string_bytes out.new ≡ string_bytes out.old ++ spec.times_text time end_time) }
-    ensures memory { IsOkUnless result memory_fault }
 {
     let Some(start) = time else {
         return Ok(());
@@ -52,9 +50,8 @@ fn push_times(
     Ok(())
 }
 
-fn push_repeater(out: &mut String, repeater: Option<Repeater>) -> Result<(), Fault>
+fn push_repeater(out: &mut String, repeater: Option<Repeater>) -> Result<(), AllocError>
     ensures ok { OnOk result (string_bytes out.new ≡ string_bytes out.old ++ spec.repeater_text repeater) }
-    ensures memory { IsOkUnless result memory_fault }
 {
     let Some(found) = repeater else {
         return Ok(());
@@ -72,9 +69,8 @@ fn push_repeater(out: &mut String, repeater: Option<Repeater>) -> Result<(), Fau
     Ok(())
 }
 
-fn push_delay(out: &mut String, delay: Option<Delay>) -> Result<(), Fault>
+fn push_delay(out: &mut String, delay: Option<Delay>) -> Result<(), AllocError>
     ensures ok { OnOk result (string_bytes out.new ≡ string_bytes out.old ++ spec.delay_text delay) }
-    ensures memory { IsOkUnless result memory_fault }
 {
     let Some(found) = delay else {
         return Ok(());
@@ -83,27 +79,24 @@ fn push_delay(out: &mut String, delay: Option<Delay>) -> Result<(), Fault>
     push_amount(out, found.n, found.unit)
 }
 
-fn push_tail(out: &mut String, stamp: &Stamp) -> Result<(), Fault>
+fn push_tail(out: &mut String, stamp: &Stamp) -> Result<(), AllocError>
     ensures ok { OnOk result (string_bytes out.new ≡ string_bytes out.old ++ spec.tail_text stamp.now) }
-    ensures memory { IsOkUnless result memory_fault }
 {
     push_times(out, stamp.time, stamp.end_time)?;
     push_repeater(out, stamp.repeater)?;
     push_delay(out, stamp.delay)
 }
 
-fn push_open(out: &mut String, active: bool) -> Result<(), Fault>
+fn push_open(out: &mut String, active: bool) -> Result<(), AllocError>
     ensures ok { OnOk result (string_bytes out.new ≡ string_bytes out.old ++ open_of active ∷ []) }
-    ensures memory { IsOkUnless result memory_fault }
 {
     out.push_str(if active { "<" } else { "[" })?;
     Ok(())
 }
 
 // The date and the name of the day.
-fn push_day(out: &mut String, day: Day) -> Result<(), Fault>
+fn push_day(out: &mut String, day: Day) -> Result<(), AllocError>
     ensures ok { OnOk result (string_bytes out.new ≡ string_bytes out.old ++ spec.day_text day) }
-    ensures memory { IsOkUnless result memory_fault }
 {
     push_date(out, day)?;
     out.push_str(" ")?;
@@ -112,27 +105,24 @@ fn push_day(out: &mut String, day: Day) -> Result<(), Fault>
 }
 
 // The opening bracket, the date and the name of the day.
-fn push_start(out: &mut String, active: bool, day: Day) -> Result<(), Fault>
+fn push_start(out: &mut String, active: bool, day: Day) -> Result<(), AllocError>
     ensures ok { OnOk result (string_bytes out.new ≡ string_bytes out.old ++ open_of active ∷ spec.day_text day) }
-    ensures memory { IsOkUnless result memory_fault }
 {
     push_open(out, active)?;
     push_day(out, day)?;
     Ok(())
 }
 
-fn push_end(out: &mut String, active: bool) -> Result<(), Fault>
+fn push_end(out: &mut String, active: bool) -> Result<(), AllocError>
     ensures ok { OnOk result (string_bytes out.new ≡ string_bytes out.old ++ close_of active ∷ []) }
-    ensures memory { IsOkUnless result memory_fault }
 {
     out.push_str(if active { ">" } else { "]" })?;
     Ok(())
 }
 
-fn push_first(out: &mut String, stamp: &Stamp) -> Result<(), Fault>
+fn push_first(out: &mut String, stamp: &Stamp) -> Result<(), AllocError>
     ensures ok { OnOk result (string_bytes out.new ≡ string_bytes out.old
         ++ spec.single_text stamp.now.active stamp.now.day (spec.tail_text stamp.now)) }
-    ensures memory { IsOkUnless result memory_fault }
 {
     push_start(out, stamp.active, stamp.day)?;
     push_tail(out, stamp)?;
@@ -144,9 +134,8 @@ fn push_last(
     out: &mut String,
     active: bool,
     last: Option<(Day, Option<TimeOfDay>)>,
-) -> Result<(), Fault>
+) -> Result<(), AllocError>
     ensures ok { OnOk result (string_bytes out.new ≡ string_bytes out.old ++ spec.last_text active last) }
-    ensures memory { IsOkUnless result memory_fault }
 {
     let Some((day, time)) = last else {
         return Ok(());

@@ -32,15 +32,18 @@ loop-i-preserved c =
           }
     ]
 
-pub returns-clause-value : goal.returns-clause-value
-returns-clause-value c =
-    let also = c.args.also in
-    let t = c.args.text.now in
-    let i = c.loop-i.i in
-    let start = c.loop-i.start in
-    let last : take (i - start) (drop start t) ≡ drop start t = all_taken t start i c.loop-i-test.false in
-    let whole : take (length t - start) (drop start t) ≡ drop start t = all_taken t start (length t) (omega arith) in
-    c.in_ok-push_piece-2.ensures.ok
-    ∙ ap (λ p. texts c.loop-i.found.items ++ piece p) whole
-    ∙ ap (λ q. texts c.loop-i.found.items ++ q) (sym (piece_last also (drop start t) (ap (are_letters also) (sym last) ∙ c.loop-i.invariant.letters)))
-    ∙ c.loop-i.invariant.all
+pub returns : goal.returns
+returns c =
+    record {
+      value =
+          let also = c.args.also in
+          let t = c.args.text.now in
+          let i = c.loop-i.i in
+          let start = c.loop-i.start in
+          let last : take (i - start) (drop start t) ≡ drop start t = all_taken t start i c.loop-i-test.false in
+          let whole : take (length t - start) (drop start t) ≡ drop start t = all_taken t start (length t) (omega arith) in
+          c.in_ok-push_piece-2.ensures.ok
+          ∙ ap (λ p. texts c.loop-i.found.items ++ piece p) whole
+          ∙ ap (λ q. texts c.loop-i.found.items ++ q) (sym (piece_last also (drop start t) (ap (are_letters also) (sym last) ∙ c.loop-i.invariant.letters)))
+          ∙ c.loop-i.invariant.all;
+    }

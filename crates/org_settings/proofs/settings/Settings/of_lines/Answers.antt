@@ -1,6 +1,5 @@
 -- One line more; behind the last, what was said is what all lines say.
 use Rattle.std.proofs.Common.{◌∙◌, ◌≤◌, ap, sym, arith, length}
-use Rattle.std.proofs.lemmas.Result.{IfOk-weaker}
 use Rattle.std.proofs.lemmas.List.{drop_all}
 use Rattle.org_settings.specs.Said.{with_lines, settled}
 use Rattle.org_settings.proofs.SaidLemmas.{line_more, lines_settle}
@@ -14,4 +13,4 @@ returns-clause-value c =
     let lines = c.args.lines.now in
     let past : length lines ≤ c.loop-place.place = omega arith in
     let all = ap (with_lines c.loop-place.said) (sym (drop_all c.loop-place.place lines past)) ∙ c.loop-place.invariant in
-    IfOk-weaker c.settled.result _ _ (λ settings is. is ∙ ap settled all ∙ lines_settle lines) c.settled.ensures.value
+    c.in_ok-settled.ensures.value ∙ ap settled all ∙ lines_settle lines
