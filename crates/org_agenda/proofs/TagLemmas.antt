@@ -10,7 +10,7 @@ use Rattle.org_expression.specs.Grammar.{Item}
 use Rattle.org_inherit.specs.Scope.{Scope}
 use Rattle.org_inherit.specs.Tags.{with_tag, own_tags_at, all_tags, lineage}
 use Rattle.org_inherit.proofs.TagLemmas.{list_any-more, tag_added, tag_left}
-use Rattle.org_match.specs.Asked.{either, meets, tag_verdicts}
+use Rattle.org_match.specs.Verdicts.{either, meets, tag_verdicts}
 use Rattle.org_outline.proofs.Chain.{ancestors_step, parent_earlier}
 use Rattle.org_outline.specs.Levels.{levels}
 use Rattle.org_outline.specs.Tree.{parent, ancestors, up_from}

@@ -35,6 +35,7 @@ abbrev pub occurs_later : Bool → Stamp → ℕ → ℕ → Bool
 occurs_later true s n day = (day == s.day + n) || (not (day == s.day) && occurs s day)
 occurs_later false s n day = nat_lt n day && occurs s (day - n)
 
+-- the stamp occurs on the day, moved by its delay if it has one
 abbrev pub occurs_delayed : Stamp → Option Delay → ℕ → Bool
 occurs_delayed s None day = occurs s day
 occurs_delayed s (Some d) day = occurs_later d.first_only s (days_in d.unit d.n) day
@@ -67,6 +68,7 @@ range_times s (Some last) day =
     if day == s.day then (s.time, (if last.0 == s.day then last.1 else None))
     else (if day == last.0 then (last.1, None) else (None, None))
 
+-- the times that a row of a kind shows, start and end; late rows and warnings show none
 abbrev pub times : RowKind → Stamp → ℕ → Option ℕ × Option ℕ
 times OnDay s day = (s.time, s.end_time)
 times InRange s day = range_times s s.last day
@@ -79,6 +81,7 @@ abbrev pub range_numbers : Stamp → Option (ℕ × Option ℕ) → ℕ → ℕ 
 range_numbers s None day = (0, 0)
 range_numbers s (Some last) day = (day - s.day + 1, last.0 - s.day + 1)
 
+-- the numbers in the label of a kind: of a range as above, of late rows and warnings the days from the base
 abbrev pub numbers : RowKind → Stamp → ℕ → ℕ × ℕ
 numbers InRange s day = range_numbers s s.last day
 numbers LateSchedule s day = (day - s.day, 0)
@@ -99,6 +102,7 @@ stamp_row kind s day = record {
   stamp_at = s.stamp_at;
 }
 
+-- the row of a kind, where the day shows it
 abbrev pub kind_rows : RowKind → Source → ℕ → ℕ → List Ranked
 kind_rows kind s today day = if is_shown kind s today day then record { priority = s.owner.priority; row = stamp_row kind s day } ∷ [] else []
 
@@ -117,9 +121,11 @@ abbrev pub start_key : Option ℕ → ℕ
 start_key None = STARTS - 1
 start_key (Some start) = start
 
+-- the row under the key of its start
 abbrev pub started : Row → Ranked
 started row = record { priority = start_key row.start; row = row }
 
+-- rows in the order of their starts, those without one last; equal ones keep their order
 abbrev pub by_start : List Row → List Row
 by_start rows = map (λ (r : Ranked). r.row) (by_key (λ (r : Ranked). r.priority) STARTS (map started rows))
 
@@ -134,6 +140,7 @@ pub record AgendaView : Type 0 where
   pub first : ℕ
   pub count : ℕ
 
+-- the agenda of so many days from a first one on
 abbrev pub agenda_of : List Source → ℕ → ℕ → ℕ → AgendaView
 agenda_of sources today first count = record { sources = sources; today = today; first = first; count = count }
 

@@ -1,4 +1,4 @@
--- Laws of rows.
+-- Laws of rows (Org manual 9.6, Weekly/daily agenda; The Global TODO List; order: profile).
 use Rattle.std.specs.Prelude.{◌≡◌, ◌<◌, ◌≤◌, ℕ, Bool, true, false, List, [], filter, length, map}
 use Rattle.std.specs.List.{All}
 use Rattle.std.specs.List.Sorted.{IsNonDecreasingBy, IsPermutation}

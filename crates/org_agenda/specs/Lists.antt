@@ -42,6 +42,7 @@ pub record Ranked : Type 0 where
 abbrev pub row_at : ℕ → ℕ → Row
 row_at file i = record { kind = Listed; start = None; end = None; number = 0; of = 0; file = file; heading = i; stamp_at = 0 }
 
+-- the same with the priority of the heading
 abbrev pub ranked_row : Scope → ℕ → ℕ → Entry → Head → Ranked
 ranked_row scope file i e head = record { priority = priority_of scope.settings (heading_line e) head; row = row_at file i }
 

@@ -25,6 +25,7 @@ owner_of scope file i e head = record {
   is_open = not (is_finished scope.settings (keyword_in e.text head));
 }
 
+-- a stamp of a heading, with its role and its place in the section
 abbrev pub source_at : Owner → Role → ℕ → Stamp → Source
 source_at owner role at stamp = record { owner = owner; stamp_at = at; role = role; stamp = stamp }
 
@@ -38,6 +39,7 @@ abbrev pub with_planned : Owner → Role → Option (Stamp × Span) → List Sou
 with_planned owner role None sources = sources
 with_planned owner role (Some found) sources = if found.0.active then put (source_at owner role found.1.at found.0) sources else sources
 
+-- the scheduled stamp and the deadline of the planning line among others
 abbrev pub with_planning : Owner → Option Planning → List Source → List Source
 with_planning owner None sources = sources
 with_planning owner (Some planning) sources = with_planned owner Deadline planning.deadline (with_planned owner Scheduled planning.scheduled sources)
@@ -55,14 +57,16 @@ abbrev pub head_sources : Scope → ℕ → ℕ → Entry → Option Head → Li
 head_sources scope file i e None = []
 head_sources scope file i e (Some head) = if is_hidden scope.entries i then [] else entry_sources (owner_of scope file i e head) e
 
+-- the same, by the entry's own head
 abbrev pub heading_sources : Scope → ℕ → ℕ → Entry → List Source
 heading_sources scope file i e = head_sources scope file i e e.head
 
--- those of entries, the first of which stands at a place, and those of a file
+-- those of entries, the first of which stands at a place
 abbrev pub sources_from : Scope → ℕ → ℕ → List Entry → List Source
 sources_from scope file i [] = []
 sources_from scope file i (e ∷ es) = head_sources scope file i e e.head ++ sources_from scope file (i + 1) es
 
+-- those of a file
 abbrev pub file_sources : Scope → ℕ → List Source
 file_sources scope file = sources_from scope file 0 scope.entries
 

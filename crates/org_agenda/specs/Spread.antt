@@ -15,6 +15,7 @@ abbrev pub rows_if : ℕ → ℕ → Option Source → List Ranked
 rows_if today day None = []
 rows_if today day (Some s) = source_rows today day s
 
+-- the same, by the place among stamps
 abbrev pub place_rows : List Source → ℕ → ℕ → ℕ → List Ranked
 place_rows sources today day place = rows_if today day (slice_get sources place)
 

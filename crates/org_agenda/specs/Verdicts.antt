@@ -3,7 +3,7 @@ use Rattle.std.specs.Prelude.{◌≡◌, ◌<◌, ℕ, Bool, List, Option, None,
 use Rattle.org_expression.specs.Grammar.{Expr}
 use Rattle.org_inherit.specs.Scope.{Scope}
 use Rattle.org_inherit.specs.Tags.{all_tags}
-use Rattle.org_match.specs.Asked.{tag_verdicts}
+use Rattle.org_match.specs.Verdicts.{tag_verdicts}
 use Rattle.org_match.specs.Holds.{tag_items}
 use Rattle.org_agenda.specs.Lists.{Listing, Open, Named, Matching}
 

@@ -49,10 +49,8 @@ impl<'a, 'b> HeadingFacts<'a, 'b> {
     pub(crate) fn word(&self) -> Option<&'a [u8]>
         ensures { option_map (λ word. word.now) result ≡ keyword_in self.now.entry.now.text self.now.head.now }
     {
-        match self.head.keyword {
-            Some(span) => Some(self.entry.part(span)),
-            None => None,
-        }
+        let span = self.head.keyword?;
+        Some(self.entry.part(span))
     }
 }
 

@@ -1,5 +1,5 @@
 //! The rows of lists.
-ghost use Rattle.std.specs.Prelude.{◌≡◌, ◌<◌, ℕ, Some, length, slice_get, IfOk, OnOk, IsOkUnless};
+ghost use Rattle.std.specs.Prelude.{◌≡◌, ◌<◌, Some, length, slice_get, IfOk, OnOk, IsOkUnless};
 ghost use Rattle.org_base.specs.Codes.{memory_fault};
 ghost use Rattle.org_agenda.specs.Gathered.{gathered};
 ghost use Rattle.org_agenda.specs.Headings.{AllHaveHeads, HaveHeads};
@@ -17,7 +17,7 @@ use crate::wanted::{Choice, Question, Wanted};
 use org_base::{Fault, Texts};
 use org_cal::Moment;
 use org_inherit::{Inherit, Inherits};
-use org_match::{Match, Testing};
+use org_match::{Match, Matcher};
 use std::alloc::Global;
 
 /// How many priorities there are: 0 to the ASCII code of Z.
@@ -47,9 +47,9 @@ pub fn match_rows(
     ensures value { IfOk result (λ rows. rows.items ≡ list_rows (Matching expression.now moment) inherits.now) }
     ensures memory { IsOkUnless result memory_fault }
 {
-    let testing = Testing::new(alloc, expression)?;
+    let matcher = Matcher::new(alloc, expression)?;
     let mut choice = Choice {
-        wanted: Wanted::Matching(Question { testing, moment }),
+        wanted: Wanted::Matching(Question { matcher, moment }),
     };
     rows_of(alloc, inherits, &mut choice)
 }

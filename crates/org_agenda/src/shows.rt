@@ -1,6 +1,6 @@
 //! Which rows a stamp gives on a day.
 ghost use Rattle.std.specs.Prelude.{◌≡◌, ◌<◌, ◌-◌, nat_lt, ◌&&◌, length, OnOk};
-ghost use Rattle.org_agenda.specs.Days.{days_in, delay_or, is_due, is_in_range, is_shown, kind_rows, numbers, occurs_delayed, occurs_later, range_numbers, range_times, source_rows, times};
+ghost use Rattle.org_agenda.specs.Days.{days_in, delay_or, is_due, is_in_range, is_shown, kind_rows, numbers, occurs_delayed, occurs_later, range_times, source_rows, times};
 ghost use Rattle.org_agenda.specs.Gathered.{gathered};
 ghost use Rattle.org_agenda.specs.declared.lists.TheConstants.{PRIORITIES};
 ghost use Rattle.org_repeat.specs.Decided.{occurs};

@@ -4,7 +4,7 @@ ghost use Rattle.org_base.specs.Codes.{memory_fault};
 ghost use Rattle.org_agenda.specs.Verdicts.{AreVerdicts, verdicts_above, verdicts_at};
 ghost use Rattle.org_base.specs.Spans.{bytes_in};
 ghost use Rattle.org_inherit.specs.Tags.{own_tags, own_tags_at};
-ghost use Rattle.org_match.specs.Asked.{either, tag_verdicts};
+ghost use Rattle.org_match.specs.Verdicts.{either, tag_verdicts};
 ghost use Rattle.org_match.specs.Holds.{tag_items};
 ghost use Rattle.org_outline.specs.Levels.{levels};
 ghost use Rattle.org_outline.specs.Tree.{parent};
@@ -12,7 +12,7 @@ ghost use Rattle.org_outline.specs.Tree.{parent};
 use org_base::{Fault, Span, Texts};
 use org_entry::Entry;
 use org_inherit::Inherit;
-use org_match::Testing;
+use org_match::{Matcher, TermVerdicts};
 use org_outline::Outline;
 use std::alloc::{AllocError, Global};
 use std::marker::Model;
@@ -21,23 +21,22 @@ use std::marker::Model;
 // of its parent and those on its own tags, so that inherited tags aren't gone over again.
 #[derive(Drop)]
 pub(crate) struct Verdicts {
-    file: Vec<bool>,
-    rows: Vec<Vec<bool>>,
+    file: TermVerdicts,
+    rows: Vec<TermVerdicts>,
 }
 
 impl Model for Verdicts {
-    ghost use Rattle.std.specs.Prelude.{map};
     ghost use Rattle.org_agenda.specs.Verdicts.{VerdictsView};
 
     ghost Value = { VerdictsView };
 
-    ghost view = { λ v. record { file = v.file.items; rows = map (λ row. row.items) v.rows.items } };
+    ghost view = { λ v. record { file = v.file; rows = v.rows.items } };
 }
 
 impl Verdicts {
     // Those on the file's tags alone.
-    pub(crate) fn new(alloc: Global, file: Vec<bool>) -> Verdicts
-        ensures { result ≡ record { file = file.items; rows = [] } }
+    pub(crate) fn new(alloc: Global, file: TermVerdicts) -> Verdicts
+        ensures { result ≡ record { file = file; rows = [] } }
     {
         Verdicts {
             file,
@@ -66,8 +65,8 @@ impl Verdicts {
         }
     }
 
-    fn push(&mut self, row: Vec<bool>) -> Result<(), AllocError>
-        ensures { OnOk result (self.new ≡ record self.old { rows = self.old.rows ++ row.items ∷ [] }) }
+    fn push(&mut self, row: TermVerdicts) -> Result<(), AllocError>
+        ensures { OnOk result (self.new ≡ record self.old { rows = self.old.rows ++ row ∷ [] }) }
     {
         self.rows.push(row)?;
         Ok(())
@@ -76,21 +75,21 @@ impl Verdicts {
     // An expression's verdicts on the tags of a file's entries. Where it asks of no tag, those on the file's tags serve all.
     pub(crate) fn of(
         alloc: Global,
-        testing: &mut Testing<'_>,
+        matcher: &mut Matcher<'_>,
         inherit: &Inherit<'_>,
     ) -> Result<Verdicts, Fault>
-        ensures value { IfOk result (λ known. AreVerdicts testing.old inherit.now known) }
-        ensures same { testing.new ≡ testing.old }
+        ensures value { IfOk result (λ known. AreVerdicts matcher.old inherit.now known) }
+        ensures same { matcher.new ≡ matcher.old }
         ensures memory { IsOkUnless result memory_fault }
     {
-        let file = testing.verdicts(alloc, &[], inherit.settings().file_tags())?;
+        let file = matcher.verdicts(alloc, &[], inherit.settings().file_tags())?;
         let mut known = Verdicts::new(alloc, file);
-        if !testing.asks_tags() {
+        if !matcher.asks_tags() {
             return Ok(known);
         }
         let outline = inherit.outline();
         for place in 0..outline.count() {
-            known.add(alloc, testing, outline, place)?;
+            known.add(alloc, matcher, outline, place)?;
         }
         Ok(known)
     }
@@ -99,17 +98,17 @@ impl Verdicts {
     fn add(
         &mut self,
         alloc: Global,
-        testing: &mut Testing<'_>,
+        matcher: &mut Matcher<'_>,
         outline: &Outline,
         place: usize,
     ) -> Result<(), Fault>
         requires within { place < length outline.now }
-        ensures ok { OnOk result (self.new ≡ record self.old { rows = self.old.rows ++ either (verdicts_above self.old (parent (levels outline.now) place)) (tag_verdicts (own_tags_at outline.now place) (tag_items testing.old)) ∷ [] }) }
-        ensures same { testing.new ≡ testing.old }
+        ensures ok { OnOk result (self.new ≡ record self.old { rows = self.old.rows ++ either (verdicts_above self.old (parent (levels outline.now) place)) (tag_verdicts (own_tags_at outline.now place) (tag_items matcher.old)) ∷ [] }) }
+        ensures same { matcher.new ≡ matcher.old }
         ensures memory { IsOkUnless result memory_fault }
     {
         let tags = own_tags(alloc, outline.entry(place))?;
-        let row = testing.verdicts(alloc, self.above(outline.parent(place)), &tags)?;
+        let row = matcher.verdicts(alloc, self.above(outline.parent(place)), &tags)?;
         self.push(row)?;
         Ok(())
     }

@@ -7,7 +7,7 @@ ghost use Rattle.org_agenda.specs.Headings.{has_open_keyword, heading_holds};
 ghost use Rattle.org_agenda.specs.Lists.{is_listed, is_named};
 ghost use Rattle.org_agenda.specs.Verdicts.{AreKnown, IsKnown};
 ghost use Rattle.org_inherit.specs.Tags.{all_tags};
-ghost use Rattle.org_match.specs.Asked.{tag_verdicts};
+ghost use Rattle.org_match.specs.Verdicts.{tag_verdicts};
 ghost use Rattle.org_match.specs.Holds.{tag_items};
 
 use crate::facts::{HeadingFacts, is_finished};
@@ -15,7 +15,7 @@ use crate::verdicts::Verdicts;
 use org_base::{Fault, Texts};
 use org_cal::Moment;
 use org_inherit::Inherit;
-use org_match::Testing;
+use org_match::{Matcher, TermVerdicts};
 use org_settings::Settings;
 use std::alloc::Global;
 use std::marker::Model;
@@ -34,7 +34,7 @@ pub(crate) enum Wanted<'a> {
 // An expression, and the moment at which it is asked.
 #[derive(Drop)]
 pub(crate) struct Question<'a> {
-    pub testing: Testing<'a>,
+    pub matcher: Matcher<'a>,
     pub moment: Moment,
 }
 
@@ -61,8 +61,8 @@ impl<'a> Choice<'a> {
         ensures memory { IsOkUnless result memory_fault }
     {
         match &mut self.wanted {
-            Wanted::Open | Wanted::Named(_) => Ok(Verdicts::new(alloc, Vec::new(alloc))),
-            Wanted::Matching(question) => Verdicts::of(alloc, &mut question.testing, inherit),
+            Wanted::Open | Wanted::Named(_) => Ok(Verdicts::new(alloc, TermVerdicts::new(alloc))),
+            Wanted::Matching(question) => Verdicts::of(alloc, &mut question.matcher, inherit),
         }
     }
 
@@ -92,13 +92,13 @@ fn matches(
     facts: &HeadingFacts<'_, '_>,
     known: &[bool],
 ) -> Result<bool, Fault>
-    requires known { known.now ≡ tag_verdicts (all_tags facts.now.inherit.now facts.now.place) (tag_items question.old.testing) }
-    ensures value { IfOk result (λ yes. yes ≡ heading_holds question.old.testing question.old.moment facts.now.inherit.now facts.now.place facts.now.entry.now facts.now.head.now) }
+    requires known { known.now ≡ tag_verdicts (all_tags facts.now.inherit.now facts.now.place) (tag_items question.old.matcher) }
+    ensures value { IfOk result (λ yes. yes ≡ heading_holds question.old.matcher question.old.moment facts.now.inherit.now facts.now.place facts.now.entry.now facts.now.head.now) }
     ensures same { question.new ≡ question.old }
     ensures memory { IsOkUnless result memory_fault }
 {
     question
-        .testing
+        .matcher
         .test_with(alloc, facts, &question.moment, known)
 }
 

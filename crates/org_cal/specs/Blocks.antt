@@ -1,4 +1,5 @@
--- Blocks of time (Org manual 8.4.2, The clock table; weeks by ISO 8601). The years 1 to 9999 are the profile's.
+-- Blocks of time (Org manual 9.6, The clock table; weeks by ISO 8601). The years 1 to 9999 are the profile's.
+-- Characters by their codes: 45 -, 48 0.
 use Rattle.std.specs.Prelude.{ℕ, ◌+◌, ◌-◌, ◌*◌, ◌&&◌, ◌==◌, nat_le, if◌then◌else◌, List, [], ◌∷◌, Option, Some, None, codes}
 use Rattle.std.specs.Str.{bytes_eq}
 use Rattle.std.specs.Option.{option_and_then}

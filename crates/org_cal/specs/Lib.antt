@@ -6,6 +6,7 @@ pub mod Laws
 pub mod Minutes
 pub mod Named
 pub mod Parts
+pub mod Periods
 pub mod Pieces
 pub mod Texts
 pub mod Weeks

@@ -44,13 +44,14 @@ own OneWeek day = WeekBlock (iso_year day) (iso_week day)
 own OneMonth day = MonthBlock (year_of day) (month_of day)
 own OneYear day = YearBlock (year_of day)
 
--- the word for the one in which today lies, and for the one before
+-- the word for the block in which today lies
 abbrev pub this_word : Length → List ℕ
 this_word OneDay = codes "today"
 this_word OneWeek = codes "thisweek"
 this_word OneMonth = codes "thismonth"
 this_word OneYear = codes "thisyear"
 
+-- the word for the block before
 abbrev pub last_word : Length → List ℕ
 last_word OneDay = codes "yesterday"
 last_word OneWeek = codes "lastweek"

@@ -1,4 +1,5 @@
--- Times of day and days as texts, by cases on the bytes.
+-- Times of day and days as texts, by cases on the bytes (Org manual 9.6, Timestamps).
+-- Characters by their codes: 45 -, 48 0, 58 :.
 use Rattle.std.specs.Prelude.{ℕ, ◌+◌, ◌-◌, ◌*◌, ◌/◌, ◌%◌, ◌++◌, Bool, ◌&&◌, ◌==◌, nat_lt, nat_le, if◌then◌else◌, List, [], ◌∷◌, Option, Some, None, pos, codes}
 use Rattle.std.specs.Option.{option_and_then, option_map}
 use Rattle.std.specs.Char.{is_ascii_digit}
@@ -47,10 +48,11 @@ date_of (a ∷ b ∷ c ∷ d ∷ x ∷ e ∷ f ∷ y ∷ g ∷ h ∷ []) =
     else None
 date_of _ = None
 
--- a number below 100 in two digits, and one below 10,000 in four
+-- a number below 100 in two digits
 abbrev pub two : ℕ → List ℕ
 two n = (48 + n / 10) ∷ (48 + n % 10) ∷ []
 
+-- a number below 10,000 in four digits
 abbrev pub four : ℕ → List ℕ
 four n = two (n / 100) ++ two (n % 100)
 

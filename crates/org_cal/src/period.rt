@@ -16,7 +16,7 @@ pub struct Period {
 }
 
 impl Period {
-    /// The block of time that the text names (Org manual 8.4.2, The clock table): `YYYY`, `YYYY-MM`, `YYYY-Q1` to
+    /// The block of time that the text names (Org manual 9.6, The clock table): `YYYY`, `YYYY-MM`, `YYYY-Q1` to
     /// `YYYY-Q4`, `YYYY-Www` (ISO 8601), `YYYY-MM-DD`, `today`, `yesterday`, `thisweek`, `lastweek`, `thismonth`,
     /// `lastmonth`, `thisyear` or `lastyear`. `Option` where it names none, where there is no such block, or where the
     /// block leaves the years 1 to 9999.

@@ -35,6 +35,7 @@ classes (l ∷ ls) = if begins_heading l then Heading ∷ classes_under_heading 
 abbrev pub section_classes : List ℕ → List Class
 section_classes s = classes (lines s)
 
+-- the class of setting lines
 abbrev pub is_setting_class : Class → Bool
 is_setting_class Setting = true
 is_setting_class _ = false

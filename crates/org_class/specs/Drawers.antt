@@ -7,9 +7,11 @@ use Rattle.org_class.specs.Blocks.{body_classes}
 use Rattle.org_class.specs.declared.class.Class.{Class}
 use Rattle.org_class.specs.declared.class.Class.TheVariants.{DrawerOpen, Node, DrawerEnd}
 
+-- `:PROPERTIES:` alone in its line, in any case
 abbrev pub is_drawer_open : List ℕ → Bool
 is_drawer_open l = same_word (trimmed l) (codes ":PROPERTIES:")
 
+-- `:END:` alone in its line, in any case
 abbrev pub is_drawer_end : List ℕ → Bool
 is_drawer_end l = same_word (trimmed l) (codes ":END:")
 

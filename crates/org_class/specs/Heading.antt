@@ -2,6 +2,7 @@
 use Rattle.std.specs.Prelude.{ℕ, Bool, ◌&&◌, ◌==◌, nat_lt, List, slice_index}
 use Rattle.std.specs.List.{prefix_len}
 
+-- the byte `*`
 abbrev pub is_star : ℕ → Bool
 is_star b = b == 42
 

@@ -19,20 +19,22 @@ pub data AreBelow : List (List ℕ) → List Class → Type 0 where
   WithDrawer : (ls nodes rest : List (List ℕ)) (cs : List Class) → HasDrawer ls nodes rest → AreBlocks rest cs → AreBelow ls (DrawerOpen ∷ (replicate (length nodes) Node ++ DrawerEnd ∷ cs))
   NoDrawer : (ls : List (List ℕ)) (cs : List Class) → HasNoDrawer ls → AreBlocks ls cs → AreBelow ls cs
 
--- no heading line, or no planning line, stands first
+-- no heading line stands first
 abbrev pub NoHeading : List (List ℕ) → Type 0
 NoHeading [] = Unit {0}
 NoHeading (l ∷ ls) = begins_heading l ≡ false
 
+-- no planning line stands first
 abbrev pub NoPlanning : List (List ℕ) → Type 0
 NoPlanning [] = Unit {0}
 NoPlanning (l ∷ ls) = is_planning l ≡ false
 
--- comments and blank lines alone, or none of them first
+-- comments and blank lines alone
 abbrev pub AreLeading : List (List ℕ) → Type 0
 AreLeading [] = Unit {0}
 AreLeading (l ∷ ls) = ((is_comment l ≡ true) ⊎ (is_blank l ≡ true)) × AreLeading ls
 
+-- neither a comment nor a blank line stands first
 abbrev pub NoLeading : List (List ℕ) → Type 0
 NoLeading [] = Unit {0}
 NoLeading (l ∷ ls) = (is_comment l ≡ false) × (is_blank l ≡ false)

@@ -15,7 +15,7 @@ use org_base::{Fault, Span};
 use org_drawer::is_node;
 use org_lines::Lines;
 use org_text::Text;
-use std::alloc::Global;
+use std::alloc::{AllocError, Global};
 use std::marker::Model;
 
 // The lines behind a line of a section, seen as their list.
@@ -60,9 +60,8 @@ impl<'a, T: Text> Ahead<'a, T> {
 
     // Whether the line before them opens a block.
     #[tactic(auto, using(crate::proofs::MarkLemmas::block_has_hash))]
-    pub(crate) fn opens_block(&self, alloc: Global, line: &[u8]) -> Result<bool, Fault>
+    pub(crate) fn opens_block(&self, alloc: Global, line: &[u8]) -> Result<bool, AllocError>
         ensures value { IfOk result (λ opens. opens ≡ opens_block line.now self.now) }
-        ensures memory { IsOkUnless result memory_fault }
     {
         if !has_hash(line) {
             return Ok(false);

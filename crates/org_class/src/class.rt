@@ -1,12 +1,10 @@
 //! What a line of a section is.
-ghost use Rattle.std.specs.Prelude.{◌≡◌, ◌++◌, ◌∷◌, [], length, slice_get, OnOk, IsOkUnless};
+ghost use Rattle.std.specs.Prelude.{◌≡◌, ◌++◌, ◌∷◌, [], length, slice_get, OnOk};
 ghost use Rattle.std.specs.List.{list_any};
-ghost use Rattle.org_base.specs.Codes.{memory_fault};
 ghost use Rattle.org_class.specs.Classes.{is_setting_class};
 
-use org_base::Fault;
 use smallvec::SmallVec;
-use std::alloc::Global;
+use std::alloc::{AllocError, Global};
 use std::marker::Model;
 
 /// The class of a line of a section (Org Syntax, "Headings", "Sections", "Planning", "Property Drawers", "Blocks",
@@ -66,9 +64,8 @@ impl Classes {
     }
 
     // Puts a class at the end.
-    pub(crate) fn push(&mut self, class: Class) -> Result<(), Fault>
+    pub(crate) fn push(&mut self, class: Class) -> Result<(), AllocError>
         ensures ok { OnOk result (self.new ≡ self.old ++ class ∷ []) }
-        ensures memory { IsOkUnless result memory_fault }
     {
         self.classes.push(class)?;
         Ok(())

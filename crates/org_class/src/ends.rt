@@ -15,7 +15,7 @@ use org_base::words::trimmed;
 use org_base::{Fault, Span};
 use org_lines::{Line, Lines};
 use org_text::Text;
-use std::alloc::Global;
+use std::alloc::{AllocError, Global};
 use std::collections::BTreeMap;
 use std::marker::Model;
 
@@ -46,9 +46,8 @@ impl EndPlaces {
     }
 
     // Gives the name this number.
-    fn note(&mut self, alloc: Global, name: &[u8], place: usize) -> Result<(), Fault>
+    fn note(&mut self, alloc: Global, name: &[u8], place: usize) -> Result<(), AllocError>
         ensures ok { OnOk result ((q : List ℕ) → place_of self.new q ≡ if same_word name.now q then place else place_of self.old q) }
-        ensures memory { IsOkUnless result memory_fault }
     {
         let folded = name.to_ascii_lowercase(alloc)?;
         self.by_name.insert(folded, place)?;
@@ -56,9 +55,8 @@ impl EndPlaces {
     }
 
     // Gives the name of the block that the line ends this number, if it ends one.
-    fn note_end(&mut self, alloc: Global, line: Line<'_>, place: usize) -> Result<(), Fault>
+    fn note_end(&mut self, alloc: Global, line: Line<'_>, place: usize) -> Result<(), AllocError>
         ensures ok { OnOk result ((q : List ℕ) → place_of self.new q ≡ if ends_block q (cow_slice_items line.entry.bytes) then place else place_of self.old q) }
-        ensures memory { IsOkUnless result memory_fault }
     {
         let text = trimmed(line.bytes.as_slice());
         if begins_with(text, b"#+END_") && text.len() >= 6 {
@@ -95,9 +93,8 @@ impl EndPlaces {
     }
 
     // The name's number.
-    pub(crate) fn place(&self, alloc: Global, name: &[u8]) -> Result<usize, Fault>
+    pub(crate) fn place(&self, alloc: Global, name: &[u8]) -> Result<usize, AllocError>
         ensures value { IfOk result (λ n. n ≡ place_of self.now name.now) }
-        ensures memory { IsOkUnless result memory_fault }
     {
         let folded = name.to_ascii_lowercase(alloc)?;
         Ok(self.by_name.get(folded.as_slice()).copied().unwrap_or(0))

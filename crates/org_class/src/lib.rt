@@ -19,7 +19,7 @@ mod stage;
 
 pub use class::{Class, Classes};
 pub use heading::{begins_heading, leading_stars};
-pub use org_settings::{Settings, is_priority, priority_number};
+pub use org_settings::Settings;
 pub use read::{push_setting_lines, read_settings};
 pub use section::classify;
 pub use spans::{SectionSpans, sections};

@@ -10,7 +10,7 @@ use crate::heading::begins_heading;
 use org_base::{Fault, Span};
 use org_lines::Lines;
 use org_text::Text;
-use std::alloc::Global;
+use std::alloc::{AllocError, Global};
 use std::marker::Model;
 
 /// Parts of a text in order, seen as their list.
@@ -38,13 +38,12 @@ impl SectionSpans {
         }
     }
 
-    // Passes one more line behind a part. A heading line ends it, if it isn't empty, and begins another.
-    // The part that the line belongs to.
-    fn pass(&mut self, part: Span, line: &[u8]) -> Result<Span, Fault>
+    // Passes one more line behind a part, and answers the part that the line belongs to: a heading line ends the part, if
+    // that isn't empty, and begins another.
+    fn pass(&mut self, part: Span, line: &[u8]) -> Result<Span, AllocError>
         requires fits { part.at + part.len + length line.now < 2 ^ 32 }
         ensures ok { OnOk result (self.new ≡ self.old ++ ended part line.now) }
         ensures next { IfOk result (λ next. next ≡ opened part line.now) }
-        ensures memory { IsOkUnless result memory_fault }
     {
         let len = line.len() as u32;
         if part.len == 0 || !begins_heading(line) {
@@ -61,9 +60,8 @@ impl SectionSpans {
     }
 
     // Ends a part, if it isn't empty.
-    fn end(&mut self, part: Span) -> Result<(), Fault>
+    fn end(&mut self, part: Span) -> Result<(), AllocError>
         ensures ok { OnOk result (self.new ≡ self.old ++ whole part) }
-        ensures memory { IsOkUnless result memory_fault }
     {
         if part.len > 0 {
             self.spans.push(part)?;

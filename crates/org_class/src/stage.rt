@@ -16,7 +16,7 @@ use org_base::words::is_blank;
 use org_base::{Bytes, Fault};
 use org_stamp::is_planning;
 use org_text::Text;
-use std::alloc::Global;
+use std::alloc::{AllocError, Global};
 
 // What may come next in a section.
 #[derive(Drop)]
@@ -55,7 +55,7 @@ impl Stage {
             Stage::UnderHeading => self.under_heading(alloc, line, ahead),
             Stage::Below => self.below(alloc, line, ahead),
             Stage::Drawer => Ok(self.drawer(line)),
-            Stage::Body => self.body(alloc, line, ahead),
+            Stage::Body => Ok(self.body(alloc, line, ahead)?),
             Stage::Block(name) => {
                 if ends_block(name.as_slice(), line) {
                     *self = Stage::Body;
@@ -131,7 +131,7 @@ impl Stage {
             *self = Stage::Drawer;
             Ok(Class::DrawerOpen)
         } else {
-            self.body(alloc, line, ahead)
+            Ok(self.body(alloc, line, ahead)?)
         }
     }
 
@@ -152,9 +152,8 @@ impl Stage {
         alloc: Global,
         line: &[u8],
         ahead: &Ahead<'_, T>,
-    ) -> Result<Class, Fault>
+    ) -> Result<Class, AllocError>
         ensures value { IfOk result (λ class. body_classes None (line.now ∷ ahead.now) ≡ class ∷ classes_at self.new ahead.now) }
-        ensures memory { IsOkUnless result memory_fault }
     {
         if ahead.opens_block(alloc, line)? {
             let name = Vec::from_slice(alloc, block_name(line))?;

@@ -3,6 +3,7 @@ ghost use Rattle.std.specs.Prelude.{◌≡◌, ◌<◌, ◌^◌, ◌++◌, lengt
 ghost use Rattle.std.specs.List.{All, range_with_len};
 ghost use Rattle.std.specs.Option.{option_map};
 ghost use Rattle.org_base.specs.Codes.{memory_fault};
+ghost use Rattle.org_cal.specs.Periods.{days_of};
 ghost use Rattle.org_clocktable.specs.Clocked.{AreOf};
 ghost use Rattle.org_clocktable.specs.Counted.{clocks_at, clocks_from, counted_of, file_sum, heading_sum, matching_of, whole_of, placed, IsCounted};
 ghost use Rattle.org_clocktable.specs.Marks.{before};
@@ -17,7 +18,7 @@ use org_cal::{Moment, Period};
 use org_drawer::ClockLine;
 use org_entry::Entry;
 use org_inherit::{Inherit, Inherits};
-use org_match::{Match, Testing};
+use org_match::{Match, Matcher};
 use org_outline::Outline;
 use org_sum::{Measure, effort_sums, whole_sum};
 use std::alloc::{AllocError, Global};
@@ -76,7 +77,7 @@ impl<'a> CountedFile<'a> {
 
     // What its clocks have in a period.
     pub(crate) fn marks(&self, alloc: Global, period: &Period) -> Result<Marks, AllocError>
-        ensures days { IfOk result (λ marks. marks.days ≡ (period.now.first, period.now.last)) }
+        ensures days { IfOk result (λ marks. marks.days ≡ days_of period.now) }
         ensures sums { IfOk result (λ marks. AreOf marks self.now) }
         ensures below { IfOk result (λ marks. before marks (length self.now.entries) < 2 ^ 55) }
     {
@@ -200,23 +201,23 @@ fn matching_files<'a>(
     ensures value { IfOk result (λ files. files.items ≡ map (matching_of expression.now moment.now) inherits.now) }
     ensures memory { IsOkUnless result memory_fault }
 {
-    let mut testing = Testing::new(alloc, expression)?;
-    tested_files(alloc, inherits, &mut testing, moment)
+    let mut matcher = Matcher::new(alloc, expression)?;
+    tested_files(alloc, inherits, &mut matcher, moment)
 }
 
 fn tested_files<'a>(
     alloc: Global,
     inherits: &'a Inherits<'_>,
-    testing: &mut Testing<'_>,
+    matcher: &mut Matcher<'_>,
     moment: &Moment,
 ) -> Result<Vec<CountedFile<'a>>, Fault>
     requires texts { All (λ (scope : Scope). AreOfText scope.entries) inherits.now }
-    ensures value { IfOk result (λ files. files.items ≡ map (matching_of testing.old moment.now) inherits.now) }
+    ensures value { IfOk result (λ files. files.items ≡ map (matching_of matcher.old moment.now) inherits.now) }
     ensures memory { IsOkUnless result memory_fault }
 {
     let mut files = Vec::new(alloc);
     for place in 0..inherits.count() {
-        let file = matching_file(alloc, inherits.get(place), testing, moment)?;
+        let file = matching_file(alloc, inherits.get(place), matcher, moment)?;
         files.push(file)?;
     }
     Ok(files)
@@ -225,14 +226,14 @@ fn tested_files<'a>(
 fn matching_file<'a>(
     alloc: Global,
     inherit: &'a Inherit<'_>,
-    testing: &mut Testing<'_>,
+    matcher: &mut Matcher<'_>,
     moment: &Moment,
 ) -> Result<CountedFile<'a>, Fault>
     requires text { AreOfText inherit.now.entries }
-    ensures value { IfOk result (λ file. file ≡ matching_of testing.old moment.now inherit.now) }
-    ensures same { testing.new ≡ testing.old }
+    ensures value { IfOk result (λ file. file ≡ matching_of matcher.old moment.now inherit.now) }
+    ensures same { matcher.new ≡ matcher.old }
     ensures memory { IsOkUnless result memory_fault }
 {
-    let counted = holds_of(alloc, testing, moment, inherit)?;
+    let counted = holds_of(alloc, matcher, moment, inherit)?;
     CountedFile::new(alloc, inherit.outline(), counted)
 }

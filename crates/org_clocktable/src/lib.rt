@@ -1,11 +1,11 @@
 //! Clock tables: their options and their rows.
 #![tactic(auto)]
 
-mod asked;
 mod counted;
 pub mod laws;
 mod marks;
 mod options;
+mod request;
 mod row;
 mod rows;
 mod spec;

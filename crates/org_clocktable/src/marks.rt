@@ -1,5 +1,6 @@
 //! Sums of clocks from place to place.
 ghost use Rattle.std.specs.Prelude.{◌≡◌, ◌<◌, ◌^◌, IfOk};
+ghost use Rattle.org_cal.specs.Periods.{days_of};
 ghost use Rattle.org_clocktable.specs.Marks.{AreBefore, AreInOrder, AreMarksInOrder, AreMinutes, IsLastRise, before, minutes_of};
 
 use org_cal::Period;
@@ -48,8 +49,8 @@ impl Marks {
         period: &Period,
     ) -> Result<Marks, AllocError>
         requires order { AreInOrder 0 clocks.now }
-        requires small { minutes_of (period.now.first, period.now.last) clocks.now < 2 ^ 63 }
-        ensures { IfOk result (AreMinutes (period.now.first, period.now.last) clocks.now) }
+        requires small { minutes_of (days_of period.now) clocks.now < 2 ^ 63 }
+        ensures { IfOk result (AreMinutes (days_of period.now) clocks.now) }
     {
         let mut marks = Vec::new(alloc);
         let mut total = 0;

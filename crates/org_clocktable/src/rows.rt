@@ -1,6 +1,7 @@
 //! The rows of a clock table.
 ghost use Rattle.std.specs.Prelude.{◌≡◌, ◌<◌, ◌≤◌, ◌^◌, ◌++◌, length, reverse, IfOk, OnOk, IsOkUnless};
 ghost use Rattle.org_base.specs.Codes.{memory_fault};
+ghost use Rattle.org_cal.specs.Periods.{days_of};
 ghost use Rattle.org_clocktable.specs.Clocked.{AreOf, IsHeadingOrEnd, IsLastClocked};
 ghost use Rattle.org_clocktable.specs.Counted.{file_sum, total};
 ghost use Rattle.org_clocktable.specs.Marks.{IsLater};
@@ -26,7 +27,7 @@ pub fn step_rows(
     files: &[CountedFile<'_>],
 ) -> Result<Vec<TableRow>, Fault>
     requires few { length files.now ≤ 256 }
-    ensures value { IfOk result (λ rows. rows.items ≡ step_rows (period.now.first, period.now.last) most files.now) }
+    ensures value { IfOk result (λ rows. rows.items ≡ step_rows (days_of period.now) most files.now) }
     ensures memory { IsOkUnless result memory_fault }
 {
     let rows = rows_of(alloc, period, most, files)?;
@@ -42,7 +43,7 @@ fn rows_of(
     files: &[CountedFile<'_>],
 ) -> Result<Vec<TableRow>, AllocError>
     requires few { length files.now ≤ 256 }
-    ensures { IfOk result (λ rows. rows.items ≡ step_rows (period.now.first, period.now.last) most files.now) }
+    ensures { IfOk result (λ rows. rows.items ≡ step_rows (days_of period.now) most files.now) }
 {
     let effort = total_effort(files);
     let mut rows = Vec::new(alloc);
@@ -80,8 +81,8 @@ fn push_files(
     files: &[CountedFile<'_>],
 ) -> Result<u64, AllocError>
     requires few { length files.now ≤ 256 }
-    ensures sum { IfOk result (λ sum. sum ≡ total (clock_minutes (period.now.first, period.now.last)) files.now) }
-    ensures rows { OnOk result (rows.new.items ≡ rows.old.items ++ files_rows (period.now.first, period.now.last) most 0 files.now) }
+    ensures sum { IfOk result (λ sum. sum ≡ total (clock_minutes (days_of period.now)) files.now) }
+    ensures rows { OnOk result (rows.new.items ≡ rows.old.items ++ files_rows (days_of period.now) most 0 files.now) }
 {
     let mut sum = 0;
     for (place, file) in files.iter().enumerate() {
@@ -100,9 +101,9 @@ fn push_file(
     place: usize,
     file: &CountedFile<'_>,
 ) -> Result<u64, AllocError>
-    ensures sum { IfOk result (λ sum. sum ≡ file_sum (clock_minutes (period.now.first, period.now.last)) file.now) }
+    ensures sum { IfOk result (λ sum. sum ≡ file_sum (clock_minutes (days_of period.now)) file.now) }
     ensures below { IfOk result (λ sum. sum < 2 ^ 55) }
-    ensures rows { OnOk result (rows.new.items ≡ rows.old.items ++ file_rows (period.now.first, period.now.last) most place file.now) }
+    ensures rows { OnOk result (rows.new.items ≡ rows.old.items ++ file_rows (days_of period.now) most place file.now) }
 {
     let marks = file.marks(alloc, period)?;
     let clock = marks.before(file.outline().count());

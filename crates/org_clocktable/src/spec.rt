@@ -1,9 +1,10 @@
 //! What a clock table is asked for.
 ghost use Rattle.std.specs.Prelude.{◌≡◌, ◌<◌, ◌^◌, length, IfErr, IfOk};
 ghost use Rattle.std.specs.Option.{option_map};
-ghost use Rattle.org_clocktable.specs.Asked.{with_read, AsksFor, IfShort, IsRead, IsTableRefusal, IsUnread};
+ghost use Rattle.org_cal.specs.Periods.{days_of};
+ghost use Rattle.org_clocktable.specs.Request.{with_read, AsksFor, IfShort, IsRead, IsTableRefusal, IsUnread};
 
-use crate::asked::Asked;
+use crate::request::TableRequest;
 use org_base::{Code, Fault};
 use org_cal::{Day, Period, Step};
 use org_match::Match;
@@ -24,10 +25,10 @@ pub struct TableSpec<'a> {
 
 impl<'a> Model for TableSpec<'a> {
     ghost use Rattle.std.specs.Option.{option_map};
-    ghost use Rattle.org_clocktable.specs.Asked.{Asked as AskedView};
+    ghost use Rattle.org_clocktable.specs.Request.{TableRequest as RequestView};
     ghost use Rattle.org_expression.specs.Grammar.{Expr};
 
-    ghost Value = { AskedView Expr };
+    ghost Value = { RequestView Expr };
 
     ghost view = { λ t. record { days = (t.period.first, t.period.last); most = t.most; file = option_map (λ file. file.now) t.file; step = t.step; with_effort = t.with_effort; expression = t.expression } };
 }
@@ -42,14 +43,14 @@ impl<'a> TableSpec<'a> {
         ensures value { IfOk result (AsksFor text.now today) }
         ensures refused { IfErr result (IsTableRefusal text.now today) }
     {
-        let Some(asked) = Asked::read(text.as_bytes(), today) else {
+        let Some(asked) = TableRequest::read(text.as_bytes(), today) else {
             return Err(Fault::Plain(Code::Option));
         };
         TableSpec::of(alloc, asked)
     }
 
     // What is asked for, with its expression read.
-    fn of(alloc: Global, asked: Asked<'a>) -> Result<TableSpec<'a>, Fault>
+    fn of(alloc: Global, asked: TableRequest<'a>) -> Result<TableSpec<'a>, Fault>
         requires short { IfShort asked.expression }
         ensures value { IfOk result (λ spec. IsRead asked.entry.expression spec.expression × (spec ≡ with_read asked.entry spec.expression)) }
         ensures refused { IfErr result (IsUnread asked.entry.expression) }
@@ -67,7 +68,7 @@ impl<'a> TableSpec<'a> {
 
     /// The days that are asked for.
     pub fn period(&self) -> Period
-        ensures value { (result.first, result.last) ≡ self.now.days }
+        ensures value { days_of result ≡ self.now.days }
     {
         self.period
     }

@@ -3,8 +3,8 @@ use Rattle.std.proofs.Common.{◌≡◌, ℕ, ◌+◌, ◌≤◌, Bool, true, fa
 use Rattle.std.specs.Option.{option_or}
 use Rattle.org_base.specs.declared.span.Span.{Span}
 use Rattle.org_stamp.specs.declared.pair.Pair.{Pair}
-use Rattle.org_stamp.specs.declared.pair.PlanningWord.{PlanningWord}
-use Rattle.org_stamp.specs.declared.pair.PlanningWord.TheVariants.{Scheduled, Deadline, Closed}
+use Rattle.org_stamp.specs.declared.pair.PlanningKeyword.{PlanningKeyword}
+use Rattle.org_stamp.specs.declared.pair.PlanningKeyword.TheVariants.{Scheduled, Deadline, Closed}
 use Rattle.org_stamp.specs.declared.stamp.Stamp.{Stamp}
 use Rattle.org_drawer.specs.declared.planning.Planning.{Planning}
 use Rattle.org_drawer.specs.Planning.{is_same, stamp_if, last_of, planned, with_pair, IsInside, AreInside}
@@ -44,7 +44,7 @@ inside_if : (line : List ℕ) (same : Bool) (s : Stamp × Span) (o : Option (Sta
 inside_if line true s o e h = e
 inside_if line false s o e h = h
 
-inside : (line : List ℕ) (word : PlanningWord) (p : Pair) (o : Option (Stamp × Span)) → p.at + p.len ≤ length line → IsInside line o → IsInside line (option_or (stamp_if word p) o)
+inside : (line : List ℕ) (word : PlanningKeyword) (p : Pair) (o : Option (Stamp × Span)) → p.at + p.len ≤ length line → IsInside line o → IsInside line (option_or (stamp_if word p) o)
 inside line word p o e h = inside_if line (is_same word p.word) (p.stamp, record { at = p.at; len = p.len }) o e h
 
 -- the stamps of planning with one more pair lie within the line

@@ -6,8 +6,8 @@ use Rattle.std.specs.Option.{option_or}
 use Rattle.org_base.specs.declared.span.Span.{Span}
 use Rattle.org_cal.proofs.TextLemmas.{chosen}
 use Rattle.org_stamp.specs.declared.pair.Pair.{Pair}
-use Rattle.org_stamp.specs.declared.pair.PlanningWord.{PlanningWord}
-use Rattle.org_stamp.specs.declared.pair.PlanningWord.TheVariants.{Scheduled, Deadline, Closed}
+use Rattle.org_stamp.specs.declared.pair.PlanningKeyword.{PlanningKeyword}
+use Rattle.org_stamp.specs.declared.pair.PlanningKeyword.TheVariants.{Scheduled, Deadline, Closed}
 use Rattle.org_stamp.specs.declared.stamp.Stamp.{Stamp}
 use Rattle.org_stamp.specs.Pair.{is_planning, pairs}
 use Rattle.org_stamp.specs.Stamp.{IsSingle}
@@ -20,14 +20,14 @@ either_there : (line : List ℕ) (a b : Option (Stamp × Span)) → IsThere line
 either_there line None b first second = second
 either_there line (Some x) b first second = first
 
-one_there : (line : List ℕ) (word : PlanningWord) (p : Pair) → IsSingle (take p.len (drop p.at line)) p.stamp → IsThere line (stamp_if word p)
+one_there : (line : List ℕ) (word : PlanningKeyword) (p : Pair) → IsSingle (take p.len (drop p.at line)) p.stamp → IsThere line (stamp_if word p)
 one_there line word p is = by (is_same word p.word)
   where
     by : (t : Bool) → IsThere line (if t then Some (p.stamp, record { at = p.at; len = p.len }) else None)
     by true = is
     by false = tt
 
-last_there : (line : List ℕ) (word : PlanningWord) (ps : List Pair) → AllByRecursion (λ (p : Pair). IsSingle (take p.len (drop p.at line)) p.stamp) ps → IsThere line (last_of word ps)
+last_there : (line : List ℕ) (word : PlanningKeyword) (ps : List Pair) → AllByRecursion (λ (p : Pair). IsSingle (take p.len (drop p.at line)) p.stamp) ps → IsThere line (last_of word ps)
 last_there line word [] all = tt
 last_there line word (p ∷ ps) all = either_there line (last_of word ps) (stamp_if word p) (last_there line word ps all.1) (one_there line word p all.0)
 

@@ -5,24 +5,24 @@ use Rattle.std.specs.Option.{option_or}
 use Rattle.org_base.specs.declared.span.Span.{Span}
 use Rattle.org_stamp.specs.Pair.{pairs, is_planning}
 use Rattle.org_stamp.specs.declared.pair.Pair.{Pair}
-use Rattle.org_stamp.specs.declared.pair.PlanningWord.{PlanningWord}
-use Rattle.org_stamp.specs.declared.pair.PlanningWord.TheVariants.{Scheduled, Deadline, Closed}
+use Rattle.org_stamp.specs.declared.pair.PlanningKeyword.{PlanningKeyword}
+use Rattle.org_stamp.specs.declared.pair.PlanningKeyword.TheVariants.{Scheduled, Deadline, Closed}
 use Rattle.org_stamp.specs.declared.stamp.Stamp.{Stamp}
 use Rattle.org_drawer.specs.declared.planning.Planning.{Planning}
 
 -- the keywords are equal
-abbrev pub is_same : PlanningWord → PlanningWord → Bool
+abbrev pub is_same : PlanningKeyword → PlanningKeyword → Bool
 is_same Scheduled Scheduled = true
 is_same Deadline Deadline = true
 is_same Closed Closed = true
 is_same _ _ = false
 
 -- a pair's stamp and its part of the line, where it has the keyword
-abbrev pub stamp_if : PlanningWord → Pair → Option (Stamp × Span)
+abbrev pub stamp_if : PlanningKeyword → Pair → Option (Stamp × Span)
 stamp_if word p = if is_same word p.word then Some (p.stamp, record { at = p.at; len = p.len }) else None
 
 -- the stamp of the last pair with the keyword
-abbrev pub last_of : PlanningWord → List Pair → Option (Stamp × Span)
+abbrev pub last_of : PlanningKeyword → List Pair → Option (Stamp × Span)
 last_of word [] = None
 last_of word (p ∷ ps) = option_or (last_of word ps) (stamp_if word p)
 

@@ -1,6 +1,7 @@
 //! Clock lines.
 ghost use Rattle.std.specs.Prelude.{◌≡◌, ◌<◌, ◌≤◌};
 ghost use Rattle.std.specs.Option.{option_map};
+ghost use Rattle.org_cal.specs.Periods.{days_of};
 ghost use Rattle.org_drawer.specs.Clock as spec;
 
 use org_cal::{Minute, Period};
@@ -29,7 +30,7 @@ impl ClockLine {
     /// The minutes that the clock and the period have in common, the period being from its first day 00:00 to the end of
     /// its last day. A clock that runs, or ends before it starts, has none. They are fewer than those of all years.
     pub fn minutes_in(&self, period: Period) -> u64
-        ensures value { result ≡ spec.minutes_in self.now (period.first, period.last) }
+        ensures value { result ≡ spec.minutes_in self.now (days_of period) }
         ensures below { result < 5_258_964_960 }
     {
         let first = (period.first.number() as u64 - 1) * 1440;

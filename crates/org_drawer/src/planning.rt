@@ -3,7 +3,7 @@ ghost use Rattle.std.specs.Prelude.{◌≡◌, ◌+◌, ◌<◌, ◌≤◌, ◌^
 ghost use Rattle.org_drawer.specs.Planning as spec;
 
 use org_base::Span;
-use org_stamp::{Pair, PlanningWord, Stamp, next_pair};
+use org_stamp::{Pair, PlanningKeyword, Stamp, next_pair};
 
 /// What the planning line of a heading says (Org Syntax, "Planning"): for each keyword its last stamp, with the stamp's
 /// part of the line in bytes. A range counts as its first stamp.
@@ -47,15 +47,15 @@ fn with_pair(planning: Planning, pair: Pair) -> Planning
     };
     let found = Some((pair.stamp, part));
     match pair.word {
-        PlanningWord::Scheduled => Planning {
+        PlanningKeyword::Scheduled => Planning {
             scheduled: found,
             ..planning
         },
-        PlanningWord::Deadline => Planning {
+        PlanningKeyword::Deadline => Planning {
             deadline: found,
             ..planning
         },
-        PlanningWord::Closed => Planning {
+        PlanningKeyword::Closed => Planning {
             closed: found,
             ..planning
         },

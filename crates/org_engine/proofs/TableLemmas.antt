@@ -8,8 +8,8 @@ use Rattle.org_base.specs.Codes.{memory_fault}
 use Rattle.org_base.specs.declared.code.Code.TheVariants as code
 use Rattle.org_base.specs.declared.fault.Fault.{Fault}
 use Rattle.org_base.specs.declared.fault.Fault.TheVariants.{Plain}
-use Rattle.org_clocktable.specs.Asked.{Asked, AsksFor, IsTableRefusal, asked_of}
-use Rattle.org_clocktable.specs.Asked as table
+use Rattle.org_clocktable.specs.Request.{TableRequest, AsksFor, IsTableRefusal, asked_of}
+use Rattle.org_clocktable.specs.Request as table
 use Rattle.org_expression.specs.Grammar.{Expr}
 use Rattle.org_file.specs.Outline.{file_settings, scope_of}
 use Rattle.org_inherit.specs.Scope.{Scope}
@@ -136,7 +136,7 @@ unread_table text world fault (inl none) other = inl (inl none)
 unread_table text world fault (inr (asked, spelled, why)) other = inl (inr (asked, spelled, unread_if asked.expression fault why other))
 
 -- the view of a table
-pub table_shown : (table : Asked Expr) (world : WorldView) (text : List ℕ) → is_missing table.file world.files ≡ false → text ≡ table_view table world → view_of (ClockTable table) world ≡ Shown text
+pub table_shown : (table : TableRequest Expr) (world : WorldView) (text : List ℕ) → is_missing table.file world.files ≡ false → text ≡ table_view table world → view_of (ClockTable table) world ≡ Shown text
 table_shown table world text there is =
     ap (λ b. cond b (Refused (Plain code.Unknown)) (Shown (table_view table world))) there ∙ ap Shown (sym is)
 

@@ -58,14 +58,17 @@ file_given (EditFile session name old at del ins) (Serial serial) after = option
 file_given (Complete session name old line keyword) (Serial serial) after = option_to_list (file_named name after.world.files)
 file_given c reply after = []
 
+-- the files that commands leave with the serials that they give, in order
 abbrev pub files_given : List Command → State → List FileView
 files_given [] s = []
 files_given (c ∷ cs) s = file_given c (step c s).reply (step c s).after ++ files_given cs (step c s).after
 
+-- the file is among others
 abbrev pub IsIn : FileView → List FileView → Type 0
 IsIn file [] = ⊥
 IsIn file (f ∷ fs) = (f ≡ file) ⊎ IsIn file fs
 
+-- each file is among others
 abbrev pub AllIn : List FileView → List FileView → Type 0
 AllIn [] gs = Unit {0}
 AllIn (f ∷ fs) gs = IsIn f gs × AllIn fs gs
@@ -91,5 +94,6 @@ pub record WorksOnGiven (before : List Command) (start : State) : Type 0 where
       WorksOn name serial (λ text. completed text line keyword (after_all before start).world.moment) (Complete session name serial line keyword) before start
   pub one : (file other : FileView) → IsIn file (files_given before start) → IsIn other (files_given before start) → file.serial ≡ other.serial → file ≡ other
 
+-- the same, whatever was done before, in an engine that began without files
 abbrev pub WorksOnTextSeen : Type 0
 WorksOnTextSeen = (before : List Command) (start : State) → start.world.files ≡ [] → WorksOnGiven before start

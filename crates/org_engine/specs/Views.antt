@@ -8,7 +8,7 @@ use Rattle.org_layout.specs.Days.{agenda_lines}
 use Rattle.std.specs.List.{concat}
 use Rattle.org_cal.specs.Pieces.{pieces}
 use Rattle.org_cal.specs.declared.moment.Moment.{Moment}
-use Rattle.org_clocktable.specs.Asked.{Asked}
+use Rattle.org_clocktable.specs.Request.{TableRequest}
 use Rattle.org_clocktable.specs.Counted.{Counted, counted_of}
 use Rattle.org_clocktable.specs.Table.{step_rows}
 use Rattle.org_expression.specs.Grammar.{Expr}
@@ -43,17 +43,21 @@ abbrev pub scopes_named : Option (List ℕ) → List Scope → List Scope
 scopes_named file scopes = filter (λ (scope : Scope). is_wanted file scope.file) scopes
 
 -- the text of a step: its line, and those of its rows
-unfoldable pub step_text : Asked Expr → List Scope → List Counted → ℕ × ℕ → List ℕ
+unfoldable pub step_text : TableRequest Expr → List Scope → List Counted → ℕ × ℕ → List ℕ
 step_text table scopes files days = step_lines table.with_effort scopes days (step_rows days table.most files)
 
 -- the text of steps
-abbrev pub steps_text : Asked Expr → List Scope → List Counted → List (ℕ × ℕ) → List ℕ
+abbrev pub steps_text : TableRequest Expr → List Scope → List Counted → List (ℕ × ℕ) → List ℕ
 steps_text table scopes files steps = concat (map (step_text table scopes files) steps)
 
+-- the first and the last day of each of a table's steps
+abbrev pub steps_in : TableRequest Expr → List (ℕ × ℕ)
+steps_in table = pieces table.step table.days.1 table.days.0
+
 -- the text of a table over files at a moment
-abbrev pub table_over : Asked Expr → Moment → List Scope → List ℕ
-table_over table moment scopes = steps_text table scopes (map (counted_of table.expression moment) scopes) (pieces table.step table.days.1 table.days.0)
+abbrev pub table_over : TableRequest Expr → Moment → List Scope → List ℕ
+table_over table moment scopes = steps_text table scopes (map (counted_of table.expression moment) scopes) (steps_in table)
 
 -- the text of a clock table: its steps in order
-unfoldable pub table_view : Asked Expr → WorldView → List ℕ
+unfoldable pub table_view : TableRequest Expr → WorldView → List ℕ
 table_view table world = table_over table world.moment (scopes_named table.file (scopes_of world))

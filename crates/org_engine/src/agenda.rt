@@ -1,12 +1,11 @@
 //! Agendas over the files of a world.
-ghost use Rattle.std.specs.Prelude.{◌≡◌, ◌≢◌, ◌+◌, ◌≤◌, ℕ, string_bytes, IfErr, IfOk, OnOk, OnErr, IsOkUnless};
+ghost use Rattle.std.specs.Prelude.{◌≡◌, ◌≢◌, ◌+◌, ◌≤◌, string_bytes, IfErr, IfOk, OnOk, OnErr, IsOkUnless};
 ghost use Rattle.org_base.specs.Codes.{memory_fault};
 ghost use Rattle.org_agenda.specs.Headings.{AllHaveHeads};
-ghost use Rattle.org_file.specs.Counts.{AtMost, worked};
 ghost use Rattle.org_layout.specs.Days.{agenda_lines};
 ghost use Rattle.org_engine.specs.Outlines.{outlines_of};
-ghost use Rattle.org_engine.specs.Questions.{asked_agenda};
-ghost use Rattle.org_engine.specs.Sections.{section_count};
+ghost use Rattle.org_engine.specs.Questions.{IsAgendaText, asked_agenda};
+ghost use Rattle.org_engine.specs.Sections.{ReadsEach, ReadsSome};
 ghost use Rattle.org_engine.specs.Step.{DayAgenda, Unread};
 ghost use Rattle.org_engine.specs.Views.{agenda_view, days_over};
 
@@ -34,11 +33,10 @@ pub(crate) fn dated_text<T: Text>(
     date: &str,
     days: u64,
 ) -> Result<String, Fault>
-    ensures value { IfOk result (λ text. (first : ℕ) × (count : ℕ) × (asked_agenda date.now days ≡ DayAgenda first count)
-        × (string_bytes text ≡ agenda_view first count world.now)) }
+    ensures value { IfOk result (λ text. IsAgendaText date.now days world.now (string_bytes text)) }
     ensures refused { IfErr result (λ fault. fault ≢ memory_fault → asked_agenda date.now days ≡ Unread fault) }
-    ensures counts { OnOk result (meter.new ≡ worked (section_count world.now.files) (section_count world.now.files) meter.old) }
-    ensures few { OnErr result (AtMost (section_count world.now.files) meter.old meter.new) }
+    ensures counts { OnOk result (ReadsEach world.now.files meter.old meter.new) }
+    ensures few { OnErr result (ReadsSome world.now.files meter.old meter.new) }
 {
     let (first, count) = read_days(date, days)?;
     days_text(alloc, meter, world, first, count)
@@ -72,8 +70,8 @@ fn days_text<T: Text>(
 ) -> Result<String, Fault>
     requires within { (1 ≤ count) × (first + count ≤ 3_652_060) }
     ensures value { IfOk result (λ text. string_bytes text ≡ agenda_view first count world.now) }
-    ensures counts { OnOk result (meter.new ≡ worked (section_count world.now.files) (section_count world.now.files) meter.old) }
-    ensures few { OnErr result (AtMost (section_count world.now.files) meter.old meter.new) }
+    ensures counts { OnOk result (ReadsEach world.now.files meter.old meter.new) }
+    ensures few { OnErr result (ReadsSome world.now.files meter.old meter.new) }
     ensures memory { IsOkUnless result memory_fault }
 {
     let outlines = read_world(alloc, meter, world)?;

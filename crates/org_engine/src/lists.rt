@@ -1,14 +1,11 @@
 //! Lists over the files of a world.
-ghost use Rattle.std.specs.Prelude.{◌≡◌, ◌≢◌, ◌<◌, ◌^◌, chars, length, string_bytes, IfErr, IfOk, OnOk, OnErr, IsOkUnless};
+ghost use Rattle.std.specs.Prelude.{◌≡◌, ◌≢◌, ◌<◌, ◌^◌, length, string_bytes, IfErr, IfOk, OnOk, OnErr, IsOkUnless};
 ghost use Rattle.org_base.specs.Codes.{memory_fault};
-ghost use Rattle.org_agenda.specs.Headings.{AllHaveHeads};
 ghost use Rattle.org_agenda.specs.Lists.{todo_listing, Matching};
-ghost use Rattle.org_expression.specs.Grammar.{Expr, Reads};
-ghost use Rattle.org_file.specs.Counts.{AtMost, worked};
 ghost use Rattle.org_layout.specs.Lines.{list_lines};
 ghost use Rattle.org_engine.specs.Outlines.{outlines_of};
-ghost use Rattle.org_engine.specs.Questions.{IsUnread};
-ghost use Rattle.org_engine.specs.Sections.{section_count};
+ghost use Rattle.org_engine.specs.Questions.{IsMatchText, IsUnread};
+ghost use Rattle.org_engine.specs.Sections.{ReadsEach, ReadsSome};
 ghost use Rattle.org_engine.specs.Views.{list_view};
 
 use crate::outlines::{inherits_of, read_world};
@@ -32,8 +29,8 @@ pub(crate) fn todo_text<T: Text>(
     words: &Texts,
 ) -> Result<String, Fault>
     ensures value { IfOk result (λ text. string_bytes text ≡ list_view (todo_listing words.now) world.now) }
-    ensures counts { OnOk result (meter.new ≡ worked (section_count world.now.files) (section_count world.now.files) meter.old) }
-    ensures few { OnErr result (AtMost (section_count world.now.files) meter.old meter.new) }
+    ensures counts { OnOk result (ReadsEach world.now.files meter.old meter.new) }
+    ensures few { OnErr result (ReadsSome world.now.files meter.old meter.new) }
     ensures memory { IsOkUnless result memory_fault }
 {
     let outlines = read_world(alloc, meter, world)?;
@@ -65,10 +62,10 @@ pub(crate) fn match_text<T: Text>(
     text: &str,
 ) -> Result<String, Fault>
     requires short { length text.now < 2 ^ 32 }
-    ensures value { IfOk result (λ list. (expr : Expr) × Reads (chars text.now) expr × (string_bytes list ≡ list_view (Matching expr world.now.moment) world.now)) }
+    ensures value { IfOk result (λ list. IsMatchText text.now world.now (string_bytes list)) }
     ensures refused { IfErr result (λ fault. fault ≢ memory_fault → IsUnread text.now fault) }
-    ensures counts { OnOk result (meter.new ≡ worked (section_count world.now.files) (section_count world.now.files) meter.old) }
-    ensures few { OnErr result (AtMost (section_count world.now.files) meter.old meter.new) }
+    ensures counts { OnOk result (ReadsEach world.now.files meter.old meter.new) }
+    ensures few { OnErr result (ReadsSome world.now.files meter.old meter.new) }
 {
     let expression = Match::read(alloc, text)?;
     matching_text(alloc, meter, world, &expression)
@@ -81,8 +78,8 @@ fn matching_text<T: Text>(
     expression: &Match,
 ) -> Result<String, Fault>
     ensures value { IfOk result (λ text. string_bytes text ≡ list_view (Matching expression.now world.now.moment) world.now) }
-    ensures counts { OnOk result (meter.new ≡ worked (section_count world.now.files) (section_count world.now.files) meter.old) }
-    ensures few { OnErr result (AtMost (section_count world.now.files) meter.old meter.new) }
+    ensures counts { OnOk result (ReadsEach world.now.files meter.old meter.new) }
+    ensures few { OnErr result (ReadsSome world.now.files meter.old meter.new) }
     ensures memory { IsOkUnless result memory_fault }
 {
     let outlines = read_world(alloc, meter, world)?;

@@ -1,9 +1,8 @@
 //! What the files of a world say.
 ghost use Rattle.std.specs.Prelude.{◌≡◌, IfOk, OnOk, OnErr, IsOkUnless};
 ghost use Rattle.org_base.specs.Codes.{memory_fault};
-ghost use Rattle.org_file.specs.Counts.{AtMost, worked};
 ghost use Rattle.org_engine.specs.Outlines.{outlines_of, scopes_of};
-ghost use Rattle.org_engine.specs.Sections.{section_count};
+ghost use Rattle.org_engine.specs.Sections.{ReadsEach, ReadsSome};
 
 use crate::world::World;
 use org_base::{Fault, Meter};
@@ -20,8 +19,8 @@ pub(crate) fn read_world<T: Text>(
     world: &World<T>,
 ) -> Result<Vec<FileOutline>, Fault>
     ensures value { IfOk result (λ read. read.items ≡ outlines_of world.now) }
-    ensures counts { OnOk result (meter.new ≡ worked (section_count world.now.files) (section_count world.now.files) meter.old) }
-    ensures few { OnErr result (AtMost (section_count world.now.files) meter.old meter.new) }
+    ensures counts { OnOk result (ReadsEach world.now.files meter.old meter.new) }
+    ensures few { OnErr result (ReadsSome world.now.files meter.old meter.new) }
     ensures memory { IsOkUnless result memory_fault }
 {
     let mut read = Vec::new(alloc);

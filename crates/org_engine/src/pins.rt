@@ -68,10 +68,8 @@ impl<T: Text> Pins<T> {
     pub(crate) fn world(&self, session: u64) -> Option<&World<T>>
         ensures value { option_copied result ≡ world_of session self.now }
     {
-        match place_of(self.pins.as_slice(), session) {
-            Some(place) => Some(self.pins[place].world()),
-            None => None,
-        }
+        let place = place_of(self.pins.as_slice(), session)?;
+        Some(self.pins[place].world())
     }
 
     // Keeps a world for a session. Where memory is refused all is as before.

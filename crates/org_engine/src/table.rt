@@ -1,21 +1,18 @@
 //! Clock tables over the files of a world.
-ghost use Rattle.std.specs.Prelude.{◌≡◌, ◌≢◌, ◌≤◌, ◌<◌, ◌^◌, ◌++◌, false, is_some, length, map, string_bytes, IfErr, IfOk, OnOk, OnErr, IsOkUnless};
+ghost use Rattle.std.specs.Prelude.{◌≡◌, ◌≢◌, ◌≤◌, ◌<◌, ◌^◌, ◌++◌, is_some, length, string_bytes, IfErr, IfOk, OnOk, OnErr, IsOkUnless};
 ghost use Rattle.std.specs.List.{All};
 ghost use Rattle.std.specs.Option.{option_map};
 ghost use Rattle.org_base.specs.Codes.{memory_fault};
-ghost use Rattle.org_clocktable.specs.Asked.{Asked, AsksFor};
-ghost use Rattle.org_clocktable.specs.Counted.{counted_of};
-ghost use Rattle.org_expression.specs.Grammar.{Expr};
-ghost use Rattle.org_file.specs.Counts.{AtMost, worked};
+ghost use Rattle.org_cal.specs.Periods.{days_of};
+ghost use Rattle.org_clocktable.specs.Request.{AsksFor};
 ghost use Rattle.org_file.specs.Outline.{scope_in};
 ghost use Rattle.org_inherit.specs.Scope.{Scope};
 ghost use Rattle.org_sum.specs.Texts.{AreOfText};
 ghost use Rattle.org_engine.specs.Outlines.{outlines_of, scopes_of};
-ghost use Rattle.org_engine.specs.Sections.{section_count};
+ghost use Rattle.org_engine.specs.Sections.{ReadsEach, ReadsSome};
 ghost use Rattle.org_engine.specs.Step.{file_named, is_missing, most_files};
-ghost use Rattle.org_engine.specs.Tables.{AreShort, IsTableFault};
-ghost use Rattle.org_engine.specs.Views.{is_wanted, scopes_named, step_text, steps_text, table_over, table_view, wanted_scope};
-ghost use Rattle.org_cal.specs.Pieces.{pieces};
+ghost use Rattle.org_engine.specs.Tables.{AreShort, IsTableFault, IsTableText};
+ghost use Rattle.org_engine.specs.Views.{is_wanted, scopes_named, step_text, steps_in, steps_text, table_over, table_view, wanted_scope};
 
 use crate::outlines::read_world;
 use crate::world::World;
@@ -39,10 +36,10 @@ pub(crate) fn table_text<T: Text>(
     text: &str,
 ) -> Result<String, Fault>
     requires short { length text.now < 2 ^ 32 }
-    ensures value { IfOk result (λ out. (table : Asked Expr) × AsksFor text.now world.now.moment.day table × (is_missing table.file world.now.files ≡ false) × (string_bytes out ≡ table_view table world.now)) }
+    ensures value { IfOk result (λ out. IsTableText text.now world.now (string_bytes out)) }
     ensures refused { IfErr result (λ fault. fault ≢ memory_fault → IsTableFault text.now world.now fault) }
-    ensures counts { OnOk result (meter.new ≡ worked (section_count world.now.files) (section_count world.now.files) meter.old) }
-    ensures few { OnErr result (AtMost (section_count world.now.files) meter.old meter.new) }
+    ensures counts { OnOk result (ReadsEach world.now.files meter.old meter.new) }
+    ensures few { OnErr result (ReadsSome world.now.files meter.old meter.new) }
 {
     let spec = spec_of(alloc, world, text)?;
     if is_missing(world, spec.file()) {
@@ -95,8 +92,8 @@ fn table_of<T: Text>(
     spec: &TableSpec<'_>,
 ) -> Result<String, Fault>
     ensures value { IfOk result (λ text. string_bytes text ≡ table_view spec.now world.now) }
-    ensures counts { OnOk result (meter.new ≡ worked (section_count world.now.files) (section_count world.now.files) meter.old) }
-    ensures few { OnErr result (AtMost (section_count world.now.files) meter.old meter.new) }
+    ensures counts { OnOk result (ReadsEach world.now.files meter.old meter.new) }
+    ensures few { OnErr result (ReadsSome world.now.files meter.old meter.new) }
     ensures memory { IsOkUnless result memory_fault }
 {
     let outlines = read_world(alloc, meter, world)?;
@@ -202,7 +199,7 @@ fn steps_of(
     spec: &TableSpec<'_>,
 ) -> Result<String, Fault>
     requires few { length files.now ≤ 256 }
-    ensures value { IfOk result (λ text. string_bytes text ≡ steps_text spec.now inherits.now files.now (pieces spec.now.step spec.now.days.1 spec.now.days.0)) }
+    ensures value { IfOk result (λ text. string_bytes text ≡ steps_text spec.now inherits.now files.now (steps_in spec.now)) }
     ensures memory { IsOkUnless result memory_fault }
 {
     let mut text = String::new(alloc);
@@ -223,7 +220,7 @@ fn push_rows(
     period: &Period,
 ) -> Result<(), Fault>
     requires few { length files.now ≤ 256 }
-    ensures ok { OnOk result (string_bytes out.new ≡ string_bytes out.old ++ step_text spec.now inherits.now files.now (period.now.first, period.now.last)) }
+    ensures ok { OnOk result (string_bytes out.new ≡ string_bytes out.old ++ step_text spec.now inherits.now files.now (days_of period.now)) }
     ensures memory { IsOkUnless result memory_fault }
 {
     let rows = step_rows(alloc, period, spec.most(), files)?;

@@ -1,9 +1,8 @@
 //! The text of a view of a world.
-ghost use Rattle.std.specs.Prelude.{◌≡◌, ◌≢◌, string_bytes, IfErr, IfOk, OnErr, OnOk};
+ghost use Rattle.std.specs.Prelude.{◌≢◌, string_bytes, IfErr, IfOk, OnErr, OnOk};
 ghost use Rattle.org_base.specs.Codes.{memory_fault};
-ghost use Rattle.org_file.specs.Counts.{AtMost, worked};
 ghost use Rattle.org_engine.specs.Questions.{IsShort, TellsOf};
-ghost use Rattle.org_engine.specs.Sections.{section_count};
+ghost use Rattle.org_engine.specs.Sections.{ReadsEach, ReadsSome};
 ghost use Rattle.org_engine.specs.Step.{Refused, Shown};
 
 use crate::agenda::dated_text;
@@ -26,8 +25,8 @@ pub(crate) fn view_text<T: Text>(
     requires short { IsShort view }
     ensures ok { IfOk result (λ text. TellsOf view.entry world.now (Shown (string_bytes text))) }
     ensures err { IfErr result (λ fault. fault ≢ memory_fault → TellsOf view.entry world.now (Refused fault)) }
-    ensures counts { OnOk result (meter.new ≡ worked (section_count world.now.files) (section_count world.now.files) meter.old) }
-    ensures few { OnErr result (AtMost (section_count world.now.files) meter.old meter.new) }
+    ensures counts { OnOk result (ReadsEach world.now.files meter.old meter.new) }
+    ensures few { OnErr result (ReadsSome world.now.files meter.old meter.new) }
 {
     match view {
         View::Todo(words) => todo_text(alloc, meter, world, words),

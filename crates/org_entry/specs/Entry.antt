@@ -97,6 +97,7 @@ abbrev pub head_from : FileSettings → Option Head → List PlacedLine → Opti
 head_from settings so_far [] = so_far
 head_from settings so_far (l ∷ ls) = head_from settings (head_after settings so_far l.class l.bytes) ls
 
+-- the planning that lines say, behind what was said before
 abbrev pub planning_from : Option Planning → List PlacedLine → Option Planning
 planning_from so_far [] = so_far
 planning_from so_far (l ∷ ls) = planning_from (planning_after so_far l.at l.class l.bytes) ls

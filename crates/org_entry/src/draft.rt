@@ -9,15 +9,16 @@ ghost use Rattle.org_entry.specs.Entry.{moved, moved_stamp, title_stamps};
 ghost use Rattle.org_head.specs.Head.{head_of};
 
 use crate::entry::Entry;
-use crate::lists::{Clocks, PlacedStamps};
 use crate::own::{OwnPlanning, OwnProperties};
+use crate::sparse::Sparse;
+use crate::stamps::push_active;
 use org_base::{Bytes, Fault, Span, Texts};
 use org_class::Class;
-use org_drawer::{Planning, read_clock, read_planning};
+use org_drawer::{ClockLine, Planning, read_clock, read_planning};
 use org_head::{Head, part, read_head};
 use org_settings::Settings;
-use org_stamp::Stamp;
-use std::alloc::Global;
+use org_stamp::{Found, Stamp};
+use std::alloc::{AllocError, Global};
 use std::marker::Model;
 
 // What the lines of a section so far say.
@@ -28,8 +29,8 @@ pub(crate) struct Draft {
     head: Option<Head>,
     planning: OwnPlanning,
     nodes: Texts,
-    stamps: PlacedStamps,
-    clocks: Clocks,
+    stamps: Sparse<Found>,
+    clocks: Sparse<ClockLine>,
 }
 
 impl Model for Draft {
@@ -51,8 +52,8 @@ impl Draft {
             head: None,
             planning: OwnPlanning::none(),
             nodes: Texts::new(alloc),
-            stamps: PlacedStamps::new(alloc),
-            clocks: Clocks::new(alloc),
+            stamps: Sparse::new(alloc),
+            clocks: Sparse::new(alloc),
         }
     }
 
@@ -69,13 +70,14 @@ impl Draft {
         ensures memory { IsOkUnless result memory_fault }
     {
         match class {
-            Class::Heading => self.add_heading(settings, at, line),
-            Class::Planning => self.add_planning(at, line),
-            Class::Node => self.nodes.push(line),
-            Class::Clock => self.add_clock(line),
-            Class::Setting | Class::Plain => self.stamps.push_active(at, line),
-            _ => Ok(()),
+            Class::Heading => self.add_heading(settings, at, line)?,
+            Class::Planning => self.add_planning(at, line)?,
+            Class::Node => self.nodes.push(line)?,
+            Class::Clock => self.add_clock(line)?,
+            Class::Setting | Class::Plain => push_active(&mut self.stamps, at, line)?,
+            _ => {}
         }
+        Ok(())
     }
 
     // Adds a heading line.
@@ -92,20 +94,18 @@ impl Draft {
         let title = head.title;
         self.text.reserve_exact(line.len())?;
         self.text.extend_from_slice(line)?;
-        self.stamps
-            .push_active(at + title.at as usize, part(line, title))?;
+        push_active(&mut self.stamps, at + title.at as usize, part(line, title))?;
         self.head = Some(head);
         Ok(())
     }
 
     // Adds a planning line.
-    fn add_planning(&mut self, at: usize, line: &[u8]) -> Result<(), Fault>
+    fn add_planning(&mut self, at: usize, line: &[u8]) -> Result<(), AllocError>
         requires fits { at + length line.now < 2 ^ 32 }
         ensures ok { OnOk result (self.new ≡ record self.old {
           text = self.old.text ++ line.now;
           planning = option_map (moved at) (planning_of line.now);
         }) }
-        ensures memory { IsOkUnless result memory_fault }
     {
         self.text.reserve_exact(line.len())?;
         self.text.extend_from_slice(line)?;
@@ -114,14 +114,14 @@ impl Draft {
     }
 
     // Adds a clock line.
-    fn add_clock(&mut self, line: &[u8]) -> Result<(), Fault>
+    fn add_clock(&mut self, line: &[u8]) -> Result<(), AllocError>
         ensures ok { OnOk result (self.new ≡ record self.old { clocks = self.old.clocks ++ option_to_list (clock_of line.now) }) }
-        ensures memory { IsOkUnless result memory_fault }
     {
-        match read_clock(line) {
-            Some(clock) => self.clocks.push(clock),
-            None => Ok(()),
+        // Taken apart and put together for the prover, which has to see what a clock holds.
+        if let Some(ClockLine { from, to }) = read_clock(line) {
+            self.clocks.push(ClockLine { from, to })?;
         }
+        Ok(())
     }
 
     // The entry where no line is left.

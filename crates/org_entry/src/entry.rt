@@ -4,11 +4,13 @@ ghost use Rattle.std.specs.List.{position};
 ghost use Rattle.org_entry.specs.Entry.{heading_line};
 ghost use Rattle.org_base.specs.Spans.{bytes_in};
 
-use crate::lists::{Clocks, PlacedStamps};
 use crate::own::{OwnPlanning, OwnProperties};
+use crate::sparse::Sparse;
 use memchr::memchr;
 use org_base::{Bytes, Span};
+use org_drawer::ClockLine;
 use org_head::Head;
+use org_stamp::Found;
 
 /// What a section says (Org Syntax, "Sections"). All places count from the section's start, so that they stay true where
 /// the section moves.
@@ -24,9 +26,9 @@ pub struct Entry {
     /// The heading's own properties.
     pub drawer: OwnProperties,
     /// The active stamps of the title and of setting lines and plain lines.
-    pub stamps: PlacedStamps,
+    pub stamps: Sparse<Found>,
     /// The clocks of clock lines.
-    pub clocks: Clocks,
+    pub clocks: Sparse<ClockLine>,
 }
 
 impl Entry {

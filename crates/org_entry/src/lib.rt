@@ -7,11 +7,12 @@
 mod draft;
 mod entry;
 pub mod laws;
-mod lists;
 mod own;
 mod read;
+mod sparse;
+mod stamps;
 
 pub use entry::Entry;
-pub use lists::{Clocks, PlacedStamps};
 pub use own::{OwnPlanning, OwnProperties};
 pub use read::read_entry;
+pub use sparse::Sparse;

@@ -7,7 +7,7 @@ ghost use Rattle.org_drawer.specs.Node.{drawer_of};
 
 use org_base::{Fault, Texts};
 use org_drawer::{Drawer, Planning, read_drawer};
-use std::alloc::Global;
+use std::alloc::{AllocError, Global};
 use std::marker::Model;
 
 /// What the planning line of a section says, if it has one; seen as that.
@@ -35,9 +35,8 @@ impl OwnPlanning {
     }
 
     // What a planning line says, if it says anything.
-    pub(crate) fn new(alloc: Global, planning: Option<Planning>) -> Result<OwnPlanning, Fault>
+    pub(crate) fn new(alloc: Global, planning: Option<Planning>) -> Result<OwnPlanning, AllocError>
         ensures value { IfOk result (λ own. own ≡ planning) }
-        ensures memory { IsOkUnless result memory_fault }
     {
         let planning = match planning {
             Some(planning) => Some(Box::new(alloc, planning)?),
@@ -50,10 +49,8 @@ impl OwnPlanning {
     pub fn get(&self) -> Option<&Planning>
         ensures value { option_map (λ planning. planning.now) result ≡ self.now }
     {
-        match &self.planning {
-            Some(planning) => Some(&**planning),
-            None => None,
-        }
+        let planning = self.planning.as_ref()?;
+        Some(&**planning)
     }
 }
 
@@ -93,9 +90,7 @@ impl OwnProperties {
     pub fn get(&self, name: &[u8]) -> Option<&[u8]>
         ensures value { option_map (λ text. text.now) result ≡ value_in self.now name.now }
     {
-        match &self.drawer {
-            Some(drawer) => drawer.get(name),
-            None => None,
-        }
+        let drawer = self.drawer.as_ref()?;
+        drawer.get(name)
     }
 }

@@ -1,4 +1,5 @@
 -- What is read of an expression so far, and what each character adds to it.
+-- Characters by their codes: 33 !, 34 ", 38 &, 43 +, 45 -, 46 ., 47 /, 60 <, 61 =, 62 >, 92 \, 123 {, 124 |, 125 }.
 use Rattle.std.specs.Char.{is_ascii_digit}
 use Rattle.std.specs.Prelude.{ℕ, Bool, true, false, ◌==◌, List, [], ◌∷◌, ◌++◌, Option, None, Some, if◌then◌else◌}
 use Rattle.org_base.specs.Characters.{is_tag_char}
@@ -61,13 +62,15 @@ term_by AsNumber d = Compare d.name d.op (Number d.is_negative d.whole d.fractio
 term_by AsQuoted d = Compare d.name d.op (Quoted d.text)
 term_by AsPattern d = Compare d.name d.op (Pattern d.text)
 
+-- the term that is being read
 abbrev pub term_of : Draft → Term
 term_of d = term_by d.shape d
 
--- items at the end of the part that is being read
+-- which parts there are, the items before the slash, and those behind it
 abbrev pub Parts : Type 0
 Parts = Kind × List Item × List Item
 
+-- parts with more items at the end of the one that is being read
 abbrev pub extend : Parts → List Item → Parts
 extend (JustTags, tags, todo) is = (JustTags, tags ++ is, todo)
 extend (WithTodo, tags, todo) is = (WithTodo, tags, todo ++ is)
@@ -99,6 +102,7 @@ begin c d =
     else if c == 92 then record d { name = []; shape = AsTag } else if c == 123 then record d { text = []; shape = AsFound }
     else record d { name = c ∷ []; shape = AsTag }
 
+-- the slash begins the keywords' part
 abbrev pub with_todo : Parts → Parts
 with_todo (kind, tags, todo) = (WithTodo, tags, todo)
 
@@ -144,6 +148,7 @@ absorb (InWhole n) c d = if is_ascii_digit c then record d { whole = d.whole ++ 
 absorb AfterPoint c d = record d { fraction = d.fraction ++ c ∷ [] }
 absorb (InFraction n) c d = if is_ascii_digit c then record d { fraction = d.fraction ++ c ∷ [] } else follow c d
 
+-- a character adds nothing where there is no state
 abbrev pub absorb_at : Option State → ℕ → Draft → Draft
 absorb_at None c d = d
 absorb_at (Some s) c d = absorb s c d

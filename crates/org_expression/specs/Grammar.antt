@@ -1,5 +1,6 @@
 -- The grammar of match expressions, as the spelling of a tree (Org manual 9.6, Matching tags and properties; limits of
 -- numbers: profile).
+-- Characters by their codes: 33 !, 34 ", 38 &, 43 +, 45 -, 46 ., 47 /, 60 <, 61 =, 62 >, 92 \, 123 {, 124 |, 125 }.
 use Rattle.std.specs.Prelude.{◌≡◌, ◌≢◌, ℕ, ◌<◌, ◌≤◌, Bool, true, false, ◌||◌, not, ◌==◌, List, [], ◌∷◌, ◌++◌, length, if◌then◌else◌, encode_utf8_all}
 use Rattle.std.specs.Char.{is_ascii_digit}
 use Rattle.std.specs.List.{list_all}
@@ -52,16 +53,19 @@ pub data Expr : Type 0 where
 
 -- ---- spelling, in characters
 
+-- nothing, `&` or `|`
 abbrev pub spell_link : Link → List ℕ
 spell_link Direct = []
 spell_link And = 38 ∷ []
 spell_link Or = 124 ∷ []
 
+-- nothing, `+` or `-`
 abbrev pub spell_sign : Sign → List ℕ
 spell_sign Unsigned = []
 spell_sign Plus = 43 ∷ []
 spell_sign Minus = 45 ∷ []
 
+-- `<`, `=`, `>`, `<=`, `>=` and `<>`
 abbrev pub spell_op : Op → List ℕ
 spell_op Less = 60 ∷ []
 spell_op Equal = 61 ∷ []
@@ -80,23 +84,28 @@ abbrev pub spell_fraction : List ℕ → List ℕ
 spell_fraction [] = []
 spell_fraction (d ∷ ds) = 46 ∷ d ∷ ds
 
+-- a decimal with its minus, a text in double quotes, a pattern in braces
 abbrev pub spell_value : Value → List ℕ
 spell_value (Number is_negative whole fraction) = (if is_negative then 45 ∷ [] else []) ++ (whole ++ spell_fraction fraction)
 spell_value (Quoted text) = 34 ∷ text ++ 34 ∷ []
 spell_value (Pattern text) = 123 ∷ text ++ 125 ∷ []
 
+-- a name, a pattern of a tag in braces, or a property compared with a value
 abbrev pub spell_term : Term → List ℕ
 spell_term (Tag name) = spell_name name
 spell_term (Found pattern) = 123 ∷ pattern ++ 125 ∷ []
 spell_term (Compare name op value) = spell_name name ++ (spell_op op ++ spell_value value)
 
+-- link, sign and term, one behind the other
 abbrev pub spell_item : Item → List ℕ
 spell_item (item link sign term) = spell_link link ++ (spell_sign sign ++ spell_term term)
 
+-- items, one behind the other
 abbrev pub spell_items : List Item → List ℕ
 spell_items [] = []
 spell_items (i ∷ is) = spell_item i ++ spell_items is
 
+-- the tags alone, or with `/` or `/!` and the keywords behind them
 abbrev pub spell : Expr → List ℕ
 spell (Tags tags) = spell_items tags
 spell (Todo tags todo) = spell_items tags ++ 47 ∷ spell_items todo
@@ -129,6 +138,7 @@ IsValue op (Number is_negative whole fraction) =
 IsValue op (Quoted text) = Lacks 34 text
 IsValue op (Pattern text) = (takes_pattern op ≡ true) × Lacks 125 text
 
+-- a name or a pattern, or a name with a value that its comparison takes
 abbrev pub IsTerm : Term → Type 0
 IsTerm (Tag name) = IsName name
 IsTerm (Found pattern) = Lacks 125 pattern
@@ -159,6 +169,7 @@ AreItems part (item Direct sign term ∷ is) = IsTermIn part term × AreLater pa
 AreItems part (item And sign term ∷ is) = ⊥
 AreItems part (item Or sign term ∷ is) = ⊥
 
+-- items, or none
 abbrev pub AreItemsOrNone : Part → List Item → Type 0
 AreItemsOrNone part [] = Unit {0}
 AreItemsOrNone part (i ∷ is) = AreItems part (i ∷ is)

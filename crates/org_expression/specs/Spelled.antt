@@ -1,5 +1,6 @@
 -- Decimals and named days without the reader's steps (Org manual 9.6, Matching tags and properties; how many digits count:
 -- profile).
+-- Characters by their codes: 46 ., 48 0.
 use Rattle.std.specs.Prelude.{◌≡◌, ◌⊎◌, ℕ, ◌+◌, ◌^◌, ◌≤◌, Bool, true, false, List, [], ◌∷◌, ◌++◌, length, take, replicate, codes, ℤ, pos, neg_ℤ}
 use Rattle.std.specs.Char.{is_ascii_digit}
 use Rattle.std.specs.Str.{all_ascii_digits}
@@ -64,10 +65,11 @@ pub data IsLetter : List ℕ → TimeUnit → Type 0 where
   MonthLetter : IsLetter (codes "m") Month
   YearLetter : IsLetter (codes "y") Year
 
--- so many later, or earlier
+-- so many later
 abbrev pub later : List ℕ → ℤ
 later digits = pos (digits_value 10 digits)
 
+-- so many earlier
 abbrev pub earlier : List ℕ → ℤ
 earlier digits = neg_ℤ (pos (digits_value 10 digits))
 

@@ -7,8 +7,8 @@ ghost use Rattle.org_expression.specs.Draft as spec;
 use crate::shape::Shape;
 use crate::state::State;
 use crate::step::is_final;
-use crate::tree::{Item, Kind, Link, Op, Sign, Term, Value, Written};
-use crate::words::Words;
+use crate::term_text::TermText;
+use crate::tree::{Expression, Item, Kind, Link, Op, Sign, Term, Value};
 use org_base::is_tag_char;
 use std::alloc::{AllocError, Global};
 use std::marker::Model;
@@ -22,13 +22,13 @@ pub(crate) struct Draft {
     todo: Vec<Item>,
     link: Link,
     sign: Sign,
-    name: Words,
+    name: TermText,
     op: Op,
     shape: Shape,
     is_negative: bool,
-    whole: Words,
-    fraction: Words,
-    text: Words,
+    whole: TermText,
+    fraction: TermText,
+    text: TermText,
     alloc: Global,
 }
 
@@ -67,13 +67,13 @@ impl Draft {
             todo: Vec::new(alloc),
             link: Link::Direct,
             sign: Sign::Unsigned,
-            name: Words::new(alloc),
+            name: TermText::new(alloc),
             op: Op::Equal,
             shape: Shape::AsTag,
             is_negative: false,
-            whole: Words::new(alloc),
-            fraction: Words::new(alloc),
-            text: Words::new(alloc),
+            whole: TermText::new(alloc),
+            fraction: TermText::new(alloc),
+            text: TermText::new(alloc),
             alloc,
         }
     }
@@ -257,7 +257,7 @@ impl Draft {
     }
 
     // The expression, where it may end in this state.
-    pub(crate) fn finish(mut self, state: State) -> Result<Option<Written>, AllocError>
+    pub(crate) fn finish(mut self, state: State) -> Result<Option<Expression>, AllocError>
         ensures value { IfOk result (λ r. r ≡ spec.finished (Some state) self) }
     {
         if !is_final(state) {
@@ -272,6 +272,6 @@ impl Draft {
             todo,
             ..
         } = self;
-        Ok(Some(Written { kind, tags, todo }))
+        Ok(Some(Expression { kind, tags, todo }))
     }
 }

@@ -12,11 +12,11 @@ mod scan;
 mod shape;
 mod state;
 mod step;
+mod term_text;
 mod times;
 mod tree;
-mod words;
 
 pub use decimal::{number, number_at};
+pub use term_text::TermText;
 pub use times::{front_minute, is_time, named_minute};
-pub use tree::{Item, Kind, Link, Op, Sign, Term, Value, Written};
-pub use words::Words;
+pub use tree::{Expression, Item, Kind, Link, Op, Sign, Term, Value};

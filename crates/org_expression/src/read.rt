@@ -8,15 +8,15 @@ use crate::draft::Draft;
 use crate::scan::measure;
 use crate::state::State;
 use crate::step::step;
-use crate::tree::Written;
+use crate::tree::Expression;
 use org_base::Fault;
 use std::alloc::{AllocError, Global};
 
-impl Written {
+impl Expression {
     /// Reads an expression (Org manual 9.6, Matching tags and properties). `MatchAt` exactly where the text is none, with
     /// the bytes of its longest front of whole characters that begins some expression, and then no memory is taken.
     /// Behind that want of memory is the only refusal.
-    pub fn read(alloc: Global, text: &str) -> Result<Written, Fault>
+    pub fn read(alloc: Global, text: &str) -> Result<Expression, Fault>
         requires { length text.now < 2 ^ 32 }
         ensures value { IfOk result (λ found. Reads (chars text.now) found) }
         ensures refused { IfErr result (IsUnread (chars text.now)) }
@@ -34,7 +34,7 @@ impl Written {
 }
 
 // The expression that the text is, with its patterns as they are written.
-fn parse(alloc: Global, text: &str) -> Result<Option<Written>, AllocError>
+fn parse(alloc: Global, text: &str) -> Result<Option<Expression>, AllocError>
     ensures value { IfOk result (λ found. found ≡ read_all (chars text.now)) }
 {
     let mut draft = Draft::new(alloc);

@@ -1,5 +1,5 @@
 //! Expressions as they are written.
-use crate::words::Words;
+use crate::term_text::TermText;
 use std::marker::Model;
 
 /// What joins a term to the one before it: its sign alone, `&` or `|`.
@@ -41,17 +41,17 @@ pub enum Kind {
 /// text, a pattern.
 #[derive(Debug, Drop)]
 pub enum Value {
-    Number(bool, Words, Words),
-    Quoted(Words),
-    Pattern(Words),
+    Number(bool, TermText, TermText),
+    Quoted(TermText),
+    Pattern(TermText),
 }
 
 /// A term as it is written: a tag, a pattern for tags, a comparison of a named property.
 #[derive(Debug, Drop)]
 pub enum Term {
-    Tag(Words),
-    Found(Words),
-    Compare(Words, Op, Value),
+    Tag(TermText),
+    Found(TermText),
+    Compare(TermText, Op, Value),
 }
 
 /// A term as it is written, with what stands before it.
@@ -64,13 +64,13 @@ pub struct Item {
 
 /// An expression as it is written, which contracts see as that of the grammar. Without keywords `todo` doesn't count.
 #[derive(Debug, Drop)]
-pub struct Written {
+pub struct Expression {
     pub kind: Kind,
     pub tags: Vec<Item>,
     pub todo: Vec<Item>,
 }
 
-impl Model for Written {
+impl Model for Expression {
     ghost use Rattle.org_expression.specs.Grammar.{Expr};
     ghost use Rattle.org_expression.specs.Tree.{expr_of};
 

@@ -9,8 +9,8 @@ use Rattle.org_base.specs.declared.span.Span.{Span}
 use Rattle.org_stamp.specs.Pair.{pair_of, pair_at, pair_and, pairs_from, pairs, past_spaces, word_at, is_planning}
 use Rattle.org_stamp.specs.Read.{single_of, ranged, joined, same_bool}
 use Rattle.org_stamp.specs.declared.pair.Pair.{Pair}
-use Rattle.org_stamp.specs.declared.pair.PlanningWord.{PlanningWord}
-use Rattle.org_stamp.specs.declared.pair.PlanningWord.TheVariants.{Scheduled, Deadline, Closed}
+use Rattle.org_stamp.specs.declared.pair.PlanningKeyword.{PlanningKeyword}
+use Rattle.org_stamp.specs.declared.pair.PlanningKeyword.TheVariants.{Scheduled, Deadline, Closed}
 use Rattle.org_stamp.specs.declared.stamp.Stamp.{Stamp}
 use Rattle.org_stamp.proofs.ReadLemmas.{single_found}
 use Rattle.org_drawer.specs.Planning.{is_same, stamp_if, last_of, planning_of}
@@ -46,7 +46,7 @@ unfolding single_of
 some_bytes [] f e = absurd cc
 some_bytes (b ∷ bs) f e = omega arith
 
-pair_of_single : (word : PlanningWord) (low at most : ℕ) (bs : List ℕ) (o : Option (Stamp × ℕ)) → single_of bs ≡ o → low < at → (0 < length bs → at + length bs ≤ most) →
+pair_of_single : (word : PlanningKeyword) (low at most : ℕ) (bs : List ℕ) (o : Option (Stamp × ℕ)) → single_of bs ≡ o → low < at → (0 < length bs → at + length bs ≤ most) →
     IsPairBehind low most (option_and_then (λ (all : Stamp × ℕ). option_map (λ (first : Stamp × ℕ). record { word = word; stamp = first.0; at = at; len = first.1; end = at + all.1 }) o) (option_map (λ (found : Stamp × ℕ). ranged found.0 found.1 (drop found.1 bs)) o))
 pair_of_single word low at most bs None e lt le = tt
 pair_of_single word low at most bs (Some f) e lt le =
@@ -64,8 +64,8 @@ word_len bs = elim (cases_Bool (starts_with nat_eq bs (codes "SCHEDULED:"))) [
   ]
 ]
 
-pair_behind : (at most : ℕ) (bs : List ℕ) (o : Option (PlanningWord × ℕ)) → IfSome o (λ k. 0 < k.1) → at + length bs ≤ most →
-    IsPairBehind at most (option_and_then (λ (k : PlanningWord × ℕ). pair_of k.0 (at + (k.1 + prefix_len is_space (drop k.1 bs))) (past_spaces (drop k.1 bs))) o)
+pair_behind : (at most : ℕ) (bs : List ℕ) (o : Option (PlanningKeyword × ℕ)) → IfSome o (λ k. 0 < k.1) → at + length bs ≤ most →
+    IsPairBehind at most (option_and_then (λ (k : PlanningKeyword × ℕ). pair_of k.0 (at + (k.1 + prefix_len is_space (drop k.1 bs))) (past_spaces (drop k.1 bs))) o)
 pair_behind at most bs None h le = tt
 pair_behind at most bs (Some k) h le =
     let rest = drop k.1 bs in
@@ -124,7 +124,7 @@ if_within : (low most : ℕ) (same : Bool) (p : Pair) → low < p.at → p.at + 
 if_within low most true p h k = (h, k)
 if_within low most false p h k = tt
 
-last_within : (word : PlanningWord) (low most : ℕ) (ps : List Pair) → AreInOrder low most ps → IsWithin low most (last_of word ps)
+last_within : (word : PlanningKeyword) (low most : ℕ) (ps : List Pair) → AreInOrder low most ps → IsWithin low most (last_of word ps)
 last_within word low most [] h = tt
 last_within word low most (p ∷ ps) h =
     let first = h.0 in
@@ -144,7 +144,7 @@ right_apart s most None b h k = tt
 right_apart s most (Some a) None h k = inr h.0
 right_apart s most (Some a) (Some b) h k = k
 
-one_apart : (word : PlanningWord) (s : Stamp × Span) (most : ℕ) (a b : Option (Stamp × Span)) → IsWithin (s.1.at + s.1.len) most a → IsWithin (s.1.at + s.1.len) most b → AreDisjoint a b →
+one_apart : (word : PlanningKeyword) (s : Stamp × Span) (most : ℕ) (a b : Option (Stamp × Span)) → IsWithin (s.1.at + s.1.len) most a → IsWithin (s.1.at + s.1.len) most b → AreDisjoint a b →
     AreDisjoint (option_or a (cond (is_same Scheduled word) (Some s) None)) (option_or b (cond (is_same Deadline word) (Some s) None))
 one_apart Scheduled s most a b h k l = rw (or_none b) (left_apart s most a b k l)
 one_apart Deadline s most a b h k l = rw (or_none a) (right_apart s most a b h l)

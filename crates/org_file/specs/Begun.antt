@@ -17,10 +17,11 @@ pub record IsBegunBy (text : List ℕ) (line place : ℕ) : Type 0 where
   pub within : place < length (sections text)
   pub first : line ≡ lines_before text place + 1
 
--- the section at a place, and where it begins
+-- the section at a place
 abbrev pub section_of : List ℕ → ℕ → List ℕ
 section_of text place = get_or (sections text) place []
 
+-- where the section at a place begins in the text
 abbrev pub section_start : List ℕ → ℕ → ℕ
 section_start text place = length (concat (take place (sections text)))
 

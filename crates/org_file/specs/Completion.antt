@@ -78,6 +78,7 @@ keyword_plan now settings place (Some p) =
     then repeat_plan now (keyword_first settings.keywords place) p
     else Ok (plain_plan place)
 
+-- what a keyword does by its place among the file's; a word that is none of them is refused
 abbrev pub plan_of : Moment → FileSettings → Option Planning → Option ℕ → Result Plan Fault
 plan_of now settings planning None = Err (Plain code.Keyword)
 plan_of now settings planning (Some place) = keyword_plan now settings place planning
@@ -92,28 +93,33 @@ abbrev pub gap_behind : Option Span → List ℕ
 gap_behind None = codes " "
 gap_behind (Some span) = []
 
--- the parts of a text that a plan replaces in a section that begins at a place
+-- the part of a text that a keyword replaces, in a section that begins at a place
 abbrev pub keyword_part : ℕ → Span → List ℕ → Part
 keyword_part at span ins = record { at = at + span.at; del = span.len; ins = ins }
 
+-- the part of a stamp that shifts, if there is one
 abbrev pub shift_part : ℕ → Option Shift → List Part
 shift_part at None = []
 shift_part at (Some s) = record { at = at + s.span.at; del = s.span.len; ins = stamp_text s.stamp } ∷ []
 
+-- the parts of a plan: the keyword's, then those of the stamps
 abbrev pub plan_parts : ℕ → List ℕ → Option Span → FileSettings → Plan → List Part
 plan_parts at line old settings plan =
     keyword_part at (keyword_span line old) (keyword_word settings.keywords plan.keyword ++ gap_behind old)
     ∷ (shift_part at plan.shifts.0 ++ shift_part at plan.shifts.1)
 
+-- the same, unless the plan is refused
 abbrev pub planned_parts : ℕ → List ℕ → Option Span → FileSettings → Result Plan Fault → Result (List Part) Fault
 planned_parts at line old settings (Err fault) = Err fault
 planned_parts at line old settings (Ok plan) = Ok (plan_parts at line old settings plan)
 
+-- what completing an entry replaces; one without a head is no heading
 abbrev pub entry_parts : ℕ → Moment → FileSettings → List ℕ → Entry → Option Head → Result (List Part) Fault
 entry_parts at now settings keyword entry None = Err (Plain code.Heading)
 entry_parts at now settings keyword entry (Some head) =
     planned_parts at (heading_line entry) head.keyword settings (plan_of now settings entry.planning (keyword_place settings.keywords keyword))
 
+-- the same, by the entry's own head
 abbrev pub section_parts : ℕ → Moment → FileSettings → List ℕ → Entry → Result (List Part) Fault
 section_parts at now settings keyword entry = entry_parts at now settings keyword entry entry.head
 
@@ -122,13 +128,15 @@ abbrev pub is_heading_line : Option (List ℕ) → Bool
 is_heading_line None = false
 is_heading_line (Some line) = begins_heading line
 
+-- a heading stands on the line of the text
 abbrev pub has_heading : List ℕ → ℕ → Bool
 has_heading text line = nat_lt 0 line && is_heading_line (slice_get (lines text) (line - 1))
 
--- where a line begins, and the section that begins at a place
+-- where a line begins
 abbrev pub line_start : List ℕ → ℕ → ℕ
 line_start text line = length (concat (take (line - 1) (lines text)))
 
+-- the section that begins at a place
 abbrev pub section_at : List ℕ → ℕ → List ℕ
 section_at text at = get_or (sections (drop at text)) 0 []
 

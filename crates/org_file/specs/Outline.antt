@@ -19,6 +19,7 @@ pub record OutlineView : Type 0 where
   pub entries : List Entry
   pub settings : FileSettings
 
+-- what a text says as a file
 abbrev pub outline_of : List ℕ → OutlineView
 outline_of text = record { entries = file_entries text; settings = file_settings text }
 

@@ -31,6 +31,7 @@ shift_text text from (Some s) = slice_range text from s.span.at ++ stamp_text s.
 abbrev pub plan_end : Span → Plan → ℕ
 plan_end span plan = shift_end (shift_end (span.at + span.len) plan.shifts.0) plan.shifts.1
 
+-- what stands behind the keyword when the plan's stamps are shifted, up to the last of them
 abbrev pub plan_text : List ℕ → Span → Plan → List ℕ
 plan_text text span plan =
     let end = span.at + span.len in

@@ -1,5 +1,5 @@
 //! Completing a heading.
-ghost use Rattle.std.specs.Prelude.{◌≡◌, ◌≢◌, ◌+◌, ◌-◌, ◌++◌, ◌<◌, ◌≤◌, ◌^◌, ℕ, List, Ok, Err, Some, length, IfOk, IfErr, OnOk, IsSome, IsOkUnless, string_bytes};
+ghost use Rattle.std.specs.Prelude.{◌≡◌, ◌≢◌, ◌+◌, ◌-◌, ◌++◌, ◌<◌, ◌≤◌, ◌^◌, Ok, Err, Some, length, IfOk, IfErr, OnOk, IsSome, IsOkUnless, string_bytes};
 ghost use Rattle.std.specs.List.{prefix_len};
 ghost use Rattle.std.specs.Str.{IsUtf8, IsCharBoundary};
 ghost use Rattle.org_base.specs.Codes.{memory_fault};
@@ -15,7 +15,6 @@ ghost use Rattle.org_file.specs.Counts.{AtMost, AtMostOneRead};
 ghost use Rattle.org_file.specs.Outline.{file_settings};
 ghost use Rattle.org_file.specs.Parts.{with_parts};
 ghost use Rattle.org_file.specs.Written.{AnswersAs, CanWrite, IsBehind, plan_end, plan_text, shift_end, shift_text};
-ghost use Rattle.org_settings.specs.Keywords.{keyword_word};
 ghost use Rattle.org_text.specs.Replace.{replace};
 ghost use Rattle.org_utf8.specs.Laws.{IsTextPart};
 

@@ -6,12 +6,12 @@ ghost use Rattle.org_file.specs.Counts.{AtMost, worked};
 ghost use Rattle.org_file.specs.Outline.{outline_of, scope_in};
 
 use crate::sections::Sections;
-use org_base::{Code, Fault, Meter, Texts};
+use org_base::{Fault, Meter, Texts};
 use org_inherit::Inherit;
 use org_outline::{Entries, Outline};
 use org_settings::Settings;
 use org_text::Text;
-use std::alloc::Global;
+use std::alloc::{AllocError, Global};
 use std::marker::Model;
 
 /// What a file says: its outline, and the settings by which it was read.
@@ -62,13 +62,12 @@ impl FileOutline {
     }
 }
 
-fn outline_of(alloc: Global, entries: Entries) -> Result<Outline, Fault>
+fn outline_of(alloc: Global, entries: Entries) -> Result<Outline, AllocError>
     ensures value { IfOk result (λ outline. outline ≡ entries) }
-    ensures memory { IsOkUnless result memory_fault }
 {
     let mut outline = Outline::new(alloc);
     match outline.replace(0..0, entries) {
         Ok(()) => Ok(outline),
-        Err(_) => Err(Fault::Plain(Code::Memory)),
+        Err(_) => Err(AllocError),
     }
 }

@@ -6,12 +6,15 @@ use Rattle.org_base.specs.Characters.{is_tag_char}
 use Rattle.org_base.specs.Words.{is_letter}
 use Rattle.org_settings.specs.Keywords.{Keyword, keyword_place}
 
+-- one of the file's keywords
 abbrev pub is_keyword : List Keyword → List ℕ → Bool
 is_keyword keywords w = is_some (keyword_place keywords w)
 
+-- the word COMMENT, in capitals
 abbrev pub is_comment_word : List ℕ → Bool
 is_comment_word w = bytes_eq w (codes "COMMENT")
 
+-- the byte `:`
 abbrev pub is_colon : ℕ → Bool
 is_colon c = c == 58
 

@@ -14,7 +14,7 @@ use org_base::words::{first_word, trim_end, trim_start};
 use org_base::{Fault, Span};
 use org_class::leading_stars;
 use org_settings::Settings;
-use std::alloc::Global;
+use std::alloc::{AllocError, Global};
 
 fn is_keyword(settings: &Settings, word: &[u8]) -> bool
     ensures value { result ≡ is_keyword settings.now.keywords word.now }
@@ -52,12 +52,11 @@ fn behind(is_part: bool, rest: &[u8]) -> &[u8]
 }
 
 // How long the title of a text is that begins at a place, and the tags behind it, if its last word is tags.
-fn title_and_tags(alloc: Global, at: usize, text: &[u8]) -> Result<(usize, Spans), Fault>
+fn title_and_tags(alloc: Global, at: usize, text: &[u8]) -> Result<(usize, Spans), AllocError>
     requires { at + length text.now < 2 ^ 32 }
     ensures title { IfOk result (λ parts. parts.0 ≡ length (title_of text.now)) }
     ensures tags { IfOk result (λ parts. parts.1 ≡ tags_of at text.now) }
     ensures within { IfOk result (λ parts. parts.0 ≤ length text.now) }
-    ensures memory { IsOkUnless result memory_fault }
 {
     let tail = last_word(text);
     let mut tags = Spans::new(alloc);
@@ -70,10 +69,9 @@ fn title_and_tags(alloc: Global, at: usize, text: &[u8]) -> Result<(usize, Spans
 }
 
 // The parts, read from the left.
-fn read_parts(alloc: Global, line: &[u8], settings: &Settings) -> Result<Head, Fault>
+fn read_parts(alloc: Global, line: &[u8], settings: &Settings) -> Result<Head, AllocError>
     requires size { length line.now < 2 ^ 32 }
     ensures value { IfOk result (λ head. head ≡ head_of settings.now line.now) }
-    ensures memory { IsOkUnless result memory_fault }
 {
     let n = line.len();
     let level = leading_stars(line);
@@ -105,7 +103,7 @@ fn read_parts(alloc: Global, line: &[u8], settings: &Settings) -> Result<Head, F
 /// The parts of a heading line in a file with these settings: behind the stars, each optional and a whole word, a
 /// keyword, a priority cookie and `COMMENT`, then the title, then the tags as the last word (Org Syntax, "Headings").
 /// Want of memory is its only refusal, and can come only from the third tag on.
-#[tactic(auto, using(crate::proofs::Inside::head_inside, crate::proofs::PartsHold::parts_hold))]
+#[tactic(auto, using(crate::proofs::PartsHold::parts_hold))]
 pub fn read_head(alloc: Global, line: &[u8], settings: &Settings) -> Result<Head, Fault>
     requires size { length line.now < 2 ^ 32 }
     ensures value { IfOk result (λ head. head ≡ head_of settings.now line.now) }
@@ -113,5 +111,5 @@ pub fn read_head(alloc: Global, line: &[u8], settings: &Settings) -> Result<Head
     ensures within { IfOk result (λ head. AreInside line.now head) }
     ensures memory { IsOkUnless result memory_fault }
 {
-    read_parts(alloc, line, settings)
+    Ok(read_parts(alloc, line, settings)?)
 }

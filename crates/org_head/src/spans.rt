@@ -1,12 +1,11 @@
 //! Parts of a line in order.
-ghost use Rattle.std.specs.Prelude.{◌≡◌, [], ◌++◌, ◌+◌, ◌<◌, ◌^◌, length, slice_get, OnOk, IsOkUnless};
-ghost use Rattle.org_base.specs.Codes.{memory_fault};
+ghost use Rattle.std.specs.Prelude.{◌≡◌, [], ◌++◌, ◌+◌, ◌<◌, ◌^◌, length, slice_get, OnOk};
 ghost use Rattle.org_base.specs.Spans.{bytes_in, IsInside};
 ghost use Rattle.org_head.specs.Tags.{span, spans_from};
 
-use org_base::{Fault, Span};
+use org_base::Span;
 use smallvec::SmallVec;
-use std::alloc::Global;
+use std::alloc::{AllocError, Global};
 use std::marker::Model;
 
 /// Parts of a line in order. Up to two of them need no memory.
@@ -35,9 +34,8 @@ impl Spans {
     }
 
     // Puts a part at the end, if it isn't empty.
-    fn push(&mut self, at: u32, len: u32) -> Result<(), Fault>
+    fn push(&mut self, at: u32, len: u32) -> Result<(), AllocError>
         ensures ok { OnOk result (self.new ≡ self.old ++ span at len) }
-        ensures memory { IsOkUnless result memory_fault }
     {
         if len > 0 {
             self.spans.push(Span { at, len })?;
@@ -46,10 +44,9 @@ impl Spans {
     }
 
     // Puts the pieces between the colons of a text at the end. The text stands at a place of the line.
-    pub(crate) fn push_pieces(&mut self, at: usize, text: &[u8]) -> Result<(), Fault>
+    pub(crate) fn push_pieces(&mut self, at: usize, text: &[u8]) -> Result<(), AllocError>
         requires { at + length text.now < 2 ^ 32 }
         ensures ok { OnOk result (self.new ≡ self.old ++ spans_from at 0 text.now) }
-        ensures memory { IsOkUnless result memory_fault }
     {
         let mut start = 0;
         for (i, byte) in text.iter().enumerate() {

@@ -17,8 +17,8 @@ use Rattle.org_inherit.specs.declared.special.HeadingValue.{HeadingValue}
 use Rattle.org_inherit.specs.declared.special.HeadingValue.TheVariants as heading
 use Rattle.org_inherit.specs.declared.special.Special.{Special}
 use Rattle.org_inherit.specs.declared.special.Special.TheVariants as special
-use Rattle.org_stamp.specs.declared.pair.PlanningWord.{PlanningWord}
-use Rattle.org_stamp.specs.declared.pair.PlanningWord.TheVariants.{Scheduled, Deadline, Closed}
+use Rattle.org_stamp.specs.declared.pair.PlanningKeyword.{PlanningKeyword}
+use Rattle.org_stamp.specs.declared.pair.PlanningKeyword.TheVariants.{Scheduled, Deadline, Closed}
 use Rattle.org_stamp.specs.declared.stamp.Stamp.{Stamp}
 
 -- what a name names of a heading's own lines
@@ -52,13 +52,13 @@ priority_value settings text None = priority_text settings.default_priority
 priority_value settings text (Some cookie) = cookie_value (bytes_in text cookie)
 
 -- what planning says under a keyword
-abbrev pub stamp_under : PlanningWord → Planning → Option (Stamp × Span)
+abbrev pub stamp_under : PlanningKeyword → Planning → Option (Stamp × Span)
 stamp_under Scheduled planning = planning.scheduled
 stamp_under Deadline planning = planning.deadline
 stamp_under Closed planning = planning.closed
 
 -- where that stamp stands; of a range the first one
-abbrev pub stamp_span : PlanningWord → Option Planning → Option Span
+abbrev pub stamp_span : PlanningKeyword → Option Planning → Option Span
 stamp_span word planning = option_map (λ s. s.1) (option_and_then (stamp_under word) planning)
 
 -- what a heading's own lines say, of its entry and its head

@@ -1,12 +1,10 @@
 //! The categories of entries.
-ghost use Rattle.std.specs.Prelude.{◌≡◌, ◌<◌, [], ◌++◌, ◌∷◌, Some, length, map, slice_get, IfOk, OnOk, IsOkUnless};
+ghost use Rattle.std.specs.Prelude.{◌≡◌, ◌<◌, [], ◌++◌, ◌∷◌, Some, length, map, slice_get, IfOk, OnOk};
 ghost use Rattle.std.specs.List.{range_with_len};
-ghost use Rattle.org_base.specs.Codes.{memory_fault};
 ghost use Rattle.org_inherit.specs.Category.{category_under};
 
-use org_base::Fault;
 use org_outline::Outline;
-use std::alloc::Global;
+use std::alloc::{AllocError, Global};
 use std::marker::Model;
 
 // The categories of the first entries of an outline, lent; seen as their list.
@@ -25,9 +23,8 @@ impl<'a> Model for Categories<'a> {
 
 impl<'a> Categories<'a> {
     // No categories, with room for so many. Want of memory is its only refusal.
-    pub(crate) fn with_room(alloc: Global, count: usize) -> Result<Categories<'a>, Fault>
+    pub(crate) fn with_room(alloc: Global, count: usize) -> Result<Categories<'a>, AllocError>
         ensures value { IfOk result (λ categories. categories ≡ []) }
-        ensures memory { IsOkUnless result memory_fault }
     {
         let list = Vec::with_capacity(alloc, count)?;
         Ok(Categories { list })
@@ -55,9 +52,8 @@ impl<'a> Categories<'a> {
     }
 
     // Puts one more at the end.
-    pub(crate) fn push(&mut self, category: &'a [u8]) -> Result<(), Fault>
+    pub(crate) fn push(&mut self, category: &'a [u8]) -> Result<(), AllocError>
         ensures ok { OnOk result (self.new ≡ self.old ++ category.now ∷ []) }
-        ensures memory { IsOkUnless result memory_fault }
     {
         self.list.push(category)?;
         Ok(())

@@ -9,7 +9,7 @@ ghost use Rattle.org_inherit.specs.Tags.{with_tag};
 
 use org_base::{Fault, Span, Texts};
 use org_entry::Entry;
-use std::alloc::Global;
+use std::alloc::{AllocError, Global};
 use std::collections::BTreeSet;
 
 // So many tags are compared one by one.
@@ -85,10 +85,9 @@ impl FirstTags {
 }
 
 // Whether the tag comes for the first time. From then on it was seen.
-fn is_new(alloc: Global, seen: &mut BTreeSet<Vec<u8>>, tag: &[u8]) -> Result<bool, Fault>
+fn is_new(alloc: Global, seen: &mut BTreeSet<Vec<u8>>, tag: &[u8]) -> Result<bool, AllocError>
     ensures value { IfOk result (λ yes. yes ≡ not (is_seen seen.old.keys tag.now)) }
     ensures seen { OnOk result ((other : List ℕ) → is_seen seen.new.keys other ≡ (bytes_eq other tag.now || is_seen seen.old.keys other)) }
-    ensures memory { IsOkUnless result memory_fault }
 {
     let tag = Vec::from_slice(alloc, tag)?;
     let is_new = seen.insert(tag)?;
@@ -108,9 +107,8 @@ fn contains(tags: &Texts, tag: &[u8]) -> bool
 }
 
 // These tags as a set.
-fn set_of(alloc: Global, tags: &Texts) -> Result<BTreeSet<Vec<u8>>, Fault>
+fn set_of(alloc: Global, tags: &Texts) -> Result<BTreeSet<Vec<u8>>, AllocError>
     ensures seen { IfOk result (λ set. AreSeen (Some set.keys) tags.now) }
-    ensures memory { IsOkUnless result memory_fault }
 {
     let mut set = BTreeSet::new(alloc);
     for place in 0..tags.count() {

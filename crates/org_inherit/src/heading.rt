@@ -12,21 +12,19 @@ use org_base::{Bytes, Fault, Span};
 use org_entry::Entry;
 use org_head::Head;
 use org_settings::Settings;
-use org_stamp::PlanningWord;
-use std::alloc::Global;
+use org_stamp::PlanningKeyword;
+use std::alloc::{AllocError, Global};
 
 // A copy of bytes.
-pub(crate) fn copied(alloc: Global, bytes: &[u8]) -> Result<Bytes, Fault>
+pub(crate) fn copied(alloc: Global, bytes: &[u8]) -> Result<Bytes, AllocError>
     ensures value { IfOk result (λ copy. copy ≡ bytes.now) }
-    ensures memory { IsOkUnless result memory_fault }
 {
     let bytes = Vec::from_slice(alloc, bytes)?;
     Ok(Bytes::new(bytes))
 }
 
-fn decimal(alloc: Global, number: u32) -> Result<Bytes, Fault>
+fn decimal(alloc: Global, number: u32) -> Result<Bytes, AllocError>
     ensures value { IfOk result (λ text. text ≡ decimal number) }
-    ensures memory { IsOkUnless result memory_fault }
 {
     let text = format!(in alloc; "{number}")?;
     Ok(Bytes::new(text.into_bytes()))
@@ -41,9 +39,8 @@ fn cookie_value(cookie: &[u8]) -> &[u8]
 }
 
 // A letter by its ASCII code, a number in decimal.
-fn priority_text(alloc: Global, number: u8) -> Result<Bytes, Fault>
+fn priority_text(alloc: Global, number: u8) -> Result<Bytes, AllocError>
     ensures value { IfOk result (λ text. text ≡ priority_text number) }
-    ensures memory { IsOkUnless result memory_fault }
 {
     if number > 64 {
         copied(alloc, &[number])
@@ -57,9 +54,8 @@ fn priority_value(
     settings: &Settings,
     entry: &Entry,
     cookie: Option<Span>,
-) -> Result<Bytes, Fault>
+) -> Result<Bytes, AllocError>
     ensures value { IfOk result (λ text. text ≡ priority_value settings.now entry.now.text cookie) }
-    ensures memory { IsOkUnless result memory_fault }
 {
     match cookie {
         Some(cookie) => copied(alloc, cookie_value(entry.part(cookie))),
@@ -68,9 +64,8 @@ fn priority_value(
 }
 
 // A part of an entry's text, if it is there.
-fn part_value(alloc: Global, entry: &Entry, part: Option<Span>) -> Result<Option<Bytes>, Fault>
+fn part_value(alloc: Global, entry: &Entry, part: Option<Span>) -> Result<Option<Bytes>, AllocError>
     ensures value { IfOk result (λ value. value ≡ option_map (bytes_in entry.now.text) part) }
-    ensures memory { IsOkUnless result memory_fault }
 {
     match part {
         Some(span) => Ok(Some(copied(alloc, entry.part(span))?)),
@@ -79,14 +74,14 @@ fn part_value(alloc: Global, entry: &Entry, part: Option<Span>) -> Result<Option
 }
 
 // Where the stamp of a planning keyword stands in the entry's text.
-fn stamp_span(entry: &Entry, word: PlanningWord) -> Option<Span>
+fn stamp_span(entry: &Entry, word: PlanningKeyword) -> Option<Span>
     ensures value { result ≡ stamp_span word entry.now.planning }
 {
     let planning = entry.planning.get()?;
     let stamp = match word {
-        PlanningWord::Scheduled => &planning.scheduled,
-        PlanningWord::Deadline => &planning.deadline,
-        PlanningWord::Closed => &planning.closed,
+        PlanningKeyword::Scheduled => &planning.scheduled,
+        PlanningKeyword::Deadline => &planning.deadline,
+        PlanningKeyword::Closed => &planning.closed,
     };
     let (_, span) = stamp.as_ref()?;
     Some(*span)
@@ -103,15 +98,13 @@ pub(crate) fn heading_value(
     ensures value { IfOk result (λ found. found ≡ heading_value settings.now entry.now head.now value) }
     ensures memory { IsOkUnless result memory_fault }
 {
-    match value {
-        HeadingValue::Keyword => part_value(alloc, entry, head.keyword),
-        HeadingValue::Priority => {
-            let text = priority_value(alloc, settings, entry, head.priority)?;
-            Ok(Some(text))
-        }
-        HeadingValue::Level => Ok(Some(decimal(alloc, head.level)?)),
-        HeadingValue::Title => part_value(alloc, entry, Some(head.title)),
-        HeadingValue::Tags => tags_value(alloc, &parts(alloc, entry, head.tags.as_slice())?),
-        HeadingValue::Stamp(word) => part_value(alloc, entry, stamp_span(entry, word)),
-    }
+    let value = match value {
+        HeadingValue::Keyword => part_value(alloc, entry, head.keyword)?,
+        HeadingValue::Priority => Some(priority_value(alloc, settings, entry, head.priority)?),
+        HeadingValue::Level => Some(decimal(alloc, head.level)?),
+        HeadingValue::Title => part_value(alloc, entry, Some(head.title))?,
+        HeadingValue::Tags => tags_value(alloc, &parts(alloc, entry, head.tags.as_slice())?)?,
+        HeadingValue::Stamp(word) => part_value(alloc, entry, stamp_span(entry, word))?,
+    };
+    Ok(value)
 }

@@ -190,7 +190,7 @@ impl<'a> Inherit<'a> {
         if self.outline.entry(place).head.is_none() {
             return Ok(None);
         }
-        tags_value(self.alloc, &self.all_tags(place)?)
+        Ok(tags_value(self.alloc, &self.all_tags(place)?)?)
     }
 
     // What a heading's own lines say.

@@ -1,11 +1,9 @@
 //! Places of entries, some of them missing.
-ghost use Rattle.std.specs.Prelude.{◌≡◌, ◌<◌, ◌≤◌, ◌^◌, [], ◌++◌, ◌∷◌, length, get_or, None, IfOk, OnOk, IsOkUnless};
-ghost use Rattle.org_base.specs.Codes.{memory_fault};
+ghost use Rattle.std.specs.Prelude.{◌≡◌, ◌<◌, ◌≤◌, ◌^◌, [], ◌++◌, ◌∷◌, length, get_or, None, IfOk, OnOk};
 ghost use Rattle.org_inherit.specs.Places.{at_place};
 ghost use Rattle.org_outline.specs.Places.{behind};
 
-use org_base::Fault;
-use std::alloc::Global;
+use std::alloc::{AllocError, Global};
 use std::marker::Model;
 
 // Places of entries, some of them missing, in order. Each takes one word.
@@ -26,19 +24,17 @@ impl Model for Places {
 
 impl Places {
     // No places, with room for so many. Want of memory is its only refusal.
-    pub(crate) fn with_room(alloc: Global, count: usize) -> Result<Places, Fault>
+    pub(crate) fn with_room(alloc: Global, count: usize) -> Result<Places, AllocError>
         ensures value { IfOk result (λ places. places ≡ []) }
-        ensures memory { IsOkUnless result memory_fault }
     {
         let words = Vec::with_capacity(alloc, count)?;
         Ok(Places { words })
     }
 
     // Puts one more at the end. Want of memory is its only refusal.
-    pub(crate) fn push(&mut self, place: Option<usize>) -> Result<(), Fault>
+    pub(crate) fn push(&mut self, place: Option<usize>) -> Result<(), AllocError>
         requires { behind place < 2 ^ 64 }
         ensures ok { OnOk result (self.new ≡ self.old ++ place ∷ []) }
-        ensures memory { IsOkUnless result memory_fault }
     {
         let word = match place {
             None => 0,
@@ -61,9 +57,6 @@ impl Places {
         requires { behind index ≤ length self.now }
         ensures value { result ≡ at_place self.now index }
     {
-        match index {
-            None => None,
-            Some(index) => self.get(index),
-        }
+        self.get(index?)
     }
 }

@@ -2,7 +2,7 @@
 ghost use Rattle.std.specs.Prelude.{◌≡◌};
 
 use org_base::words::same_word;
-use org_stamp::PlanningWord;
+use org_stamp::PlanningKeyword;
 
 // What a special name names (Org manual 9.6, "Special Properties").
 #[derive(Clone, Copy)]
@@ -31,7 +31,7 @@ pub(crate) enum HeadingValue {
     /// `TAGS`: the own tags.
     Tags,
     /// `SCHEDULED`, `DEADLINE`, `CLOSED`: the stamp as it is written; of a range the first one.
-    Stamp(PlanningWord),
+    Stamp(PlanningKeyword),
 }
 
 impl Special {
@@ -71,11 +71,11 @@ impl HeadingValue {
         } else if same_word(name, b"TAGS") {
             Some(HeadingValue::Tags)
         } else if same_word(name, b"SCHEDULED") {
-            Some(HeadingValue::Stamp(PlanningWord::Scheduled))
+            Some(HeadingValue::Stamp(PlanningKeyword::Scheduled))
         } else if same_word(name, b"DEADLINE") {
-            Some(HeadingValue::Stamp(PlanningWord::Deadline))
+            Some(HeadingValue::Stamp(PlanningKeyword::Deadline))
         } else if same_word(name, b"CLOSED") {
-            Some(HeadingValue::Stamp(PlanningWord::Closed))
+            Some(HeadingValue::Stamp(PlanningKeyword::Closed))
         } else {
             None
         }

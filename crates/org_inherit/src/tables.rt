@@ -1,7 +1,6 @@
 //! What the outline says of each entry, by its place.
-ghost use Rattle.std.specs.Prelude.{◌≡◌, length, map, IfOk, IsOkUnless};
+ghost use Rattle.std.specs.Prelude.{◌≡◌, length, map, IfOk};
 ghost use Rattle.std.specs.List.{range_with_len};
-ghost use Rattle.org_base.specs.Codes.{memory_fault};
 ghost use Rattle.org_inherit.specs.Category.{category_under};
 ghost use Rattle.org_inherit.specs.Hidden.{is_hidden};
 ghost use Rattle.org_inherit.specs.Tagged.{all_nearest_tagged};
@@ -10,9 +9,8 @@ use crate::categories::Categories;
 use crate::hidden::is_hidden;
 use crate::places::Places;
 use crate::tagged::nearest_tagged;
-use org_base::Fault;
 use org_outline::Outline;
-use std::alloc::Global;
+use std::alloc::{AllocError, Global};
 
 // Of each entry by its place whether it is hidden, the nearest entry with own tags, itself or an ancestor, and its
 // category.
@@ -29,11 +27,10 @@ impl<'a> Tables<'a> {
         alloc: Global,
         outline: &'a Outline,
         file_category: &'a [u8],
-    ) -> Result<Tables<'a>, Fault>
+    ) -> Result<Tables<'a>, AllocError>
         ensures hidden { IfOk result (λ tables. tables.hidden.items ≡ map (is_hidden outline.now) (range_with_len 0 (length outline.now))) }
         ensures tagged { IfOk result (λ tables. tables.tagged ≡ all_nearest_tagged outline.now) }
         ensures categories { IfOk result (λ tables. tables.categories ≡ map (category_under outline.now file_category.now) (range_with_len 0 (length outline.now))) }
-        ensures memory { IsOkUnless result memory_fault }
     {
         let count = outline.count();
         let mut hidden = Vec::with_capacity(alloc, count)?;

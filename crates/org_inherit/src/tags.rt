@@ -14,7 +14,7 @@ use org_base::{Bytes, Fault, Span, Texts};
 use org_entry::Entry;
 use org_outline::Outline;
 use smallvec::SmallVec;
-use std::alloc::Global;
+use std::alloc::{AllocError, Global};
 
 // Adds those of an entry's own tags that aren't there.
 fn add_own(tags: &mut FirstTags, entry: &Entry) -> Result<(), Fault>
@@ -35,11 +35,10 @@ fn tagged_line(
     outline: &Outline,
     tagged: &Places,
     place: usize,
-) -> Result<SmallVec<usize, 8>, Fault>
+) -> Result<SmallVec<usize, 8>, AllocError>
     requires within { place < length outline.now }
     requires tagged { tagged.now ≡ all_nearest_tagged outline.now }
     ensures value { IfOk result (λ line. line.items ≡ filter (is_tagged_at outline.now) (lineage outline.now place)) }
-    ensures memory { IsOkUnless result memory_fault }
 {
     let mut line = SmallVec::new(alloc);
     let mut next = tagged.get(place);
@@ -90,9 +89,8 @@ pub(crate) fn parts(alloc: Global, entry: &Entry, spans: &[Span]) -> Result<Text
 }
 
 /// Tags as they are written, `:a:b:`; no tags have no text. Want of memory is its only refusal.
-pub fn tags_text(alloc: Global, tags: &Texts) -> Result<Bytes, Fault>
+pub fn tags_text(alloc: Global, tags: &Texts) -> Result<Bytes, AllocError>
     ensures value { IfOk result (λ text. text ≡ tags_text tags.now) }
-    ensures memory { IsOkUnless result memory_fault }
 {
     let mut text = Vec::new(alloc);
     for place in 0..tags.count() {
@@ -102,9 +100,8 @@ pub fn tags_text(alloc: Global, tags: &Texts) -> Result<Bytes, Fault>
 }
 
 // Appends a tag and a colon behind it, and before the first tag one more.
-fn push_tag(text: &mut Vec<u8>, tag: &[u8]) -> Result<(), Fault>
+fn push_tag(text: &mut Vec<u8>, tag: &[u8]) -> Result<(), AllocError>
     ensures ok { OnOk result (text.new.items ≡ with_shown text.old.items tag.now) }
-    ensures memory { IsOkUnless result memory_fault }
 {
     if text.is_empty() {
         text.push(b':')?;
@@ -115,9 +112,8 @@ fn push_tag(text: &mut Vec<u8>, tag: &[u8]) -> Result<(), Fault>
 }
 
 // The text of tags; None where there are none.
-pub(crate) fn tags_value(alloc: Global, tags: &Texts) -> Result<Option<Bytes>, Fault>
+pub(crate) fn tags_value(alloc: Global, tags: &Texts) -> Result<Option<Bytes>, AllocError>
     ensures value { IfOk result (λ value. value ≡ tags_value tags.now) }
-    ensures memory { IsOkUnless result memory_fault }
 {
     if tags.count() == 0 {
         return Ok(None);

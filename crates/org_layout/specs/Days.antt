@@ -20,6 +20,7 @@ abbrev pub end_text : Option ℕ → List ℕ
 end_text None = []
 end_text (Some end) = codes "-" ++ time_text end
 
+-- a start with its end, if there is a start
 abbrev pub times_text : Option ℕ → Option ℕ → List ℕ
 times_text None end = []
 times_text (Some start) end = time_text start ++ end_text end

@@ -32,6 +32,7 @@ title_of text (Some head) = bytes_in text head.title
 abbrev pub title_at : Scope → ℕ → List ℕ
 title_at scope i = get_or (map (λ (e : Entry). title_of e.text e.head) scope.entries) i []
 
+-- the same of a file, by its place
 abbrev pub file_title : List Scope → ℕ → ℕ → List ℕ
 file_title scopes file i = get_or (map (λ (scope : Scope). title_at scope i) scopes) file []
 
@@ -49,6 +50,7 @@ name_text scopes (Heading file i level) = replicate (2 * level) 32 ++ shown (fil
 unfoldable pub table_line : Bool → List Scope → Of → ℕ → ℕ → List ℕ
 table_line with_effort scopes of clock effort = sum_column clock ++ effort_column with_effort effort ++ name_text scopes of ++ codes "\n"
 
+-- the lines of rows
 abbrev pub table_lines : Bool → List Scope → List TableRow → List ℕ
 table_lines with_effort scopes rows = concat (map (λ (row : TableRow). table_line with_effort scopes row.of row.clock row.effort) rows)
 

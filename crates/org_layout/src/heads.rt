@@ -226,5 +226,5 @@ fn write_tagged(
     ensures memory { IsOkUnless result memory_fault }
 {
     let tags = inherit.all_tags(place)?;
-    write_entry(alloc, text, entry, &tags)
+    Ok(write_entry(alloc, text, entry, &tags)?)
 }

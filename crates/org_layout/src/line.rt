@@ -1,5 +1,5 @@
 //! The line of a heading.
-ghost use Rattle.std.specs.Prelude.{◌≡◌, ◌++◌, ◌<◌, length, slice_get, string_bytes, IfOk, OnOk, IsOkUnless, Some};
+ghost use Rattle.std.specs.Prelude.{◌≡◌, ◌++◌, ◌<◌, slice_get, string_bytes, IfOk, OnOk, IsOkUnless, Some};
 ghost use Rattle.org_base.specs.Codes.{memory_fault};
 ghost use Rattle.org_layout.specs.Days.{columns_text};
 ghost use Rattle.org_layout.specs.Lines.{category_column, row_line};

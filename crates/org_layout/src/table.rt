@@ -1,6 +1,7 @@
 //! The text of a clock table.
 ghost use Rattle.std.specs.Prelude.{◌≡◌, ◌<◌, ◌++◌, length, slice_index_or, string_bytes, IfOk, OnOk, OnErr, IsOkUnless};
 ghost use Rattle.org_base.specs.Codes.{memory_fault};
+ghost use Rattle.org_cal.specs.Periods.{days_of};
 ghost use Rattle.org_layout.specs.Tables.{effort_column, file_name, file_title, name_text, step_line, step_lines, sum_column, table_line, table_lines, title_at, title_of};
 
 use crate::column::{push_bytes, push_padded, push_spaces, push_whole};
@@ -23,7 +24,7 @@ pub fn table_text(
     period: &Period,
     rows: &[TableRow],
 ) -> Result<(), Fault>
-    ensures ok { OnOk result (string_bytes out.new ≡ string_bytes out.old ++ step_lines with_effort inherits.now (period.now.first, period.now.last) rows.now) }
+    ensures ok { OnOk result (string_bytes out.new ≡ string_bytes out.old ++ step_lines with_effort inherits.now (days_of period.now) rows.now) }
     ensures err { OnErr result (string_bytes out.new ≡ string_bytes out.old) }
     ensures memory { IsOkUnless result memory_fault }
 {
@@ -39,7 +40,7 @@ fn table_of(
     period: &Period,
     rows: &[TableRow],
 ) -> Result<String, AllocError>
-    ensures value { IfOk result (λ text. string_bytes text ≡ step_lines with_effort inherits.now (period.now.first, period.now.last) rows.now) }
+    ensures value { IfOk result (λ text. string_bytes text ≡ step_lines with_effort inherits.now (days_of period.now) rows.now) }
 {
     let mut text = String::new(alloc);
     push_step(&mut text, period)?;
@@ -82,7 +83,7 @@ fn row_at(rows: &[TableRow], place: usize) -> TableRow
 
 #[tactic(auto, unfolding(crate::specs::Tables::step_line))]
 fn push_step(out: &mut String, period: &Period) -> Result<(), AllocError>
-    ensures ok { OnOk result (string_bytes out.new ≡ string_bytes out.old ++ step_line (period.now.first, period.now.last)) }
+    ensures ok { OnOk result (string_bytes out.new ≡ string_bytes out.old ++ step_line (days_of period.now)) }
 {
     push_date(out, period.first)?;
     out.push_str(" ")?;

@@ -1,4 +1,4 @@
--- What a call of `next` gives.
+-- What a call of `next` gives (profile).
 use Rattle.std.specs.Prelude.{◌≡◌, List, [], ◌∷◌, length, Option, Result, MatchOption, MatchResult, IsTrue, ◌↔◌, false}
 use Rattle.std.specs.Cow.{cow_slice_items, IsBorrowedSlice}
 use Rattle.org_base.specs.Codes.{memory_fault}

@@ -2,7 +2,7 @@
 use Rattle.std.proofs.Common.{◌≡◌, ◌∙◌, ℕ, Bool, true, false, ◌||◌, List, [], ◌∷◌, refl, ap, ap₂, sym}
 use Rattle.std.specs.List.{list_any}
 use Rattle.org_expression.specs.Grammar.{Term, Tag, Found, Compare, Item, item}
-use Rattle.org_match.specs.Asked.{ask_tags, asks_tags, either, item_asks_tags, meets, tag_verdicts, term_meets}
+use Rattle.org_match.specs.Verdicts.{ask_tags, asks_tags, either, item_asks_tags, meets, tag_verdicts, term_meets}
 
 or_left : (a b : Bool) → (a || b) ≡ false → a ≡ false
 or_left true b e = e

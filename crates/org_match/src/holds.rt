@@ -3,33 +3,35 @@ ghost use Rattle.std.specs.Prelude.{◌≡◌, ◌&&◌, true, IfOk, IsOkUnless,
 ghost use Rattle.org_base.specs.Codes.{memory_fault};
 ghost use Rattle.org_match.specs.Holds as spec;
 ghost use Rattle.std.specs.List.{list_any};
-ghost use Rattle.org_match.specs.Asked.{ask_tags, either, meets, tag_verdicts};
+ghost use Rattle.org_match.specs.Verdicts.{ask_tags, either, meets, tag_verdicts};
 ghost use Rattle.org_match.specs.Holds.{tag_items};
 ghost use Rattle.org_match.specs.Built.{built_item_of, built_term_of};
 
-use crate::asked::{Asked, signed};
 use crate::built::{BuiltItem, BuiltTerm, Match};
 use crate::facts::Facts;
+use crate::item_matcher::{ItemMatcher, signed};
+use crate::verdicts::TermVerdicts;
 use org_base::{Fault, Texts};
 use org_cal::Moment;
 use org_expression::{Kind, Link};
 use std::alloc::{AllocError, Global};
+use std::fmt::{self, Debug, Formatter};
 use std::marker::Model;
 
 /// An expression with what searches for its patterns, made once to be asked of many headings.
 #[derive(Drop)]
-pub struct Testing<'a> {
+pub struct Matcher<'a> {
     expression: &'a Match,
-    asked: Vec<Asked<'a>>,
+    asked: Vec<ItemMatcher<'a>>,
     asks_tags: bool,
 }
 
-impl<'a> Model for Testing<'a> {
+impl<'a> Model for Matcher<'a> {
     ghost use Rattle.std.specs.Prelude.{◌≡◌};
     ghost use Rattle.org_expression.specs.Grammar.{Expr};
     ghost use Rattle.org_match.specs.Holds.{tag_items};
     ghost use Rattle.std.specs.List.{list_any};
-    ghost use Rattle.org_match.specs.Asked.{ask_tags, either, meets, tag_verdicts};
+    ghost use Rattle.org_match.specs.Verdicts.{ask_tags, either, meets, tag_verdicts};
     ghost use Rattle.org_match.specs.Holds.{tag_items};
 
     ghost Value = { Expr };
@@ -42,15 +44,24 @@ impl<'a> Model for Testing<'a> {
     } };
 }
 
-impl<'a> Testing<'a> {
+impl Debug for Matcher<'_> {
+    // What searches for patterns has none.
+    fn fmt<W: fmt::Write>(&self, f: &mut Formatter<W>) -> fmt::Result {
+        f.debug_struct("Matcher")
+            .field("expression", self.expression)
+            .finish_non_exhaustive()
+    }
+}
+
+impl<'a> Matcher<'a> {
     /// The expression, with what searches for its patterns. Want of memory is its only refusal.
-    pub fn new(alloc: Global, expression: &'a Match) -> Result<Testing<'a>, Fault>
-        ensures value { IfOk result (λ testing. testing ≡ expression.now) }
+    pub fn new(alloc: Global, expression: &'a Match) -> Result<Matcher<'a>, Fault>
+        ensures value { IfOk result (λ matcher. matcher ≡ expression.now) }
         ensures memory { IsOkUnless result memory_fault }
     {
         let asked = asked_of(alloc, expression.tags.as_slice())?;
         let asks_tags = ask_tags(expression.tags.as_slice());
-        Ok(Testing {
+        Ok(Matcher {
             expression,
             asked,
             asks_tags,
@@ -71,8 +82,8 @@ impl<'a> Testing<'a> {
         alloc: Global,
         before: &[bool],
         tags: &Texts,
-    ) -> Result<Vec<bool>, AllocError>
-        ensures value { IfOk result (λ verdicts. verdicts.items ≡ either before.now (tag_verdicts tags.now (tag_items self.old))) }
+    ) -> Result<TermVerdicts, AllocError>
+        ensures value { IfOk result (λ verdicts. verdicts ≡ either before.now (tag_verdicts tags.now (tag_items self.old))) }
         ensures same { self.new ≡ self.old }
     {
         verdicts_of(alloc, before, tags, self.asked.as_mut_slice())
@@ -109,8 +120,7 @@ impl<'a> Testing<'a> {
         ensures same { self.new ≡ self.old }
     {
         let expression = self.expression;
-        let is_open = facts.keyword().is_some() && !facts.is_finished();
-        if expression.kind == Kind::Open && !is_open {
+        if expression.kind == Kind::Open && !is_open(facts) {
             return Ok(false);
         }
         if expression.kind != Kind::Tags && !todo_holds(facts, expression.todo.as_slice()) {
@@ -122,24 +132,23 @@ impl<'a> Testing<'a> {
 
 impl Match {
     /// Whether the expression holds of a heading at a moment (Org manual 9.6, Matching tags and properties). To ask of many
-    /// headings, make a [`Testing`] of it. Want of memory is its only refusal.
+    /// headings, make a [`Matcher`] of it. Want of memory is its only refusal.
     pub fn test<F: Facts>(&self, alloc: Global, facts: &F, moment: Moment) -> Result<bool, Fault>
         ensures value { IfOk result (λ yes. yes ≡ spec.holds (F.tags facts.now) (F.value facts.now) (F.keyword facts.now) (F.finished facts.now) moment self.now) }
         ensures memory { IsOkUnless result memory_fault }
     {
-        let mut testing = Testing::new(alloc, self)?;
-        testing.test(alloc, facts, &moment)
+        let mut matcher = Matcher::new(alloc, self)?;
+        matcher.test(alloc, facts, &moment)
     }
 }
 
 // The items, each with what searches for its pattern.
-fn asked_of<'a>(alloc: Global, items: &'a [BuiltItem]) -> Result<Vec<Asked<'a>>, Fault>
+fn asked_of<'a>(alloc: Global, items: &'a [BuiltItem]) -> Result<Vec<ItemMatcher<'a>>, AllocError>
     ensures value { IfOk result (λ asked. asked.items ≡ map built_item_of items.now) }
-    ensures memory { IsOkUnless result memory_fault }
 {
     let mut asked = Vec::new(alloc);
     for item in items {
-        asked.push(Asked::new(alloc, item)?)?;
+        asked.push(ItemMatcher::new(alloc, item)?)?;
     }
     Ok(asked)
 }
@@ -161,12 +170,12 @@ fn verdicts_of(
     alloc: Global,
     before: &[bool],
     tags: &Texts,
-    items: &mut [Asked<'_>],
-) -> Result<Vec<bool>, AllocError>
-    ensures value { IfOk result (λ verdicts. verdicts.items ≡ either before.now (tag_verdicts tags.now items.old)) }
+    items: &mut [ItemMatcher<'_>],
+) -> Result<TermVerdicts, AllocError>
+    ensures value { IfOk result (λ verdicts. verdicts ≡ either before.now (tag_verdicts tags.now items.old)) }
     ensures same { items.new ≡ items.old }
 {
-    let mut verdicts = Vec::with_capacity(alloc, items.len())?;
+    let mut verdicts = TermVerdicts::new(alloc);
     for (place, item) in items.iter_mut().enumerate() {
         let is_met = (place < before.len() && before[place]) || item.meets_one(tags);
         verdicts.push(is_met)?;
@@ -192,7 +201,7 @@ fn tags_hold<F: Facts>(
     facts: &F,
     moment: &Moment,
     verdicts: &[bool],
-    items: &mut [Asked<'_>],
+    items: &mut [ItemMatcher<'_>],
 ) -> Result<bool, Fault>
     requires known { verdicts.now ≡ tag_verdicts (F.tags facts.now) items.old }
     ensures value { IfOk result (λ yes. yes ≡ spec.items_hold (spec.tag_term_holds (F.tags facts.now) (F.value facts.now) moment.now) items.old) }
@@ -219,7 +228,7 @@ fn holds_too<F: Facts>(
     is_met: bool,
     moment: &Moment,
     all: bool,
-    item: &mut Asked<'_>,
+    item: &mut ItemMatcher<'_>,
 ) -> Result<bool, Fault>
     requires met { is_met ≡ list_any (meets item.old) (F.tags facts.now) }
     ensures value { IfOk result (λ yes. yes ≡ (all && spec.item_holds (spec.tag_term_holds (F.tags facts.now) (F.value facts.now) moment.now) item.old)) }
@@ -230,6 +239,13 @@ fn holds_too<F: Facts>(
         return Ok(false);
     }
     item.holds(alloc, facts, is_met, *moment)
+}
+
+// Whether a heading has a keyword that isn't done.
+fn is_open<F: Facts>(facts: &F) -> bool
+    ensures value { result ≡ spec.is_open (F.keyword facts.now) (F.finished facts.now) }
+{
+    facts.keyword().is_some() && !facts.is_finished()
 }
 
 // Whether all keywords of some part between bars are the heading's, or aren't behind a minus.

@@ -85,10 +85,8 @@ impl Outline {
         requires { place < length self.now }
         ensures value { result ≡ parent (levels self.now) place }
     {
-        match &self.body {
-            None => None,
-            Some(body) => body.parent(place),
-        }
+        let body = self.body.as_ref()?;
+        body.parent(place)
     }
 
     /// The places of the ancestors, the nearest first: the parent, its parent and so on.

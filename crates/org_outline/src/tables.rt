@@ -34,10 +34,8 @@ impl Tables {
 fn level_of(entry: &Entry) -> Option<u32>
     ensures value { result ≡ level_of entry.now }
 {
-    match &entry.head {
-        None => None,
-        Some(head) => Some(head.level),
-    }
+    let head = entry.head.as_ref()?;
+    Some(head.level)
 }
 
 // The levels of entries.

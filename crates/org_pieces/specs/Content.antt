@@ -1,4 +1,4 @@
--- The bytes of pieces, and where they are cut.
+-- The bytes of pieces, and where they are cut (profile).
 use Rattle.std.specs.Prelude.{◌≡◌, ℕ, Bool, true, false, ◌+◌, ◌-◌, ◌<◌, ◌≤◌, List, [], ◌∷◌, ◌++◌, length, take, drop, nat_lt, if◌then◌else◌, Option, Some, None}
 use Rattle.std.specs.List.{concat, sum_by}
 

@@ -1,4 +1,4 @@
--- Parts of a list of items.
+-- Parts of a list of items (profile).
 use Rattle.std.specs.Prelude.{◌≡◌, ℕ, Bool, ◌+◌, ◌<◌, ◌≤◌, List, [], length, take, drop, slice_index_or, Option, Some, None}
 use Rattle.std.specs.List.{sum_by, count_by, position_or_len}
 use Rattle.std.specs.declared.rc.Rc.{Rc}

@@ -1,5 +1,6 @@
 -- The keywords that a file's setting lines name (Org manual 9.6, Workflow States, Multiple Sets in One File and Fast
 -- Access to TODO States; which words stay, and repeats: profile).
+-- Characters by their codes: 40 (, 41 ).
 use Rattle.std.specs.Prelude.{ℕ, suc, ◌-◌, Bool, true, false, ◌||◌, not, ◌==◌, nat_lt, if◌then◌else◌, List, [], ◌∷◌, ◌++◌, map, length, take, drop, take_while, slice_index, bytes_eq, codes, Option, is_some, position, get_or}
 use Rattle.std.specs.List.{prefix_len}
 use Rattle.org_settings.specs.SettingLines.{has_key, setting_value}
@@ -11,6 +12,7 @@ pub record Keyword : Type 0 where
   pub done : Bool
   pub first : ℕ
 
+-- the word `|`
 abbrev pub is_bar : List ℕ → Bool
 is_bar w = bytes_eq w (codes "|")
 
@@ -47,6 +49,7 @@ with_new ks k = if is_some (keyword_place ks k.word) then ks else ks ++ k ∷ []
 abbrev pub add_word : Bool → ℕ → List Keyword → List ℕ → List Keyword
 add_word done first ks w = if is_named w then with_new ks (record { word = without_parens w; done = done; first = first }) else ks
 
+-- keywords, one after another
 abbrev pub add_words : Bool → ℕ → List Keyword → List (List ℕ) → List Keyword
 add_words done first ks [] = ks
 add_words done first ks (w ∷ ws) = add_words done first (add_word done first ks w) ws
@@ -57,6 +60,7 @@ add_sequence ks ws =
     let n = done_from ws in
     add_words true (length ks) (add_words false (length ks) ks (take n ws)) (drop n ws)
 
+-- a line of `#+TODO`, `#+SEQ_TODO` or `#+TYP_TODO`
 abbrev pub is_keyword_line : List ℕ → Bool
 is_keyword_line line = has_key (codes "TODO") line || (has_key (codes "SEQ_TODO") line || has_key (codes "TYP_TODO") line)
 
@@ -64,10 +68,12 @@ is_keyword_line line = has_key (codes "TODO") line || (has_key (codes "SEQ_TODO"
 abbrev pub add_line : List Keyword → List ℕ → List Keyword
 add_line ks line = if is_keyword_line line then add_sequence ks (words (setting_value line)) else ks
 
+-- the keywords of lines, one after another
 abbrev pub add_lines : List Keyword → List (List ℕ) → List Keyword
 add_lines ks [] = ks
 add_lines ks (line ∷ lines) = add_lines (add_line ks line) lines
 
+-- those of a file that names none
 abbrev pub standard_keywords : List Keyword
 standard_keywords = add_sequence [] (codes "TODO" ∷ codes "DONE" ∷ [])
 

@@ -1,5 +1,6 @@
 -- Key and value of a setting line, and what one line says (Org Syntax, Keywords; Org manual 9.6, Tag Inheritance,
 -- Categories, Property Syntax and Priorities; which line counts of several: profile).
+-- Characters by their codes: 43 +, 58 :.
 use Rattle.std.specs.Prelude.{ℕ, ◌+◌, Bool, ◌&&◌, not, ◌==◌, if◌then◌else◌, List, [], ◌∷◌, length, drop, take_while, get_or, slice_index, codes, Option, Some, None, ◌-◌, take, nat_lt}
 use Rattle.std.specs.List.{prefix_len}
 use Rattle.org_base.specs.Properties.{Given}
@@ -35,6 +36,7 @@ category_in line = if has_key (codes "CATEGORY") line then Some (setting_value l
 abbrev pub default_of_three : List ℕ → List ℕ → List ℕ → Option ℕ
 default_of_three highest lowest default = if is_priority highest && (is_priority lowest && is_priority default) then Some (priority_number default) else None
 
+-- the default among the words of such a line, if there are three
 abbrev pub default_of : List (List ℕ) → Option ℕ
 default_of ws = if length ws == 3 then default_of_three (get_or ws 0 []) (get_or ws 1 []) (get_or ws 2 []) else None
 

@@ -4,12 +4,12 @@
 //! The lines are taken as they are given; which lines of a text are setting lines is left to those who ask.
 #![tactic(auto)]
 
+mod draft;
 mod keywords;
 pub mod laws;
 mod pieces;
 mod priority;
 mod property;
-mod said;
 mod sequence;
 mod setting_line;
 mod settings;

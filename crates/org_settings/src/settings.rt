@@ -6,8 +6,8 @@ ghost use Rattle.org_settings.specs.Keywords.{keyword_place, keyword_done, keywo
 ghost use Rattle.org_settings.specs.Priority.{greatest_priority};
 ghost use Rattle.org_settings.specs.Settings.{settings_of};
 
+use crate::draft::SettingsDraft;
 use crate::keywords::Keywords;
-use crate::said::Said;
 use org_base::{Bytes, Fault, Properties, Texts};
 use std::alloc::Global;
 use std::marker::Model;
@@ -63,11 +63,11 @@ impl Settings {
         ensures value { IfOk result (λ settings. settings ≡ settings_of lines.now) }
         ensures memory { IsOkUnless result memory_fault }
     {
-        let mut said = Said::new(alloc);
+        let mut said = SettingsDraft::new(alloc);
         for place in 0..lines.count() {
             said.add(alloc, lines.get(place))?;
         }
-        Ok(said.settled(alloc)?)
+        Ok(said.ended(alloc)?)
     }
 
     /// The place of a word among the file's keywords, from 0. Letter case counts.

@@ -12,8 +12,8 @@ use Rattle.std.proofs.lemmas.Slice.Eq.{starts_is}
 use Rattle.org_base.specs.Words.{is_space}
 use Rattle.org_cal.proofs.TextLemmas.{chosen}
 use Rattle.org_stamp.specs.declared.pair.Pair.{Pair}
-use Rattle.org_stamp.specs.declared.pair.PlanningWord.{PlanningWord}
-use Rattle.org_stamp.specs.declared.pair.PlanningWord.TheVariants.{Scheduled, Deadline, Closed}
+use Rattle.org_stamp.specs.declared.pair.PlanningKeyword.{PlanningKeyword}
+use Rattle.org_stamp.specs.declared.pair.PlanningKeyword.TheVariants.{Scheduled, Deadline, Closed}
 use Rattle.org_stamp.specs.declared.stamp.Stamp.{Stamp}
 use Rattle.org_stamp.specs.Laws.{PairsAreSpelled, SpansAreStamps}
 use Rattle.org_stamp.specs.Pair.{pair_and, pair_at, pair_of, pairs, pairs_from, past_spaces, word_at}
@@ -28,25 +28,25 @@ use Rattle.org_stamp.proofs.SpelledMarkLemmas.{mapped}
 
 -- a pair that is read at a place
 
-record IsWordAt (bs : List ℕ) (found : PlanningWord × ℕ) : Type 0 where
+record IsWordAt (bs : List ℕ) (found : PlanningKeyword × ℕ) : Type 0 where
   pub len_is : found.1 ≡ length (keyword_text found.0)
   pub text_is : bs ≡ keyword_text found.0 ++ drop found.1 bs
 
-is_word : (bs : List ℕ) (w : PlanningWord) (n : ℕ) (found : PlanningWord × ℕ) → n ≡ length (keyword_text w) → starts_with nat_eq bs (keyword_text w) ≡ true →
-    ◌≡◌ {A = Option (PlanningWord × ℕ)} (Some (w, n)) (Some found) → IsWordAt bs found
+is_word : (bs : List ℕ) (w : PlanningKeyword) (n : ℕ) (found : PlanningKeyword × ℕ) → n ≡ length (keyword_text w) → starts_with nat_eq bs (keyword_text w) ≡ true →
+    ◌≡◌ {A = Option (PlanningKeyword × ℕ)} (Some (w, n)) (Some found) → IsWordAt bs found
 is_word bs w n found len starts same =
     let is : (w, n) ≡ found = cc in
     let spelled = (starts_is Decides-eqb bs (keyword_text w) (starts_with nat_eq bs (keyword_text w)) refl).0 starts in
     subst (IsWordAt bs) is (record { len_is = len; text_is = spelled ∙ ap (λ k. keyword_text w ++ drop k bs) (sym len) })
 
-word_is : (bs : List ℕ) (found : PlanningWord × ℕ) → word_at bs ≡ Some found → IsWordAt bs found
+word_is : (bs : List ℕ) (found : PlanningKeyword × ℕ) → word_at bs ≡ Some found → IsWordAt bs found
 word_is bs found e =
     chosen (starts_with nat_eq bs (codes "SCHEDULED:")) _ _ _ e (λ is same. is_word bs Scheduled 10 found refl is same)
     (λ no e. chosen (starts_with nat_eq bs (codes "DEADLINE:")) _ _ _ e (λ is same. is_word bs Deadline 9 found refl is same)
     (λ no e. chosen (starts_with nat_eq bs (codes "CLOSED:")) _ _ _ e (λ is same. is_word bs Closed 7 found refl is same)
     (λ no e. absurd (cc))))
 
-record IsPairOf (word : PlanningWord) (at : ℕ) (bs : List ℕ) (p : Pair) : Type 0 where
+record IsPairOf (word : PlanningKeyword) (at : ℕ) (bs : List ℕ) (p : Pair) : Type 0 where
   pub single : List ℕ
   pub more : List ℕ
   pub rest : List ℕ
@@ -76,7 +76,7 @@ shorter (suc m) zero bs le = absurd (omega (arith, le))
 shorter (suc m) (suc n) [] le = refl
 shorter (suc m) (suc n) (b ∷ bs) le = ap (λ t. b ∷ t) (shorter m n bs (omega (arith, le)))
 
-pair_read : (word : PlanningWord) (at : ℕ) (bs : List ℕ) (first all : Stamp × ℕ) → single_of bs ≡ Some first → stamp_of bs ≡ Some all →
+pair_read : (word : PlanningKeyword) (at : ℕ) (bs : List ℕ) (first all : Stamp × ℕ) → single_of bs ≡ Some first → stamp_of bs ≡ Some all →
     IsPairOf word at bs (record { word = word; stamp = first.0; at = at; len = first.1; end = at + all.1 })
 pair_read word at bs first all one read =
     let s = single_found bs first.0 first.1 one in
@@ -100,7 +100,7 @@ pair_read word at bs first all one read =
       end_is = ap (λ k. at + k) (sym size);
     }
 
-pair_of_is : (word : PlanningWord) (at : ℕ) (bs : List ℕ) (p : Pair) → pair_of word at bs ≡ Some p → IsPairOf word at bs p
+pair_of_is : (word : PlanningKeyword) (at : ℕ) (bs : List ℕ) (p : Pair) → pair_of word at bs ≡ Some p → IsPairOf word at bs p
 pair_of_is word at bs p e =
     option_and_then_some _ (stamp_of bs) p e (λ all read next.
     mapped _ (single_of bs) p next (λ first one is. subst (IsPairOf word at bs) is (pair_read word at bs first all one read)))
@@ -167,12 +167,12 @@ open_no_space false = refl
 single_open : (single tail : List ℕ) (s : Stamp) → IsSingle single s → NoSpace (single ++ tail)
 single_open single tail s h = subst (λ t. NoSpace (t ++ tail)) (sym h.bytes_is) (open_no_space s.active)
 
-word_open : (w : PlanningWord) (tail : List ℕ) → NoSpace (keyword_text w ++ tail)
+word_open : (w : PlanningKeyword) (tail : List ℕ) → NoSpace (keyword_text w ++ tail)
 word_open Scheduled tail = refl
 word_open Deadline tail = refl
 word_open Closed tail = refl
 
-word_back : (w : PlanningWord) (tail : List ℕ) → word_at (keyword_text w ++ tail) ≡ Some (w, length (keyword_text w))
+word_back : (w : PlanningKeyword) (tail : List ℕ) → word_at (keyword_text w ++ tail) ≡ Some (w, length (keyword_text w))
 word_back Scheduled tail = refl
 word_back Deadline tail = refl
 word_back Closed tail = refl
@@ -215,7 +215,7 @@ pair_back text at p rest h =
     let bs : drop (prefix_len is_space text) text ≡ body = ap (λ k. drop k text) n ∙ (ap (drop (length h.gap)) h.text_is ∙ drop_front h.gap body) in
     let g : prefix_len is_space tail ≡ length h.space = no_gap_follows h.space (stamp ++ rest) h.space_is begins in
     ap (pair_at (at + prefix_len is_space text)) bs
-    ∙ (ap (option_and_then (λ (k : PlanningWord × ℕ). let left = drop k.1 body in pair_of k.0 (at + prefix_len is_space text + (k.1 + prefix_len is_space left)) (past_spaces left))) (word_back p.word tail)
+    ∙ (ap (option_and_then (λ (k : PlanningKeyword × ℕ). let left = drop k.1 body in pair_of k.0 (at + prefix_len is_space text + (k.1 + prefix_len is_space left)) (past_spaces left))) (word_back p.word tail)
     ∙ (ap (λ left. pair_of p.word (at + prefix_len is_space text + (length word + prefix_len is_space left)) (past_spaces left)) (drop_front word tail)
     ∙ (ap (pair_of p.word (at + prefix_len is_space text + (length word + prefix_len is_space tail))) (past h.space (stamp ++ rest) h.space_is begins)
     ∙ pair_of_back p (at + prefix_len is_space text + (length word + prefix_len is_space tail)) h.single h.more rest h.whole h.single_is h.stamp_is h.longest (omega (arith, h.at_is, n, g)) h.len_is h.end_is)))
@@ -251,7 +251,7 @@ first_pair text at p rest h =
     ∙ (ap (λ t. pairs_from t (at + prefix_len is_space text) 0) bs
     ∙ after front rest (at + prefix_len is_space text) p (omega (arith, size, word_long p.word)) (subst NoSpace whole (word_open p.word (h.space ++ (stamp ++ rest)))) read (omega (arith, h.end_is, h.at_is, n, size)))
   where
-    word_long : (w : PlanningWord) → 1 ≤ length (keyword_text w)
+    word_long : (w : PlanningKeyword) → 1 ≤ length (keyword_text w)
     word_long Scheduled = omega arith
     word_long Deadline = omega arith
     word_long Closed = omega arith

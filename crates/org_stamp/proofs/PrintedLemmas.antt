@@ -12,8 +12,8 @@ use Rattle.org_cal.specs.Texts.{time_text, parts_text, date_text, day_name}
 use Rattle.org_cal.proofs.PartLemmas.{date_holds}
 use Rattle.org_cal.proofs.TextLemmas.{day_bounds}
 use Rattle.org_stamp.specs.declared.mark.Delay.{Delay}
-use Rattle.org_stamp.specs.declared.mark.Kind.{Kind}
-use Rattle.org_stamp.specs.declared.mark.Kind.TheVariants.{Plain, Future, Today}
+use Rattle.org_stamp.specs.declared.mark.RepeaterKind.{RepeaterKind}
+use Rattle.org_stamp.specs.declared.mark.RepeaterKind.TheVariants.{Plain, Future, Today}
 use Rattle.org_stamp.specs.declared.mark.Repeater.{Repeater}
 use Rattle.org_stamp.specs.declared.stamp.Stamp.{Stamp}
 use Rattle.org_stamp.specs.CanPrint.{IsRepeater, CanPrint}
@@ -75,7 +75,7 @@ open_limit : (l : Option (ℕ × TimeUnit)) → IfSome l (λ a. a.0 < 10000) →
 open_limit None h = tt
 open_limit (Some a) h = (refl, open_amount a.0 a.1 h)
 
-open_sign : (k : Kind) → Open (sign_text k)
+open_sign : (k : RepeaterKind) → Open (sign_text k)
 open_sign Plain = (refl, tt)
 open_sign Future = (refl, (refl, tt))
 open_sign Today = (refl, (refl, tt))

@@ -1,11 +1,12 @@
 -- Repeaters and delays, by cases on the bytes (Org manual 9.6, Repeated tasks, Deadlines and Scheduling; one to four digits by the profile).
+-- Characters by their codes: 43 +, 45 -, 46 ., 47 /, 48 0.
 use Rattle.std.specs.Prelude.{ℕ, ◌+◌, ◌-◌, ◌*◌, true, false, ◌&&◌, ◌==◌, if◌then◌else◌, List, [], ◌∷◌, Option, Some, None}
 use Rattle.std.specs.Option.{option_and_then, option_map}
 use Rattle.std.specs.Char.{is_ascii_digit}
 use Rattle.org_cal.specs.declared.unit.Unit.{Unit}
 use Rattle.org_cal.specs.declared.unit.Unit.TheVariants.{Hour, Day, Week, Month, Year}
 use Rattle.org_stamp.specs.declared.mark.Delay.{Delay}
-use Rattle.org_stamp.specs.declared.mark.Kind.TheVariants.{Plain, Future, Today}
+use Rattle.org_stamp.specs.declared.mark.RepeaterKind.TheVariants.{Plain, Future, Today}
 use Rattle.org_stamp.specs.declared.mark.Mark.{Mark}
 use Rattle.org_stamp.specs.declared.mark.Mark.TheVariants.{Repeat, Wait}
 use Rattle.org_stamp.specs.declared.mark.Repeater.{Repeater}

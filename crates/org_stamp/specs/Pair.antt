@@ -4,14 +4,14 @@ use Rattle.std.specs.Prelude.{ℕ, zero, suc, ◌+◌, ◌-◌, Bool, true, fals
 use Rattle.std.specs.List.{prefix_len, starts_with}
 use Rattle.std.specs.Option.{option_and_then, option_map}
 use Rattle.org_stamp.specs.declared.pair.Pair.{Pair}
-use Rattle.org_stamp.specs.declared.pair.PlanningWord.{PlanningWord}
-use Rattle.org_stamp.specs.declared.pair.PlanningWord.TheVariants.{Scheduled, Deadline, Closed}
+use Rattle.org_stamp.specs.declared.pair.PlanningKeyword.{PlanningKeyword}
+use Rattle.org_stamp.specs.declared.pair.PlanningKeyword.TheVariants.{Scheduled, Deadline, Closed}
 use Rattle.org_stamp.specs.declared.stamp.Stamp.{Stamp}
 use Rattle.org_stamp.specs.Read.{single_of, stamp_of}
 use Rattle.org_base.specs.Words.{is_space}
 
 -- the keyword at the front, and its length with its colon
-abbrev pub word_at : List ℕ → Option (PlanningWord × ℕ)
+abbrev pub word_at : List ℕ → Option (PlanningKeyword × ℕ)
 word_at bs =
     if starts_with nat_eq bs (codes "SCHEDULED:") then Some (Scheduled, 10)
     else (if starts_with nat_eq bs (codes "DEADLINE:") then Some (Deadline, 9)
@@ -22,7 +22,7 @@ abbrev pub past_spaces : List ℕ → List ℕ
 past_spaces bs = drop (prefix_len is_space bs) bs
 
 -- the pair of a keyword whose stamp begins at the place: the first stamp alone, and the end of the longest
-abbrev pub pair_of : PlanningWord → ℕ → List ℕ → Option Pair
+abbrev pub pair_of : PlanningKeyword → ℕ → List ℕ → Option Pair
 pair_of word at bs =
     option_and_then (λ all. option_map (λ first. record { word = word; stamp = first.0; at = at; len = first.1; end = at + all.1 }) (single_of bs)) (stamp_of bs)
 
@@ -49,6 +49,7 @@ pairs_from (b ∷ bs) at (suc inside) = pairs_from bs (at + 1) inside
 abbrev pub pairs : List ℕ → List Pair
 pairs line = pairs_from line 0 0
 
+-- there is no pair
 abbrev pub is_empty : List Pair → Bool
 is_empty [] = true
 is_empty (p ∷ ps) = false
@@ -57,6 +58,7 @@ is_empty (p ∷ ps) = false
 abbrev pub is_planning : List ℕ → Bool
 is_planning line = not (is_empty (pairs line))
 
+-- the stamp, if it is inactive
 abbrev pub if_inactive : Stamp → Option Stamp
 if_inactive s = if s.active then None else Some s
 
@@ -68,9 +70,11 @@ clock_stamp line =
     then option_and_then (λ found. if_inactive found.0) (stamp_of (past_spaces (drop 6 text)))
     else None
 
+-- there is a stamp
 abbrev pub is_some_stamp : Option Stamp → Bool
 is_some_stamp None = false
 is_some_stamp (Some s) = true
 
+-- the line is a clock line
 abbrev pub is_clock : List ℕ → Bool
 is_clock line = is_some_stamp (clock_stamp line)

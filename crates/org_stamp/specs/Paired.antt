@@ -2,14 +2,14 @@
 -- and that letter case counts: profile).
 use Rattle.std.specs.Prelude.{◌≡◌, ℕ, ◌+◌, ◌≤◌, List, [], ◌∷◌, ◌++◌, length, codes}
 use Rattle.org_stamp.specs.declared.pair.Pair.{Pair}
-use Rattle.org_stamp.specs.declared.pair.PlanningWord.{PlanningWord}
-use Rattle.org_stamp.specs.declared.pair.PlanningWord.TheVariants.{Scheduled, Deadline, Closed}
+use Rattle.org_stamp.specs.declared.pair.PlanningKeyword.{PlanningKeyword}
+use Rattle.org_stamp.specs.declared.pair.PlanningKeyword.TheVariants.{Scheduled, Deadline, Closed}
 use Rattle.org_stamp.specs.declared.stamp.Stamp.{Stamp}
 use Rattle.org_stamp.specs.Spaced.{IsGap}
 use Rattle.org_stamp.specs.Stamp.{IsSingle, IsStamp}
 
 -- a keyword and its colon
-abbrev pub keyword_text : PlanningWord → List ℕ
+abbrev pub keyword_text : PlanningKeyword → List ℕ
 keyword_text Scheduled = codes "SCHEDULED:"
 keyword_text Deadline = codes "DEADLINE:"
 keyword_text Closed = codes "CLOSED:"

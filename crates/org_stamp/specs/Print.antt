@@ -1,12 +1,13 @@
 -- The printed form of a stamp (profile; its parts as in Org manual 9.6, Timestamps).
+-- Characters by their codes: 32 space, 45 -, 47 /.
 use Rattle.std.specs.Prelude.{ℕ, Bool, if◌then◌else◌, List, [], ◌∷◌, ◌++◌, Option, Some, None, codes, decimal}
 use Rattle.org_cal.specs.declared.unit.Unit.{Unit}
 use Rattle.org_cal.specs.declared.unit.Unit.TheVariants.{Hour, Day, Week, Month, Year}
 use Rattle.org_cal.specs.Parts.{weekday_of}
 use Rattle.org_cal.specs.Texts.{date_text, day_name, time_text}
 use Rattle.org_stamp.specs.declared.mark.Delay.{Delay}
-use Rattle.org_stamp.specs.declared.mark.Kind.{Kind}
-use Rattle.org_stamp.specs.declared.mark.Kind.TheVariants.{Plain, Future, Today}
+use Rattle.org_stamp.specs.declared.mark.RepeaterKind.{RepeaterKind}
+use Rattle.org_stamp.specs.declared.mark.RepeaterKind.TheVariants.{Plain, Future, Today}
 use Rattle.org_stamp.specs.declared.mark.Repeater.{Repeater}
 use Rattle.org_stamp.specs.declared.stamp.Stamp.{Stamp}
 use Rattle.org_stamp.specs.Stamp.{open_of, close_of}
@@ -20,7 +21,7 @@ letter Month = 109
 letter Year = 121
 
 -- what a repeater begins with
-abbrev pub sign_text : Kind → List ℕ
+abbrev pub sign_text : RepeaterKind → List ℕ
 sign_text Plain = codes "+"
 sign_text Future = codes "++"
 sign_text Today = codes ".+"

@@ -1,4 +1,6 @@
--- What the readers find at the front of bytes: a stamp and its length. `specs/Stamp` has the grammar itself.
+-- What the readers find at the front of bytes: a stamp and its length (Org manual 9.6, Timestamps). `specs/Stamp` has the
+-- grammar itself.
+-- Characters by their codes: 45 -, 60 <, 91 [.
 use Rattle.std.specs.Prelude.{ℕ, ◌+◌, Bool, true, false, ◌&&◌, ◌==◌, if◌then◌else◌, List, [], ◌∷◌, take, drop, get_or, Option, Some, None, position}
 use Rattle.std.specs.Option.{option_map}
 use Rattle.org_stamp.specs.declared.stamp.Stamp.{Stamp}
@@ -39,6 +41,7 @@ abbrev pub joined_len : Bool → ℕ → Option (Stamp × ℕ) → ℕ
 joined_len active n None = n
 joined_len active n (Some t) = if same_bool active t.0.active then n + 2 + t.1 else n
 
+-- the same, with what follows the first stamp
 abbrev pub ranged_len : Bool → ℕ → List ℕ → ℕ
 ranged_len active n (a ∷ b ∷ rest) = if (a == 45) && (b == 45) then joined_len active n (single_of rest) else n
 ranged_len active n _ = n

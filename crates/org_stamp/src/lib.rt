@@ -16,9 +16,9 @@ mod read;
 mod stamp;
 mod word;
 
-pub use line::{Stamps, stamps_in};
-pub use mark::{Delay, Kind, Repeater};
-pub use pair::{Pair, PlanningWord};
+pub use line::{LineStamps, stamps_in};
+pub use mark::{Delay, Repeater, RepeaterKind};
+pub use pair::{Pair, PlanningKeyword};
 pub use planning::{clock_stamp, is_clock, is_planning, next_pair};
 pub use print::print_stamp;
 pub use read::{read_single, read_stamp};

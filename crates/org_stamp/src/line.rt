@@ -13,14 +13,14 @@ use std::marker::Model;
 
 /// The stamps of a line that are still to come: contracts see their list.
 #[derive(Debug, Drop)]
-pub struct Stamps<'a> {
+pub struct LineStamps<'a> {
     line: &'a [u8],
     at: usize,
     // The first closing bracket from `at` on, or the line's length; or a place before `at`.
     close: usize,
 }
 
-impl<'a> Model for Stamps<'a> {
+impl<'a> Model for LineStamps<'a> {
     ghost use Rattle.std.specs.Prelude.{◌≡◌, ◌+◌, ◌≤◌, List, length, drop};
     ghost use Rattle.std.specs.List.{position_or_len};
     ghost use Rattle.org_stamp.specs.declared.stamp.Found.{Found as AnyFound};
@@ -69,7 +69,7 @@ fn stamp_at(line: &[u8], at: usize, close: usize) -> Option<(Stamp, usize)>
     stamp_before(rest, close - at)
 }
 
-impl<'a> Iterator for Stamps<'a> {
+impl<'a> Iterator for LineStamps<'a> {
     type Item = Found;
 
     ghost next_gives = { YieldsFirst (λ s. s) };
@@ -98,12 +98,12 @@ impl<'a> Iterator for Stamps<'a> {
 
 /// The stamps of the line, from the left: each is the longest at its place, none overlaps another, and each place
 /// where a stamp begins lies in one of them. Their walk is linear in the line and takes no memory.
-pub fn stamps_in(line: &[u8]) -> Stamps<'_>
+pub fn stamps_in(line: &[u8]) -> LineStamps<'_>
     ensures value { result ≡ stamps_of line.now }
     ensures stamps { AreStampsOf line.now result }
 {
     let close = first_close(line);
-    Stamps {
+    LineStamps {
         line,
         at: first_place(line, close),
         close,

@@ -7,7 +7,7 @@ use org_cal::Unit;
 
 /// Where a repeater shifts to when its task is done (Org manual 9.6, Repeated tasks).
 #[derive(Clone, Copy, Debug, PartialEq, Eq)]
-pub enum Kind {
+pub enum RepeaterKind {
     /// `+`: one interval later.
     Plain,
     /// `++`: so many intervals later that it lies in the future.
@@ -19,7 +19,7 @@ pub enum Kind {
 /// A repeater, as `++2w` (Org manual 9.6, Repeated tasks). One that is read has an `n` from 1 to 9999.
 #[derive(Clone, Copy, Debug, PartialEq, Eq)]
 pub struct Repeater {
-    pub kind: Kind,
+    pub kind: RepeaterKind,
     pub n: u16,
     pub unit: Unit,
     /// What stands behind a slash, as in `.+2d/3d`: it is kept and not used (profile).
@@ -46,7 +46,7 @@ pub(crate) enum Mark {
 // What a mark begins with.
 #[derive(Clone, Copy, Debug, PartialEq, Eq)]
 pub(crate) enum Sign {
-    Repeats(Kind),
+    Repeats(RepeaterKind),
     Waits(bool),
 }
 
@@ -99,11 +99,11 @@ fn sign_at(word: &[u8]) -> Option<(Sign, &[u8])>
     ensures value { option_map (λ found. (found.0, found.1.now)) result ≡ spec.sign_at word.now }
 {
     match word {
-        [b'+', b'+', rest @ ..] => Some((Sign::Repeats(Kind::Future), rest)),
-        [b'+', _, ..] => Some((Sign::Repeats(Kind::Plain), &word[1..])),
+        [b'+', b'+', rest @ ..] => Some((Sign::Repeats(RepeaterKind::Future), rest)),
+        [b'+', _, ..] => Some((Sign::Repeats(RepeaterKind::Plain), &word[1..])),
         [b'-', b'-', rest @ ..] => Some((Sign::Waits(true), rest)),
         [b'-', _, ..] => Some((Sign::Waits(false), &word[1..])),
-        [b'.', b'+', rest @ ..] => Some((Sign::Repeats(Kind::Today), rest)),
+        [b'.', b'+', rest @ ..] => Some((Sign::Repeats(RepeaterKind::Today), rest)),
         _ => None,
     }
 }

@@ -4,7 +4,7 @@ use crate::stamp::Stamp;
 
 /// A keyword of a planning line (Org Syntax, Planning).
 #[derive(Clone, Copy, Debug, PartialEq, Eq)]
-pub enum PlanningWord {
+pub enum PlanningKeyword {
     /// `SCHEDULED:`
     Scheduled,
     /// `DEADLINE:`
@@ -16,7 +16,7 @@ pub enum PlanningWord {
 /// A keyword of a planning line with its stamp. Places and lengths are in bytes, from the line's first.
 #[derive(Clone, Copy, Debug, PartialEq, Eq)]
 pub struct Pair {
-    pub word: PlanningWord,
+    pub word: PlanningKeyword,
     /// The stamp; of a range the first one alone.
     pub stamp: Stamp,
     /// Where the stamp begins.

@@ -4,22 +4,22 @@ ghost use Rattle.std.specs.List.{prefix_len};
 ghost use Rattle.org_base.specs.Words.{is_space};
 ghost use Rattle.org_stamp.specs.Pair as spec;
 
-use crate::pair::{Pair, PlanningWord};
+use crate::pair::{Pair, PlanningKeyword};
 use crate::read::{ranged_len, single_of, stamp_of};
 use crate::stamp::Stamp;
 use crate::word::leading_spaces;
 
 // The keyword at the front, and its length with its colon.
-fn word_at(bytes: &[u8]) -> Option<(PlanningWord, usize)>
+fn word_at(bytes: &[u8]) -> Option<(PlanningKeyword, usize)>
     ensures value { result ≡ spec.word_at bytes.now }
     ensures bound { IfSome result (λ found. (0 < found.1) × (found.1 ≤ length bytes.now)) }
 {
     if bytes.starts_with(b"SCHEDULED:") {
-        Some((PlanningWord::Scheduled, 10))
+        Some((PlanningKeyword::Scheduled, 10))
     } else if bytes.starts_with(b"DEADLINE:") {
-        Some((PlanningWord::Deadline, 9))
+        Some((PlanningKeyword::Deadline, 9))
     } else if bytes.starts_with(b"CLOSED:") {
-        Some((PlanningWord::Closed, 7))
+        Some((PlanningKeyword::Closed, 7))
     } else {
         None
     }
@@ -36,7 +36,7 @@ fn past_spaces(bytes: &[u8]) -> (usize, &[u8])
 }
 
 // The pair of a keyword whose stamp begins at the place.
-fn pair_of(word: PlanningWord, at: usize, bytes: &[u8]) -> Option<Pair>
+fn pair_of(word: PlanningKeyword, at: usize, bytes: &[u8]) -> Option<Pair>
     requires { at + length bytes.now < 2 ^ 63 }
     ensures value { result ≡ spec.pair_of word at bytes.now }
     ensures bound { IfSome result (λ p. (at ≤ p.end) × (p.end ≤ at + length bytes.now) × (p.at + p.len ≤ at + length bytes.now)) }

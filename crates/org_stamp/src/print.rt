@@ -5,7 +5,7 @@ ghost use Rattle.org_stamp.specs.Print as spec;
 ghost use Rattle.org_stamp.specs.Read.{stamp_of};
 ghost use Rattle.org_stamp.specs.Stamp.{IsStamp, close_of, open_of};
 
-use crate::mark::{Delay, Kind, Repeater};
+use crate::mark::{Delay, Repeater, RepeaterKind};
 use crate::stamp::Stamp;
 use org_base::Fault;
 use org_cal::{Day, TimeOfDay, Unit, day_name, push_date, push_time};
@@ -57,9 +57,9 @@ fn push_repeater(out: &mut String, repeater: Option<Repeater>) -> Result<(), All
         return Ok(());
     };
     out.push_str(match found.kind {
-        Kind::Plain => " +",
-        Kind::Future => " ++",
-        Kind::Today => " .+",
+        RepeaterKind::Plain => " +",
+        RepeaterKind::Future => " ++",
+        RepeaterKind::Today => " .+",
     })?;
     push_amount(out, found.n, found.unit)?;
     if let Some((n, unit)) = found.limit {

@@ -1,4 +1,4 @@
--- Laws of sums.
+-- Laws of sums (Org manual 9.6, The clock table; Effort Estimates).
 use Rattle.std.specs.Prelude.{◌≡◌, ℕ, ◌+◌, ◌*◌, ◌<◌, ◌≤◌, Bool, List, length}
 use Rattle.std.specs.List.{sum_by}
 use Rattle.org_cal.specs.Pieces.{AreJoined}

@@ -1,5 +1,6 @@
 //! What is summed.
 ghost use Rattle.std.specs.Prelude.{◌≡◌, ◌<◌, ◌^◌};
+ghost use Rattle.org_cal.specs.Periods.{days_of};
 ghost use Rattle.org_sum.specs.Measures.{amount, clock_minutes, effort_minutes, minutes_of};
 ghost use Rattle.org_sum.specs.Texts.{IsOfCalendar};
 
@@ -41,15 +42,15 @@ impl Measure {
 
 #[tactic(auto, unfolding(crate::specs::Measures::clock_minutes))]
 fn clock_minutes(period: &Period, entry: &Entry) -> u64
-    requires small { clock_minutes (period.now.first, period.now.last) entry.now < 2 ^ 63 }
-    ensures value { result ≡ clock_minutes (period.now.first, period.now.last) entry.now }
+    requires small { clock_minutes (days_of period.now) entry.now < 2 ^ 63 }
+    ensures value { result ≡ clock_minutes (days_of period.now) entry.now }
 {
     minutes_of(period, entry.clocks.as_slice())
 }
 
 fn minutes_of(period: &Period, clocks: &[ClockLine]) -> u64
-    requires small { minutes_of (period.now.first, period.now.last) clocks.now < 2 ^ 63 }
-    ensures value { result ≡ minutes_of (period.now.first, period.now.last) clocks.now }
+    requires small { minutes_of (days_of period.now) clocks.now < 2 ^ 63 }
+    ensures value { result ≡ minutes_of (days_of period.now) clocks.now }
 {
     let mut sum = 0;
     for clock in clocks {

@@ -2,6 +2,7 @@
 ghost use Rattle.std.specs.Prelude.{◌≡◌, ◌+◌, ◌<◌, ◌≤◌, ◌^◌, length, map, IfOk, IsOkUnless};
 ghost use Rattle.std.specs.List.{range_with_len};
 ghost use Rattle.org_base.specs.Codes.{memory_fault};
+ghost use Rattle.org_cal.specs.Periods.{days_of};
 ghost use Rattle.org_sum.specs.Sums.{own, own_at, subtree_sums, sum_below, total, whole_sum};
 ghost use Rattle.org_sum.specs.Measures.{amount, clock_minutes, effort_minutes};
 ghost use Rattle.org_sum.specs.Texts.{AreOfText};
@@ -11,7 +12,7 @@ use org_base::Fault;
 use org_cal::Period;
 use org_entry::Entry;
 use org_outline::Outline;
-use std::alloc::Global;
+use std::alloc::{AllocError, Global};
 
 // What an entry counts.
 fn own_amount(measure: &Measure, entry: &Entry, counts: bool) -> u64
@@ -65,11 +66,10 @@ fn sums_before(
     measure: &Measure,
     outline: &Outline,
     counted: &[bool],
-) -> Result<Vec<u64>, Fault>
+) -> Result<Vec<u64>, AllocError>
     requires count { length counted.now ≡ length outline.now }
     requires small { total (amount measure.now) outline.now < 2 ^ 63 }
     ensures value { IfOk result (λ v. v.items ≡ map (sum_below (own_at (amount measure.now) outline.now counted.now)) (range_with_len 0 (length outline.now + 1))) }
-    ensures memory { IsOkUnless result memory_fault }
 {
     let mut before = Vec::new(alloc);
     let mut sum = 0;
@@ -87,11 +87,10 @@ fn subtree_sums(
     measure: &Measure,
     outline: &Outline,
     counted: &[bool],
-) -> Result<Vec<u64>, Fault>
+) -> Result<Vec<u64>, AllocError>
     requires count { length counted.now ≡ length outline.now }
     requires small { total (amount measure.now) outline.now < 2 ^ 63 }
     ensures value { IfOk result (λ v. v.items ≡ subtree_sums (amount measure.now) outline.now counted.now) }
-    ensures memory { IsOkUnless result memory_fault }
 {
     let before = sums_before(alloc, measure, outline, counted)?;
     let mut sums = Vec::new(alloc);
@@ -111,12 +110,12 @@ pub fn clock_sums(
 ) -> Result<Vec<u64>, Fault>
     requires count { length counted.now ≡ length outline.now }
     requires text { AreOfText outline.now }
-    ensures value { IfOk result (λ sums. sums.items ≡ subtree_sums (clock_minutes (period.first, period.last)) outline.now counted.now) }
+    ensures value { IfOk result (λ sums. sums.items ≡ subtree_sums (clock_minutes (days_of period)) outline.now counted.now) }
     ensures memory { IsOkUnless result memory_fault }
 {
     let measure = Measure::Clocks(period);
     measure.is_of_calendar();
-    subtree_sums(alloc, &measure, outline, counted)
+    Ok(subtree_sums(alloc, &measure, outline, counted)?)
 }
 
 /// The effort sum of each entry, in minutes: the efforts of all headings of its subtree that count (Org manual 9.6, "Effort
@@ -129,5 +128,5 @@ pub fn effort_sums(alloc: Global, outline: &Outline, counted: &[bool]) -> Result
 {
     let measure = Measure::Efforts;
     measure.is_of_calendar();
-    subtree_sums(alloc, &measure, outline, counted)
+    Ok(subtree_sums(alloc, &measure, outline, counted)?)
 }

@@ -4,7 +4,7 @@ ghost use Rattle.std.specs.Option.{option_map};
 
 use org_base::{Bytes, Code, Fault, Texts};
 use org_cal::Moment;
-use org_match::{Facts, Match, Testing};
+use org_match::{Facts, Match, Matcher};
 use std::alloc::Global;
 use std::test::Fail;
 
@@ -355,7 +355,7 @@ boss 2:00 no";
 
 fn asks(
     alloc: Global,
-    testing: &mut Testing<'_>,
+    matcher: &mut Matcher<'_>,
     row: &'static str,
     moment: &Moment,
 ) -> Result<bool, Fault> {
@@ -366,14 +366,14 @@ fn asks(
         effort: Some(effort),
         ..bare()
     };
-    Ok(testing.test(alloc, &heading, moment)? == (want == "yes"))
+    Ok(matcher.test(alloc, &heading, moment)? == (want == "yes"))
 }
 
 fn wrong_of_many(alloc: Global, expression: &Match) -> Result<Option<&'static str>, Fault> {
     let moment = Moment::read(b"2024-02-28", b"10:30")?;
-    let mut testing = Testing::new(alloc, expression)?;
+    let mut matcher = Matcher::new(alloc, expression)?;
     for row in HEADINGS.lines() {
-        if !asks(alloc, &mut testing, row, &moment)? {
+        if !asks(alloc, &mut matcher, row, &moment)? {
             return Ok(Some(row));
         }
     }

@@ -1,4 +1,4 @@
--- What an input has left, and what reading a command does to it.
+-- What an input has left, and what reading a command does to it (profile).
 use Rattle.std.specs.Prelude.{◌≡◌, ◌<◌, ℕ, ◌+◌, ◌-◌, ◌*◌, true, List, Option, length}
 use Rattle.std.specs.Io.KnownBytes.{prepend_known}
 use Rattle.org_base.specs.Codes.{code_of}

@@ -1,4 +1,5 @@
 -- What a line that was parsed without memory says.
+-- Characters by their codes: 32 space, 124 |.
 use Rattle.std.specs.Prelude.{◌≤◌, List, [], ℕ, Option, None, Some, length}
 use Rattle.std.specs.Option.{option_map}
 use Rattle.org_wire.specs.Stream.{Line, Bad, Plainly, Framed, words_from}

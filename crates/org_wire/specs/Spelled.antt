@@ -1,4 +1,5 @@
 -- How the stream's lines are spelled, without the reader's steps (profile).
+-- Characters by their codes: 32 space, 124 |.
 use Rattle.std.specs.Prelude.{◌≡◌, ◌≢◌, ◌⊎◌, ℕ, ◌<◌, ◌≤◌, true, List, [], ◌∷◌, ◌++◌, Option, None, Some, codes, decimal, length}
 use Rattle.std.specs.List.{All}
 use Rattle.std.specs.Str.{IsUtf8}
@@ -42,6 +43,7 @@ IsNumber n = n ≤ most_number
 abbrev pub seen_parts : Seen → List (List ℕ)
 seen_parts seen = decimal seen.session ∷ (seen.name ∷ (decimal seen.serial ∷ []))
 
+-- its numbers aren't too large, and its name is one
 abbrev pub IsSeen : Seen → Type 0
 IsSeen seen = IsNumber seen.session × IsName seen.name × IsNumber seen.serial
 

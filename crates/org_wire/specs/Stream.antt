@@ -1,4 +1,5 @@
 -- The commands of a stream of bytes (profile).
+-- Characters by their codes: 10 line feed, 32 space, 48 0, 57 9, 124 |.
 use Rattle.std.specs.Prelude.{◌≡◌, ℕ, ◌+◌, ◌-◌, ◌*◌, List, [], ◌∷◌, Bool, not, true, false, ◌&&◌, ◌==◌, ◌++◌, nat_lt, nat_le, Option, None, Some, IfSome, length, take, drop, codes, if◌then◌else◌}
 use Rattle.std.specs.Io.KnownBytes.{Consumes}
 use Rattle.std.specs.List.{list_all}
@@ -125,6 +126,7 @@ abbrev pub with_rest : Option ℕ → List ℕ → Option (ℕ × List ℕ)
 with_rest None rest = None
 with_rest (Some n) rest = Some (n, rest)
 
+-- the first word as a number, and what follows it, where the text has a space
 abbrev pub first_number : Option lines.Cut → Option (ℕ × List ℕ)
 first_number None = None
 first_number (Some cut) = with_rest (number_of cut.before) cut.after
@@ -134,14 +136,17 @@ abbrev pub seen_serial : ℕ → List ℕ → Option (ℕ × List ℕ) → Optio
 seen_serial session name None = None
 seen_serial session name (Some serial) = Some (record { session = session; name = name; serial = serial.0 }, serial.1)
 
+-- the same from the name on
 abbrev pub seen_name : ℕ → Option lines.Cut → Option (Seen × List ℕ)
 seen_name session None = None
 seen_name session (Some cut) = if is_name cut.before then seen_serial session cut.before (first_number (cut_at 32 cut.after)) else None
 
+-- the same behind the session
 abbrev pub seen_session : Option (ℕ × List ℕ) → Option (Seen × List ℕ)
 seen_session None = None
 seen_session (Some session) = seen_name session.0 (cut_at 32 session.1)
 
+-- the same of a text
 abbrev pub seen_of : List ℕ → Option (Seen × List ℕ)
 seen_of text = seen_session (first_number (cut_at 32 text))
 
@@ -150,10 +155,12 @@ abbrev pub edit_del : Seen → ℕ → Option (ℕ × List ℕ) → Line
 edit_del seen at None = Bad
 edit_del seen at (Some del) = sized (frame.Edit seen at del.0) (number_of del.1)
 
+-- the same from AT on
 abbrev pub edit_at : Seen → Option (ℕ × List ℕ) → Line
 edit_at seen None = Bad
 edit_at seen (Some at) = edit_del seen at.0 (first_number (cut_at 32 at.1))
 
+-- the line behind its first word
 abbrev pub edit_line : Option (Seen × List ℕ) → Line
 edit_line None = Bad
 edit_line (Some seen) = edit_at seen.0 (first_number (cut_at 32 seen.1))
@@ -163,15 +170,17 @@ abbrev pub complete_at : Seen → Option (ℕ × List ℕ) → Line
 complete_at seen None = Bad
 complete_at seen (Some line) = if is_one_word line.1 then Plainly (Complete seen line.0 line.1) else Bad
 
+-- the line behind its first word
 abbrev pub complete_line : Option (Seen × List ℕ) → Line
 complete_line None = Bad
 complete_line (Some seen) = complete_at seen.0 (first_number (cut_at 32 seen.1))
 
--- `pin S` and `unpin S`
+-- `pin S`
 abbrev pub pin_line : Option ℕ → Line
 pin_line None = Bad
 pin_line (Some session) = Plainly (Pin session)
 
+-- `unpin S`
 abbrev pub unpin_line : Option ℕ → Line
 unpin_line None = Bad
 unpin_line (Some session) = Plainly (Unpin session)
@@ -185,6 +194,7 @@ view_words session (Some cut) = if bytes_eq cut.before (codes "todo") then todo_
     else if bytes_eq cut.before (codes "agenda") then agenda_line session (cut_at 32 cut.after)
     else Bad
 
+-- a view that is a word alone, or has words behind it
 abbrev pub view_line : Option ℕ → List ℕ → Line
 view_line session line = if bytes_eq line (codes "todo") then Plainly (Todo session [])
     else if bytes_eq line (codes "match") then Plainly (Match session [])
@@ -275,3 +285,7 @@ IsUnfinished (Refused fault) = ⊥
 -- of known bytes so many were taken that no command is whole in them
 abbrev pub StopsWithin : (List ℕ → Reading) → Option (List ℕ) → Option (List ℕ) → Type 0
 StopsWithin reading old new = IfSome old (λ bytes. (taken : List ℕ) × Consumes (Some bytes) new taken × IsUnfinished (reading taken).next)
+
+-- this was read of known bytes by such a reading, and these are left
+abbrev pub ReadsBy : (List ℕ → Reading) → Option (List ℕ) → Next → Option (List ℕ) → Type 0
+ReadsBy reading old next new = IfSome old (λ bytes. IsRead (reading bytes) next new)

@@ -34,11 +34,12 @@ pub record Serves (command : Command) (old : State) (answer : Reply) (new : Stat
 abbrev pub ServesSurely : step.Command → State → Reply → State → Type 0
 ServesSurely said old answer new = (answer ≡ shown (step.step said old).reply) × (new ≡ (step.step said old).after)
 
--- the reply to a change or a pin, and to a question for a text
+-- the reply to a change or a pin
 abbrev pub told : Result ℕ Fault → Reply
 told (Ok serial) = reply.Serial serial
 told (Err fault) = reply.Refused fault
 
+-- the reply to a question for a text
 abbrev pub told_text : {Y : Type 0} → Result (String Y) Fault → Reply
 told_text (Ok text) = reply.Shown (string_bytes text)
 told_text (Err fault) = reply.Refused fault

@@ -71,12 +71,12 @@ fn keep(bytes: &mut Vec<u8>, has_memory: bool, run: &[u8]) -> bool
 }
 
 impl<'a, R: Read> Input<'a, R> {
-    ghost use Rattle.org_wire.specs.Input.{left, held, ahead, bytes_ahead, CountsNext, NeverStopsForMemory};
+    ghost use Rattle.org_wire.specs.Input.{left, held, ahead, CountsNext, NeverStopsForMemory};
     ghost use Rattle.org_wire.specs.Steps.{MakesReady, CountsReady, ReadyFalls, TakesByte, CountsByte, ByteFalls, ReadsLine, CountsLine, LineFalls};
     ghost use Rattle.org_wire.specs.Steps.{ReadsPayload, CountsPayload, PayloadFalls, StaysAhead};
     ghost use Rattle.org_wire.specs.Devices.{StaysBounded};
     ghost use Rattle.org_wire.specs.declared.command.Frame.{Frame};
-    ghost use Rattle.org_wire.specs.Stream.{IsRead, StopsWithin, after_line, broken, line_of, reading_of, Framed};
+    ghost use Rattle.org_wire.specs.Stream.{ReadsBy, StopsWithin, after_line, broken, line_of, reading_of, Framed};
 
     /// A stream over a reader. Want of memory for a line or for what is read ahead is its only refusal. The reader
     /// isn't called: a call would have to know that none has failed.
@@ -249,8 +249,8 @@ impl<'a, R: Read> Input<'a, R> {
     // The command of a frame, whose payload follows. Without a frame there was no memory for it.
     fn read_frame(&mut self, frame: Option<Frame>, size: u64) -> Next
         requires fresh { self.old.reader.now.failed ≡ 0 }
-        ensures value { (said : Frame) → IfSome frame (λ f. f ≡ said) → IfSome (left R.remaining self.old) (λ bytes.
-            IsRead (after_line (Framed said size) bytes) result (left R.remaining self.new)) }
+        ensures value { (said : Frame) → IfSome frame (λ f. f ≡ said) →
+            ReadsBy (after_line (Framed said size)) (left R.remaining self.old) result (left R.remaining self.new) }
         ensures failed { (said : Frame) → result ≡ broken →
             StopsWithin (after_line (Framed said size)) (left R.remaining self.old) (held R.remaining self.new) }
         ensures counted { CountsNext result self.old.reader.now self.new.reader.now }
@@ -276,8 +276,7 @@ impl<'a, R: Read> Input<'a, R> {
     // The command of the line that was read, with its payload.
     pub(crate) fn read_whole(&mut self) -> Next
         requires fresh { self.old.reader.now.failed ≡ 0 }
-        ensures value { IfSome (left R.remaining self.old) (λ bytes.
-            IsRead (after_line (line_of self.old.line) bytes) result (left R.remaining self.new)) }
+        ensures value { ReadsBy (after_line (line_of self.old.line)) (left R.remaining self.old) result (left R.remaining self.new) }
         ensures failed { result ≡ broken → StopsWithin (after_line (line_of self.old.line)) (left R.remaining self.old) (held R.remaining self.new) }
         ensures counted { CountsNext result self.old.reader.now self.new.reader.now }
         ensures falls { StaysAhead result (ahead self.old) (ahead self.new) }

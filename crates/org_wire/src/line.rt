@@ -1,10 +1,8 @@
 //! Room for one command line.
-ghost use Rattle.std.specs.Prelude.{◌≡◌, ◌∷◌, ◌++◌, [], ◌<◌, ◌≤◌, length, IfOk, IsOkUnless, nat_le};
-ghost use Rattle.org_base.specs.Codes.{memory_fault};
+ghost use Rattle.std.specs.Prelude.{◌≡◌, ◌∷◌, ◌++◌, [], ◌<◌, ◌≤◌, length, IfOk, nat_le};
 ghost use Rattle.org_wire.specs.Lines.{longest};
 
-use org_base::Fault;
-use std::alloc::Global;
+use std::alloc::{AllocError, Global};
 use std::marker::Model;
 
 // The most bytes that a command line may have before its LF.
@@ -30,9 +28,8 @@ impl Model for LineBuffer {
 
 impl LineBuffer {
     // An empty line. Want of memory is its only refusal.
-    pub(crate) fn new(alloc: Global) -> Result<LineBuffer, Fault>
+    pub(crate) fn new(alloc: Global) -> Result<LineBuffer, AllocError>
         ensures value { IfOk result (λ line. line ≡ []) }
-        ensures memory { IsOkUnless result memory_fault }
     {
         let bytes = vec![in alloc; 0; LONGEST]?;
         Ok(LineBuffer { bytes, len: 0 })

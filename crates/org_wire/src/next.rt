@@ -1,8 +1,8 @@
 //! The next command of a stream.
-ghost use Rattle.std.specs.Prelude.{◌≡◌, IfSome};
+ghost use Rattle.std.specs.Prelude.{◌≡◌};
 ghost use Rattle.org_wire.specs.Devices.{StaysBounded};
 ghost use Rattle.org_wire.specs.Input.{left, held, ahead, CountsNext, NextFalls, NeverStopsForMemory};
-ghost use Rattle.org_wire.specs.Stream.{IsRead, StopsWithin, broken, reading_of};
+ghost use Rattle.org_wire.specs.Stream.{ReadsBy, StopsWithin, broken, reading_of};
 
 use crate::command::Next;
 use crate::input::{Input, LineEnd};
@@ -16,8 +16,7 @@ use std::io::Read;
 /// taken before it.
 pub fn read_command<R: Read>(input: &mut Input<'_, R>) -> Next
     requires fresh { input.old.reader.now.failed ≡ 0 }
-    ensures value { IfSome (left R.remaining input.old) (λ bytes.
-        IsRead (reading_of bytes) result (left R.remaining input.new)) }
+    ensures value { ReadsBy reading_of (left R.remaining input.old) result (left R.remaining input.new) }
     ensures failed { result ≡ broken → StopsWithin reading_of (left R.remaining input.old) (held R.remaining input.new) }
     ensures counted { CountsNext result input.old.reader.now input.new.reader.now }
     ensures falls { NextFalls result (ahead input.old) (ahead input.new) }

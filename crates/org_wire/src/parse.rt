@@ -1,5 +1,5 @@
 //! What a line says, read without memory.
-ghost use Rattle.std.specs.Prelude.{◌≡◌, ◌≤◌, length};
+ghost use Rattle.std.specs.Prelude.{◌≡◌, length};
 ghost use Rattle.org_wire.specs.Lines.{cut_at};
 ghost use Rattle.org_wire.specs.Stream.{add_line, agenda_line, at_line, clock_line, complete_line, drop_line, edit_line, first_number, inherit_line, line_of, match_line, number_of, pin_line, pinned_line, seen_of, text_line, todo_line, unpin_line, view_line};
 ghost use Rattle.org_wire.specs.Parsed.{IsWithin, said};

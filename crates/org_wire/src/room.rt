@@ -1,13 +1,11 @@
 //! Bytes that were read and not yet taken.
-ghost use Rattle.std.specs.Prelude.{◌≡◌, ◌∷◌, ◌≤◌, ◌<◌, [], length, drop, IfOk, OnOk, OnErr, IfSome, IfNone, IsOkUnless, true, false};
+ghost use Rattle.std.specs.Prelude.{◌≡◌, ◌∷◌, ◌≤◌, ◌<◌, [], length, drop, IfOk, OnOk, OnErr, IfSome, IfNone, true, false};
 ghost use Rattle.std.specs.Io.KnownBytes.{Consumes, IsAtEnd, Keeps};
 ghost use Rattle.org_base.specs.Counts.{one_more};
-ghost use Rattle.org_base.specs.Codes.{memory_fault};
 ghost use Rattle.org_wire.specs.Devices.{CountsFailure, most_room};
 
 use crate::counted::Counted;
-use org_base::Fault;
-use std::alloc::Global;
+use std::alloc::{AllocError, Global};
 use std::io;
 use std::io::Read;
 use std::marker::Model;
@@ -36,10 +34,9 @@ impl Model for Room {
 
 impl Room {
     // Empty room of so many bytes. Want of memory is its only refusal.
-    pub(crate) fn new(alloc: Global, size: usize) -> Result<Room, Fault>
+    pub(crate) fn new(alloc: Global, size: usize) -> Result<Room, AllocError>
         requires { (0 < size) × (size ≤ most_room) }
         ensures value { IfOk result (λ room. room ≡ []) }
-        ensures memory { IsOkUnless result memory_fault }
     {
         let room = vec![in alloc; 0; size]?;
         Ok(Room {

@@ -22,7 +22,7 @@ loop-place-preserved c =
     let e = c.in_ok-holds.ensures in
     let inv = c.loop-place.invariant in
     record {
-      held = rw e.same (one_more c.loop-place.testing c.args.moment.now scope place entry _ _ _ _ within there (e.value entry there) c.in_ok-push.ensures.items inv.held);
+      held = rw e.same (one_more c.loop-place.matcher c.args.moment.now scope place entry _ _ _ _ within there (e.value entry there) c.in_ok-push.ensures.items inv.held);
       same = e.same ∙ inv.same;
     }
 
@@ -31,4 +31,4 @@ returns-clause-value c =
     let scope = c.args.inherit.now in
     let place = c.loop-place.place in
     let whole : length scope.entries ≤ place = omega (arith, c.count-place-end.ensures.value, ap length c.outline.ensures.value) in
-    all_said c.loop-place.testing c.args.moment.now scope place _ _ whole c.loop-place.invariant.held
+    all_said c.loop-place.matcher c.args.moment.now scope place _ _ whole c.loop-place.invariant.held

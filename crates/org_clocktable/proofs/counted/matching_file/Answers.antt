@@ -9,7 +9,7 @@ new-requires c =
     let outline = c.outline.ensures.value in
     record {
       counted = record {
-        count = ap length c.in_ok-counted.ensures.value ∙ length-holds_of c.args.testing.now c.args.moment.now c.args.inherit.now ∙ sym (ap length outline);
+        count = ap length c.in_ok-counted.ensures.value ∙ length-holds_of c.args.matcher.now c.args.moment.now c.args.inherit.now ∙ sym (ap length outline);
         text = subst (λ (es : List Entry). AreOfText es) (sym outline) c.requires.text;
       };
     }

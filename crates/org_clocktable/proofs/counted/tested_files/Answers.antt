@@ -13,7 +13,7 @@ pub loop-place-preserved : goal.loop-place-preserved
 loop-place-preserved c =
     let inv = c.loop-place.invariant in
     record {
-      files = mapped_more (matching_of c.args.testing.now c.args.moment.now) c.args.inherits.now c.loop-place.place c.get.result.now _ _ _ c.get.ensures.value
+      files = mapped_more (matching_of c.args.matcher.now c.args.moment.now) c.args.inherits.now c.loop-place.place c.get.result.now _ _ _ c.get.ensures.value
           (c.in_ok-file.ensures.value ∙ ap (λ (e : Expr). matching_of e c.args.moment.now c.get.result.now) inv.same) inv.files c.in_ok-push.ensures.items;
       same = c.in_ok-file.ensures.same ∙ inv.same;
     }
@@ -21,4 +21,4 @@ loop-place-preserved c =
 pub returns-clause-value : goal.returns-clause-value
 returns-clause-value c =
     let whole : length c.args.inherits.now ≤ c.loop-place.place = omega (arith, c.count-place-end.ensures.value) in
-    c.loop-place.invariant.files ∙ mapped_all (matching_of c.args.testing.now c.args.moment.now) c.args.inherits.now c.loop-place.place whole
+    c.loop-place.invariant.files ∙ mapped_all (matching_of c.args.matcher.now c.args.moment.now) c.args.inherits.now c.loop-place.place whole

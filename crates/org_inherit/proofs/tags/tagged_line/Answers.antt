@@ -67,18 +67,21 @@ loop-next-preserved c =
           ∙ c.loop-next.invariant.rest;
     }
 
-pub returns-clause-value : goal.returns-clause-value
-returns-clause-value c =
-    let es = c.args.outline.now in
-    let test = is_tagged_at es in
-    let items = c.loop-next.line.items in
-    let n = c.reverse.ensures.len in
-    let m = ap length c.deref_mut.ensures.value in
-    let done : items ≡ filter test (up_from (levels es) (Some c.args.place)) =
-    sym (append-nil items) ∙ ap (λ v. items ++ filter test (up_from (levels es) v)) (sym c.in_default.is) ∙ c.loop-next.invariant.rest in
-    ap (λ v. take (length items) (c.reverse.new.self ++ v)) (drop_all (length c.reverse.new.self) items (omega arith))
-    ∙ ap (take (length items)) (append-nil c.reverse.new.self)
-    ∙ take_all (length items) c.reverse.new.self (omega arith)
-    ∙ c.reverse.ensures.after
-    ∙ ap reverse (c.deref_mut.ensures.value ∙ done)
-    ∙ sym (filter_lineage test es c.args.place)
+pub returns : goal.returns
+returns c =
+    record {
+      value =
+          let es = c.args.outline.now in
+          let test = is_tagged_at es in
+          let items = c.loop-next.line.items in
+          let n = c.reverse.ensures.len in
+          let m = ap length c.deref_mut.ensures.value in
+          let done : items ≡ filter test (up_from (levels es) (Some c.args.place)) =
+          sym (append-nil items) ∙ ap (λ v. items ++ filter test (up_from (levels es) v)) (sym c.in_default.is) ∙ c.loop-next.invariant.rest in
+          ap (λ v. take (length items) (c.reverse.new.self ++ v)) (drop_all (length c.reverse.new.self) items (omega arith))
+          ∙ ap (take (length items)) (append-nil c.reverse.new.self)
+          ∙ take_all (length items) c.reverse.new.self (omega arith)
+          ∙ c.reverse.ensures.after
+          ∙ ap reverse (c.deref_mut.ensures.value ∙ done)
+          ∙ sym (filter_lineage test es c.args.place);
+    }

@@ -1,10 +1,10 @@
 -- The verdicts so far, and those of the items that are left, are all.
 use Rattle.std.proofs.Common.{◌≡◌, ◌++◌, drop}
-use Rattle.org_match.specs.Asked.{either, tag_verdicts}
+use Rattle.org_match.specs.Verdicts.{either, tag_verdicts}
 use Rattle.org_match.proofs.holds.verdicts_of.Given as goal
 
 abbrev pub invariant-loop-place : goal.invariant-loop-place
 invariant-loop-place l = record {
   same : l.items ≡ l.fn.items;
-  all : l.verdicts.items ++ either (drop l.place l.before) (tag_verdicts l.tags (drop l.place l.items)) ≡ either l.before (tag_verdicts l.tags l.items);
+  all : l.verdicts ++ either (drop l.place l.before) (tag_verdicts l.tags (drop l.place l.items)) ≡ either l.before (tag_verdicts l.tags l.items);
 }

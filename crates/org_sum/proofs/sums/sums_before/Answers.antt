@@ -18,9 +18,12 @@ loop-i-preserved c =
       before = c.in_ok-push.ensures.items ∙ (rw (c.loop-i.invariant.before, c.loop-i.invariant.sum) (sym (map-range_with_len_more (sum_below w) 0 c.loop-i.i c.loop-i.i (omega arith))));
     }
 
-pub returns-clause-value : goal.returns-clause-value
-returns-clause-value c =
-    let w = own_at (amount c.args.measure.now) c.args.outline.now c.args.counted.now in
-    let n : c.loop-i.i ≡ length c.args.outline.now = omega arith in
-    c.in_ok-push-2.ensures.items
-    ∙ (rw (c.loop-i.invariant.before, c.loop-i.invariant.sum, n) (sym (map-range_with_len_more (sum_below w) 0 (length c.args.outline.now) (length c.args.outline.now) (omega arith))))
+pub returns : goal.returns
+returns c =
+    record {
+      value =
+          let w = own_at (amount c.args.measure.now) c.args.outline.now c.args.counted.now in
+          let n : c.loop-i.i ≡ length c.args.outline.now = omega arith in
+          c.in_ok-push-2.ensures.items
+          ∙ (rw (c.loop-i.invariant.before, c.loop-i.invariant.sum, n) (sym (map-range_with_len_more (sum_below w) 0 (length c.args.outline.now) (length c.args.outline.now) (omega arith))));
+    }

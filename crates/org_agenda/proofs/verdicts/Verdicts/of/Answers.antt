@@ -1,7 +1,7 @@
 use Rattle.std.proofs.Common.{◌∙◌, ◌++◌, ◌∷◌, [], ap, arith, false, length}
 use Rattle.org_expression.specs.Grammar.{Expr}
 use Rattle.org_inherit.specs.Tags.{own_tags_at}
-use Rattle.org_match.specs.Asked.{ask_tags, either, tag_verdicts}
+use Rattle.org_match.specs.Verdicts.{ask_tags, either, tag_verdicts}
 use Rattle.org_match.specs.Holds.{tag_items}
 use Rattle.org_match.proofs.Untagged.{either_none, verdicts_alike}
 use Rattle.org_outline.specs.Levels.{levels}
@@ -13,7 +13,7 @@ use Rattle.org_agenda.proofs.verdicts.Verdicts.of.Goals as goal
 
 pub returns-then-not-asks_tags-clause-value : goal.returns-then-not-asks_tags-clause-value
 returns-then-not-asks_tags-clause-value c = λ i lt.
-    let items = tag_items c.args.testing.now in
+    let items = tag_items c.args.matcher.now in
     ap (λ (v : VerdictsView). verdicts_at v i) c.new-known.ensures
     ∙ c.in_ok-file.ensures.value ∙ either_none _
     ∙ verdicts_alike _ _ false items (c.if-not-asks_tags.ensures.value ∙ ap (λ (e : Expr). ask_tags (tag_items e)) c.in_ok-file.ensures.same) (λ e. absurd cc)
@@ -24,7 +24,7 @@ loop-place-init c = record {
     file =
         ap (λ (v : VerdictsView). v.file) c.new-known.ensures
         ∙ c.in_ok-file.ensures.value ∙ either_none _
-        ∙ ap (λ tags. tag_verdicts tags (tag_items c.args.testing.now)) (c.file_tags.ensures.value ∙ ap (λ (s : FileSettings). s.file_tags) c.settings.ensures.value);
+        ∙ ap (λ tags. tag_verdicts tags (tag_items c.args.matcher.now)) (c.file_tags.ensures.value ∙ ap (λ (s : FileSettings). s.file_tags) c.settings.ensures.value);
     len = ap (λ (v : VerdictsView). length v.rows) c.new-known.ensures;
     each = λ i lt. absurd (omega arith);
   };
@@ -37,7 +37,7 @@ loop-place-preserved c =
     let place = c.loop-place.place in
     let inv = c.loop-place.invariant in
     record {
-      first = first_more c.args.inherit.now (tag_items c.args.testing.now) known _ place inv.first
+      first = first_more c.args.inherit.now (tag_items c.args.matcher.now) known _ place inv.first
           (c.in_ok-add.ensures.ok ∙ (λ i. record known { rows = known.rows ++ either (verdicts_above known (parent (levels (c.outline-outline.ensures.value i)) place)) (tag_verdicts (own_tags_at (c.outline-outline.ensures.value i) place) (tag_items (inv.same i))) ∷ [] }));
       same = c.in_ok-add.ensures.same ∙ inv.same;
     }

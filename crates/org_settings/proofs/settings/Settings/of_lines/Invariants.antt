@@ -1,5 +1,5 @@
 use Rattle.std.proofs.Common.{◌≡◌, drop}
-use Rattle.org_settings.specs.Said.{nothing_said, with_lines}
+use Rattle.org_settings.specs.Draft.{nothing_said, with_lines}
 use Rattle.org_settings.proofs.settings.Settings.of_lines.Given as goal
 
 -- what was said so far, and what the lines left say

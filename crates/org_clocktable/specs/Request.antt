@@ -1,0 +1,105 @@
+-- What a clock table is asked for (Org manual 9.6, The clock table; which options there are, and how they are written:
+-- profile).
+use Rattle.std.specs.Prelude.{◌≡◌, ◌⊎◌, ℕ, ◌<◌, ◌^◌, Bool, if◌then◌else◌, List, Option, None, Some, chars, drop, length, take, unwrap_or}
+use Rattle.std.specs.Option.{option_and_then, option_map}
+use Rattle.std.specs.Str.{is_utf8}
+use Rattle.org_base.specs.declared.fault.Fault.{Fault}
+use Rattle.org_cal.specs.Blocks.{block_of}
+use Rattle.org_cal.specs.Faults.{option_fault}
+use Rattle.org_cal.specs.declared.steps.Step.{Step}
+use Rattle.org_cal.specs.declared.steps.Step.TheVariants.{Whole}
+use Rattle.org_expression.specs.Grammar.{Expr, Reads}
+use Rattle.org_match.specs.Refusal.{IsRefusal}
+use Rattle.org_clocktable.specs.Options.{options_of, word_len}
+use Rattle.org_clocktable.specs.declared.options.Draft.{Draft}
+
+-- what a table is asked for: the first and the last day, the deepest level that is shown, the file if it is one file alone,
+-- the step, whether efforts are shown, and the expression that headings must meet, written or read
+pub record TableRequest (E : Type 0) : Type 0 where
+  pub days : ℕ × ℕ
+  pub most : ℕ
+  pub file : Option (List ℕ)
+  pub step : Step
+  pub with_effort : Bool
+  pub expression : Option E
+
+-- the word that stands at a place of the text
+abbrev pub word_at : List ℕ → ℕ → List ℕ
+word_at text at = take (word_len (drop at text)) (drop at text)
+
+-- bytes that are text
+abbrev pub as_text : List ℕ → Option (List ℕ)
+as_text bytes = if is_utf8 bytes then Some bytes else None
+
+-- an expression, if there is one; none where it is no text, which doesn't occur in a text
+abbrev pub text_if : Option (List ℕ) → Option (Option (List ℕ))
+text_if None = Some None
+text_if (Some expression) = option_map Some (as_text expression)
+
+-- the expression from a place of the text on, if there is one
+abbrev pub expression_from : List ℕ → Option ℕ → Option (Option (List ℕ))
+expression_from text at = text_if (option_map (λ at. drop at text) at)
+
+-- what options ask for, of their expression, block and level
+abbrev pub asked_in : List ℕ → Draft → Option (List ℕ) → ℕ × ℕ → ℕ → TableRequest (List ℕ)
+asked_in text options expression days most = record {
+  days = days;
+  most = most;
+  file = option_map (word_at text) options.file_at;
+  step = unwrap_or options.step Whole;
+  with_effort = options.effort;
+  expression = expression;
+}
+
+-- the days of the block that they name
+abbrev pub days_in : List ℕ → ℕ → Draft → Option (ℕ × ℕ)
+days_in text today options = option_and_then (λ at. block_of (word_at text at) today) options.block_at
+
+-- what they ask for; none where block or level is missing, or where there is no such block
+abbrev pub asked_by : List ℕ → ℕ → Draft → Option (TableRequest (List ℕ))
+asked_by text today options = option_and_then (λ expression. option_and_then (λ days. option_map (asked_in text options expression days) options.level) (days_in text today options)) (expression_from text options.match_at)
+
+-- what a text asks for; none where it isn't in the grammar of options
+abbrev pub asked_of : List ℕ → ℕ → Option (TableRequest (List ℕ))
+asked_of text today = option_and_then (asked_by text today) (options_of text)
+
+-- an expression is read, if there is one
+abbrev pub IsRead : Option (List ℕ) → Option Expr → Type 0
+IsRead None None = Unit {0}
+IsRead None (Some expr) = ⊥
+IsRead (Some text) None = ⊥
+IsRead (Some text) (Some expr) = Reads (chars text) expr
+
+-- what is asked for, with its expression read
+abbrev pub with_read : TableRequest (List ℕ) → Option Expr → TableRequest Expr
+with_read asked expression = record {
+  days = asked.days;
+  most = asked.most;
+  file = asked.file;
+  step = asked.step;
+  with_effort = asked.with_effort;
+  expression = expression;
+}
+
+-- the text asks for this on the day
+pub record AsksFor (text : List ℕ) (today : ℕ) (table : TableRequest Expr) : Type 0 where
+  pub asked : TableRequest (List ℕ)
+  pub spelled : asked_of text today ≡ Some asked
+  pub read : IsRead asked.expression table.expression
+  pub is : table ≡ with_read asked table.expression
+
+-- an expression is no longer than its refusal can tell
+abbrev pub IfShort : Option (List ℕ) → Type 0
+IfShort None = Unit {0}
+IfShort (Some text) = length text < 2 ^ 32
+
+-- the expression is refused
+abbrev pub IsUnread : Option (List ℕ) → Fault → Type 0
+IsUnread None fault = ⊥
+IsUnread (Some text) fault = IsRefusal (chars text) fault
+
+-- the text is refused: it isn't in the grammar of options, or else its expression is
+abbrev pub IsTableRefusal : List ℕ → ℕ → Fault → Type 0
+IsTableRefusal text today fault =
+    ((asked_of text today ≡ None) × (fault ≡ option_fault))
+    ⊎ ((asked : TableRequest (List ℕ)) × (asked_of text today ≡ Some asked) × IsUnread asked.expression fault)

@@ -1,6 +1,0 @@
-use Rattle.std.proofs.Common.{chars, ap, ◌∙◌}
-use Rattle.std.proofs.lemmas.Str.{chars-nil}
-use Rattle.org_expression.proofs.words.Words.clear.Goals as goal
-
-pub returns : goal.returns
-returns c = record { value = ap chars c.clear.ensures.bytes ∙ chars-nil }
