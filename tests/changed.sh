@@ -76,6 +76,7 @@ step() {
 
 echo "changed: against $base:${code:- no code differs}"
 step "whether each must-fail edit can be applied" . sh tests/edits.sh
+[ -z "$code" ] || step "the layout of the crates that differ" . sh tests/layout.sh $code
 left=""
 stopped=""
 for crate in $all; do

@@ -1,6 +1,7 @@
 #!/bin/sh
 # The whole gate. The last line is 'N passed, M failed', over the checks of `rt ci`, what docs/definitions.md names, the
-# worked streams, and whether each must-fail edit can be applied, which is looked at first since it takes a second.
+# worked streams, and what is looked at first since it takes seconds: whether each must-fail edit can be applied, and each
+# file is in the formatter's layout.
 cd "$(dirname "$0")/.." || exit 2
 work=$(mktemp -d) || exit 2
 trap 'rm -rf "$work"' EXIT
@@ -26,8 +27,9 @@ counted() {
 passed=0
 failed=0
 start=$(date +%s)
-echo "gate: whether each must-fail edit can be applied"
+echo "gate: whether each must-fail edit can be applied, and each file is in the formatter's layout"
 counted edits
+counted layout
 if [ "$failed" -gt 0 ]; then
     echo "gate: nothing else was tried"
     echo "$passed passed, $failed failed"
