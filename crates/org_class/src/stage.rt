@@ -21,19 +21,19 @@ use std::alloc::{AllocError, Global};
 // What may come next in a section.
 #[derive(Drop)]
 pub(crate) enum Stage {
-    /// The section's first line.
+    // The section's first line.
     Start,
-    /// Lines before the first heading, which have been comment lines and blank lines so far.
+    // Lines before the first heading, which have been comment lines and blank lines so far.
     Front,
-    /// The line directly under the heading.
+    // The line directly under the heading.
     UnderHeading,
-    /// The line behind the heading and its planning line, where a drawer may begin.
+    // The line behind the heading and its planning line, where a drawer may begin.
     Below,
-    /// A line of a drawer.
+    // A line of a drawer.
     Drawer,
-    /// Any line behind them.
+    // Any line behind them.
     Body,
-    /// A line of a block of this name.
+    // A line of a block of this name.
     Block(Bytes),
 }
 

@@ -1,7 +1,6 @@
 //! Tags, of equal ones the first.
-ghost use Rattle.std.specs.Prelude.{◌≡◌, ◌<◌, ◌||◌, ℕ, List, [], Some, not, fold, length, map, bytes_eq, IfOk, OnOk, IsOkUnless};
+ghost use Rattle.std.specs.Prelude.{◌≡◌, ◌||◌, ℕ, List, [], Some, not, fold, map, bytes_eq, IfOk, OnOk, IsOkUnless};
 ghost use Rattle.std.specs.List.{list_any};
-ghost use Rattle.std.specs.Option.{option_map};
 ghost use Rattle.org_base.specs.Codes.{memory_fault};
 ghost use Rattle.org_base.specs.Spans.{bytes_in};
 ghost use Rattle.org_inherit.specs.Seen.{is_seen, AreSeen};
@@ -11,24 +10,36 @@ use org_base::{Fault, Span, Texts};
 use org_entry::Entry;
 use std::alloc::{AllocError, Global};
 use std::collections::BTreeSet;
+use std::marker::Model;
 
 // So many tags are compared one by one.
 const FEW: usize = 8;
 
-// Tags, of equal ones the first. A set holds the same tags once they are more than a few; it is ordered, since what tags
-// hash to is the writer's to choose.
+// Tags, of equal ones the first; seen as their list. A set holds the same tags once they are more than a few; it is ordered,
+// since what tags hash to is the writer's to choose.
 #[derive(Drop)]
 pub(crate) struct FirstTags {
     alloc: Global,
     seen: Option<BTreeSet<Vec<u8>>>,
-    pub tags: Texts,
+    tags: Texts,
+}
+
+impl Model for FirstTags {
+    ghost use Rattle.std.specs.Prelude.{ℕ, List};
+    ghost use Rattle.std.specs.Option.{option_map};
+    ghost use Rattle.org_inherit.specs.Seen.{AreSeen};
+
+    ghost Value = { List (List ℕ) };
+
+    ghost view = { λ t. t.tags };
+
+    ghost invariant = { λ t. AreSeen (option_map (λ set. set.keys) t.seen) t.tags };
 }
 
 impl FirstTags {
     // No tags.
     pub(crate) fn new(alloc: Global) -> FirstTags
-        ensures tags { result.tags ≡ [] }
-        ensures seen { AreSeen (option_map (λ set. set.keys) result.seen) result.tags }
+        ensures value { result ≡ [] }
     {
         FirstTags {
             alloc,
@@ -37,21 +48,30 @@ impl FirstTags {
         }
     }
 
-    // Adds a tag, if it isn't there.
+    // The tags.
+    pub(crate) fn into_texts(self) -> Texts
+        ensures value { result ≡ self }
+    {
+        self.tags
+    }
+
+    // Adds a tag, if it isn't there. Where memory is refused the set is gone, and tags are compared one by one from then on.
     fn add(&mut self, tag: &[u8]) -> Result<(), Fault>
-        requires { AreSeen (option_map (λ set. set.keys) self.old.seen) self.old.tags }
-        ensures tags { OnOk result (self.new.tags ≡ with_tag self.old.tags tag.now) }
-        ensures seen { OnOk result (AreSeen (option_map (λ set. set.keys) self.new.seen) self.new.tags) }
+        ensures ok { OnOk result (self.new ≡ with_tag self.old tag.now) }
         ensures memory { IsOkUnless result memory_fault }
     {
-        let is_new = match &mut self.seen {
-            Some(seen) => is_new(self.alloc, seen, tag)?,
-            None => !contains(&self.tags, tag),
-        };
-        if is_new {
-            self.tags.push(tag)?;
-            if self.seen.is_none() && self.tags.count() > FEW {
-                self.seen = Some(set_of(self.alloc, &self.tags)?);
+        match self.seen.take() {
+            Some(mut seen) => {
+                add_seen(self.alloc, &mut seen, &mut self.tags, tag)?;
+                self.seen = Some(seen);
+            }
+            None => {
+                if !contains(&self.tags, tag) {
+                    self.tags.push(tag)?;
+                }
+                if self.tags.count() > FEW {
+                    self.seen = Some(set_of(self.alloc, &self.tags)?);
+                }
             }
         }
         Ok(())
@@ -59,9 +79,7 @@ impl FirstTags {
 
     // Adds those tags that aren't there.
     pub(crate) fn add_all(&mut self, tags: &Texts) -> Result<(), Fault>
-        requires { AreSeen (option_map (λ set. set.keys) self.old.seen) self.old.tags }
-        ensures tags { OnOk result (self.new.tags ≡ fold with_tag self.old.tags tags.now) }
-        ensures seen { OnOk result (AreSeen (option_map (λ set. set.keys) self.new.seen) self.new.tags) }
+        ensures ok { OnOk result (self.new ≡ fold with_tag self.old tags.now) }
         ensures memory { IsOkUnless result memory_fault }
     {
         for place in 0..tags.count() {
@@ -72,9 +90,7 @@ impl FirstTags {
 
     // Adds those tags that aren't there, each a part of an entry's text.
     pub(crate) fn add_parts(&mut self, entry: &Entry, parts: &[Span]) -> Result<(), Fault>
-        requires { AreSeen (option_map (λ set. set.keys) self.old.seen) self.old.tags }
-        ensures tags { OnOk result (self.new.tags ≡ fold with_tag self.old.tags (map (bytes_in entry.now.text) parts.now)) }
-        ensures seen { OnOk result (AreSeen (option_map (λ set. set.keys) self.new.seen) self.new.tags) }
+        ensures ok { OnOk result (self.new ≡ fold with_tag self.old (map (bytes_in entry.now.text) parts.now)) }
         ensures memory { IsOkUnless result memory_fault }
     {
         for span in parts {
@@ -82,6 +98,24 @@ impl FirstTags {
         }
         Ok(())
     }
+}
+
+// Adds a tag to tags and to the set of them, if it isn't there.
+fn add_seen(
+    alloc: Global,
+    seen: &mut BTreeSet<Vec<u8>>,
+    tags: &mut Texts,
+    tag: &[u8],
+) -> Result<(), Fault>
+    requires known { AreSeen (Some seen.old.keys) tags.old }
+    ensures tags { OnOk result (tags.new ≡ with_tag tags.old tag.now) }
+    ensures seen { OnOk result (AreSeen (Some seen.new.keys) tags.new) }
+    ensures memory { IsOkUnless result memory_fault }
+{
+    if is_new(alloc, seen, tag)? {
+        tags.push(tag)?;
+    }
+    Ok(())
 }
 
 // Whether the tag comes for the first time. From then on it was seen.

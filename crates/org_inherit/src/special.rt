@@ -7,30 +7,30 @@ use org_stamp::PlanningKeyword;
 // What a special name names (Org manual 9.6, "Special Properties").
 #[derive(Clone, Copy)]
 pub(crate) enum Special {
-    /// `CATEGORY`: the category.
+    // `CATEGORY`: the category.
     Category,
-    /// `FILE`: the file's name.
+    // `FILE`: the file's name.
     File,
-    /// `ALLTAGS`: all tags of a heading.
+    // `ALLTAGS`: all tags of a heading.
     AllTags,
-    /// What a heading's own lines say.
+    // What a heading's own lines say.
     Own(HeadingValue),
 }
 
 // What a heading's own lines say.
 #[derive(Clone, Copy)]
 pub(crate) enum HeadingValue {
-    /// `TODO`: the keyword.
+    // `TODO`: the keyword.
     Keyword,
-    /// `PRIORITY`: X of the cookie `[#X]`, else the file's default.
+    // `PRIORITY`: X of the cookie `[#X]`, else the file's default.
     Priority,
-    /// `LEVEL`: the number of stars, in decimal.
+    // `LEVEL`: the number of stars, in decimal.
     Level,
-    /// `ITEM`: the title.
+    // `ITEM`: the title.
     Title,
-    /// `TAGS`: the own tags.
+    // `TAGS`: the own tags.
     Tags,
-    /// `SCHEDULED`, `DEADLINE`, `CLOSED`: the stamp as it is written; of a range the first one.
+    // `SCHEDULED`, `DEADLINE`, `CLOSED`: the stamp as it is written; of a range the first one.
     Stamp(PlanningKeyword),
 }
 

@@ -1,10 +1,8 @@
 //! Tags of a heading.
 ghost use Rattle.std.specs.Prelude.{◌≡◌, ◌<◌, ◌++◌, length, fold, map, filter, IfOk, OnOk, IsOkUnless};
 ghost use Rattle.std.specs.List.{flat_map};
-ghost use Rattle.std.specs.Option.{option_map};
 ghost use Rattle.org_base.specs.Codes.{memory_fault};
 ghost use Rattle.org_base.specs.Spans.{bytes_in};
-ghost use Rattle.org_inherit.specs.Seen.{AreSeen};
 ghost use Rattle.org_inherit.specs.Tagged.{all_nearest_tagged, is_tagged_at};
 ghost use Rattle.org_inherit.specs.Tags.{own_tags, own_tags_at, lineage, with_tag, firsts, tags_text, tags_value, with_shown};
 
@@ -18,9 +16,7 @@ use std::alloc::{AllocError, Global};
 
 // Adds those of an entry's own tags that aren't there.
 fn add_own(tags: &mut FirstTags, entry: &Entry) -> Result<(), Fault>
-    requires { AreSeen (option_map (λ set. set.keys) tags.old.seen) tags.old.tags }
-    ensures tags { OnOk result (tags.new.tags ≡ fold with_tag tags.old.tags (own_tags entry.now)) }
-    ensures seen { OnOk result (AreSeen (option_map (λ set. set.keys) tags.new.seen) tags.new.tags) }
+    ensures ok { OnOk result (tags.new ≡ fold with_tag tags.old (own_tags entry.now)) }
     ensures memory { IsOkUnless result memory_fault }
 {
     match &entry.head {
@@ -73,7 +69,7 @@ pub(crate) fn all_tags(
     for source in line.as_slice() {
         add_own(&mut tags, outline.entry(*source))?;
     }
-    Ok(tags.tags)
+    Ok(tags.into_texts())
 }
 
 // Parts of an entry's text, copied.

@@ -1,5 +1,5 @@
 //! What is read of a stream.
-ghost use Rattle.std.specs.Prelude.{◌≡◌, ◌<◌, [], ◌++◌, true, IfOk, IfSome, List, ℕ, IsOkUnless, length};
+ghost use Rattle.std.specs.Prelude.{◌≡◌, ◌<◌, ◌≤◌, [], ◌∷◌, ◌++◌, true, IfOk, IfErr, OnOk, Err, IfSome, List, ℕ, nat_le, IsOkUnless, length};
 ghost use Rattle.std.specs.Io.KnownBytes.{Consumes, Keeps};
 ghost use Rattle.org_base.specs.Codes.{memory_fault};
 
@@ -19,39 +19,22 @@ use std::io::Read;
 // The most reads of a run.
 const MOST_READS: u64 = 1_099_511_627_776;
 
-// Whether bytes are there.
-#[derive(Drop)]
-pub(crate) enum Ready {
-    There,
+// Why nothing more came.
+#[derive(Clone, Copy)]
+pub(crate) enum Stop {
+    // The stream's end.
     End,
-    Failed,
-}
-
-// What came as the next byte.
-#[derive(Drop)]
-pub(crate) enum Byte {
-    Given(u8),
-    End,
+    // A failed read.
     Failed,
 }
 
 // What ended a line.
-#[derive(Drop)]
+#[derive(Clone, Copy)]
 pub(crate) enum LineEnd {
+    // Its LF.
     Whole,
+    // Its LF, behind more bytes than a line may have.
     Long,
-    Cut,
-    Ended,
-    Failed,
-}
-
-// What ended a payload.
-#[derive(Drop)]
-pub(crate) enum Payload {
-    Whole(Bytes),
-    NoMemory,
-    Cut,
-    Failed,
 }
 
 /// A stream over a reader that it lends, with room for a line and for bytes that were read ahead.
@@ -72,8 +55,7 @@ fn keep(bytes: &mut Vec<u8>, has_memory: bool, run: &[u8]) -> bool
 
 impl<'a, R: Read> Input<'a, R> {
     ghost use Rattle.org_wire.specs.Input.{left, held, ahead, CountsNext, NeverStopsForMemory};
-    ghost use Rattle.org_wire.specs.Steps.{MakesReady, CountsReady, ReadyFalls, TakesByte, CountsByte, ByteFalls, ReadsLine, CountsLine, LineFalls};
-    ghost use Rattle.org_wire.specs.Steps.{ReadsPayload, CountsPayload, PayloadFalls, StaysAhead};
+    ghost use Rattle.org_wire.specs.Steps.{CountsCall, ReadsLine, ReadsPayload, StaysAhead, StopsHere};
     ghost use Rattle.org_wire.specs.Devices.{StaysBounded};
     ghost use Rattle.org_wire.specs.declared.command.Frame.{Frame};
     ghost use Rattle.org_wire.specs.Stream.{ReadsBy, StopsWithin, after_line, broken, line_of, reading_of, Framed};
@@ -125,98 +107,91 @@ impl<'a, R: Read> Input<'a, R> {
     }
 
     // Reads where nothing is there.
-    fn make_ready(&mut self) -> Ready
+    fn make_ready(&mut self) -> Result<(), Stop>
         requires fresh { self.old.reader.now.failed ≡ 0 }
-        ensures value { MakesReady result self.new.room (left R.remaining self.old) (left R.remaining self.new) }
-        ensures failed { result ≡ Ready.Failed → Keeps (left R.remaining self.old) (held R.remaining self.new) }
-        ensures counted { CountsReady result self.old.reader.now self.new.reader.now }
-        ensures falls { ReadyFalls result (ahead self.old) (ahead self.new) }
+        ensures there { OnOk result (Keeps (left R.remaining self.old) (left R.remaining self.new) × (0 < length self.new.room)) }
+        ensures stopped { IfErr result (λ stop. StopsHere stop (left R.remaining self.old) (left R.remaining self.new)) }
+        ensures failed { result ≡ Err Stop.Failed → Keeps (left R.remaining self.old) (held R.remaining self.new) }
+        ensures counted { CountsCall result self.old.reader.now self.new.reader.now }
+        ensures falls { OnOk result (ahead self.new ≤ ahead self.old) }
         ensures bounded { StaysBounded self.old.reader.now.calls self.new.reader.now.calls }
         ensures same_reference { self.new.reader.ghost_name ≡ self.old.reader.ghost_name }
         ensures line { self.new.line ≡ self.old.line }
     {
         if !self.room.ready().is_empty() {
-            return Ready::There;
+            return Ok(());
         }
         if self.reader.calls() >= MOST_READS {
-            return Ready::Failed;
+            return Err(Stop::Failed);
         }
         match self.room.fill(self.reader) {
-            Ok(true) => Ready::There,
-            Ok(false) => Ready::End,
-            Err(_) => Ready::Failed,
+            Ok(true) => Ok(()),
+            Ok(false) => Err(Stop::End),
+            Err(_) => Err(Stop::Failed),
         }
     }
 
     // Takes the next byte.
-    fn next_byte(&mut self) -> Byte
+    fn next_byte(&mut self) -> Result<u8, Stop>
         requires fresh { self.old.reader.now.failed ≡ 0 }
-        ensures taken { TakesByte result (left R.remaining self.old) (left R.remaining self.new) }
-        ensures failed { result ≡ Byte.Failed → Keeps (left R.remaining self.old) (held R.remaining self.new) }
-        ensures counted { CountsByte result self.old.reader.now self.new.reader.now }
-        ensures falls { ByteFalls result (ahead self.old) (ahead self.new) }
+        ensures taken { IfOk result (λ byte. Consumes (left R.remaining self.old) (left R.remaining self.new) (byte ∷ [])) }
+        ensures stopped { IfErr result (λ stop. StopsHere stop (left R.remaining self.old) (left R.remaining self.new)) }
+        ensures failed { result ≡ Err Stop.Failed → Keeps (left R.remaining self.old) (held R.remaining self.new) }
+        ensures counted { CountsCall result self.old.reader.now self.new.reader.now }
+        ensures falls { OnOk result (ahead self.new < ahead self.old) }
         ensures bounded { StaysBounded self.old.reader.now.calls self.new.reader.now.calls }
         ensures same_reference { self.new.reader.ghost_name ≡ self.old.reader.ghost_name }
         ensures line { self.new.line ≡ self.old.line }
     {
-        match self.make_ready() {
-            Ready::There => match self.room.take() {
-                Some(byte) => Byte::Given(byte),
-                None => Byte::End,
-            },
-            Ready::End => Byte::End,
-            Ready::Failed => Byte::Failed,
-        }
+        self.make_ready()?;
+        self.room.take().ok_or(Stop::End)
     }
 
-    // Reads up to the next LF, which it takes too, and keeps the line before it. Of a long line the rest is skipped.
-    pub(crate) fn read_line(&mut self) -> LineEnd
+    // Reads up to the next LF, which it takes too, and keeps the line before it. Of a long line the rest is skipped. Where the
+    // stream ends before an LF, what stands before the end is kept as such a line would be.
+    pub(crate) fn read_line(&mut self) -> Result<LineEnd, Stop>
         requires fresh { self.old.reader.now.failed ≡ 0 }
         ensures line { ReadsLine result (left R.remaining self.old) self.new.line (left R.remaining self.new) }
-        ensures failed { result ≡ LineEnd.Failed → StopsWithin reading_of (left R.remaining self.old) (held R.remaining self.new) }
-        ensures counted { CountsLine result self.old.reader.now self.new.reader.now }
-        ensures falls { LineFalls result (ahead self.old) (ahead self.new) }
+        ensures failed { result ≡ Err Stop.Failed → StopsWithin reading_of (left R.remaining self.old) (held R.remaining self.new) }
+        ensures counted { CountsCall result self.old.reader.now self.new.reader.now }
+        ensures falls { OnOk result (ahead self.new < ahead self.old) }
         ensures bounded { StaysBounded self.old.reader.now.calls self.new.reader.now.calls }
         ensures same_reference { self.new.reader.ghost_name ≡ self.old.reader.ghost_name }
     {
         self.line.clear();
         let mut is_long = false;
         'bytes: loop {
-            match self.next_byte() {
-                Byte::Given(b'\n') => {
-                    return if is_long {
-                        LineEnd::Long
-                    } else {
-                        LineEnd::Whole
-                    };
-                }
-                Byte::Given(byte) => {
-                    if self.line.is_full() {
-                        is_long = true;
-                    } else {
-                        self.line.push(byte);
-                    }
-                }
-                Byte::End => {
-                    return if self.line.is_empty() {
-                        LineEnd::Ended
-                    } else {
-                        LineEnd::Cut
-                    };
-                }
-                Byte::Failed => return LineEnd::Failed,
+            let byte = self.next_byte()?;
+            if byte == b'\n' {
+                return Ok(if is_long {
+                    LineEnd::Long
+                } else {
+                    LineEnd::Whole
+                });
+            }
+            if self.line.is_full() {
+                is_long = true;
+            } else {
+                self.line.push(byte);
             }
         }
     }
 
-    // Reads so many bytes, a run at a time. Where they find no memory they are read and thrown away.
-    fn read_payload(&mut self, size: usize) -> Payload
+    // Whether the line that was read last has no byte.
+    pub(crate) fn has_empty_line(&self) -> bool
+        ensures value { result ≡ nat_le (length self.now.line) 0 }
+    {
+        self.line.is_empty()
+    }
+
+    // Reads so many bytes, a run at a time. Where they find no memory they are read and thrown away, and there is no text.
+    fn read_payload(&mut self, size: usize) -> Result<Option<Bytes>, Stop>
         requires fresh { self.old.reader.now.failed ≡ 0 }
         ensures value { ReadsPayload result size (left R.remaining self.old) (left R.remaining self.new) }
-        ensures failed { result ≡ Payload.Failed → (taken : List ℕ) × Consumes (left R.remaining self.old) (held R.remaining self.new) taken
+        ensures failed { result ≡ Err Stop.Failed → (taken : List ℕ) × Consumes (left R.remaining self.old) (held R.remaining self.new) taken
             × (length taken < size) }
-        ensures counted { CountsPayload result self.old.reader.now self.new.reader.now }
-        ensures falls { PayloadFalls result (ahead self.old) (ahead self.new) }
+        ensures counted { CountsCall result self.old.reader.now self.new.reader.now }
+        ensures falls { OnOk result (ahead self.new ≤ ahead self.old) }
         ensures bounded { StaysBounded self.old.reader.now.calls self.new.reader.now.calls }
         ensures same_reference { self.new.reader.ghost_name ≡ self.old.reader.ghost_name }
     {
@@ -227,22 +202,17 @@ impl<'a, R: Read> Input<'a, R> {
             if left == 0 {
                 break;
             }
-            match self.make_ready() {
-                Ready::There => {
-                    let ready = self.room.ready();
-                    let count = ready.len().min(left);
-                    has_memory = keep(&mut bytes, has_memory, &ready[..count]);
-                    self.room.advance(count);
-                    left -= count;
-                }
-                Ready::End => return Payload::Cut,
-                Ready::Failed => return Payload::Failed,
-            }
+            self.make_ready()?;
+            let ready = self.room.ready();
+            let count = ready.len().min(left);
+            has_memory = keep(&mut bytes, has_memory, &ready[..count]);
+            self.room.advance(count);
+            left -= count;
         }
         if has_memory {
-            Payload::Whole(Bytes::new(bytes))
+            Ok(Some(Bytes::new(bytes)))
         } else {
-            Payload::NoMemory
+            Ok(None)
         }
     }
 
@@ -263,13 +233,13 @@ impl<'a, R: Read> Input<'a, R> {
             return Next::Last(Fault::Plain(Code::Size));
         }
         match self.read_payload(size as usize) {
-            Payload::Whole(bytes) => match frame {
+            Ok(Some(bytes)) => match frame {
                 Some(frame) => Next::Given(framed(frame, bytes)),
                 None => Next::Refused(Fault::Plain(Code::Memory)),
             },
-            Payload::NoMemory => Next::Refused(Fault::Plain(Code::Memory)),
-            Payload::Cut => Next::Last(Fault::Plain(Code::Cut)),
-            Payload::Failed => Next::Last(Fault::Plain(Code::Device)),
+            Ok(None) => Next::Refused(Fault::Plain(Code::Memory)),
+            Err(Stop::End) => Next::Last(Fault::Plain(Code::Cut)),
+            Err(Stop::Failed) => Next::Last(Fault::Plain(Code::Device)),
         }
     }
 

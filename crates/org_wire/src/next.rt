@@ -5,7 +5,7 @@ ghost use Rattle.org_wire.specs.Input.{left, held, ahead, CountsNext, NextFalls,
 ghost use Rattle.org_wire.specs.Stream.{ReadsBy, StopsWithin, broken, reading_of};
 
 use crate::command::Next;
-use crate::input::{Input, LineEnd};
+use crate::input::{Input, LineEnd, Stop};
 use org_base::{Code, Fault};
 use std::io::Read;
 
@@ -25,10 +25,10 @@ pub fn read_command<R: Read>(input: &mut Input<'_, R>) -> Next
     ensures same_reference { input.new.reader.ghost_name ≡ input.old.reader.ghost_name }
 {
     match input.read_line() {
-        LineEnd::Ended => Next::Ended,
-        LineEnd::Cut => Next::Last(Fault::Plain(Code::Cut)),
-        LineEnd::Long => Next::Refused(Fault::Plain(Code::Long)),
-        LineEnd::Failed => Next::Last(Fault::Plain(Code::Device)),
-        LineEnd::Whole => input.read_whole(),
+        Ok(LineEnd::Whole) => input.read_whole(),
+        Ok(LineEnd::Long) => Next::Refused(Fault::Plain(Code::Long)),
+        Err(Stop::End) if input.has_empty_line() => Next::Ended,
+        Err(Stop::End) => Next::Last(Fault::Plain(Code::Cut)),
+        Err(Stop::Failed) => Next::Last(Fault::Plain(Code::Device)),
     }
 }

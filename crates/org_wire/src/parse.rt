@@ -12,29 +12,29 @@ use org_cal::Moment;
 // What a line says. A view has a session where it is asked of what that one keeps.
 #[derive(Drop)]
 pub(crate) enum Parsed<'a> {
-    /// No command.
+    // No command.
     Bad,
-    /// The keywords of a TODO list, with one bar between them; None without one.
+    // The keywords of a TODO list, with one bar between them; None without one.
     Todo(Option<u64>, Option<&'a [u8]>),
-    /// The text of an expression.
+    // The text of an expression.
     Match(Option<u64>, &'a str),
-    /// The text of a clock table's options.
+    // The text of a clock table's options.
     Clock(Option<u64>, &'a str),
-    /// A date and a number of days.
+    // A date and a number of days.
     Agenda(Option<u64>, &'a str, u64),
     Drop(&'a str),
-    /// A line and a keyword.
+    // A line and a keyword.
     Complete(SeenWords<'a>, u64, &'a str),
-    /// The names to inherit, with one space between them; None without a name.
+    // The names to inherit, with one space between them; None without a name.
     Inherit(Option<&'a [u8]>),
-    /// A moment, if the words spell one.
+    // A moment, if the words spell one.
     At(Option<Moment>),
     Pin(u64),
     Unpin(u64),
     Text(&'a str),
-    /// A file to add, and how long its text is.
+    // A file to add, and how long its text is.
     Add(&'a str, u64),
-    /// A place, how many bytes are replaced there, and how many come in their stead.
+    // A place, how many bytes are replaced there, and how many come in their stead.
     Edit(SeenWords<'a>, u64, u64, u64),
 }
 

@@ -33,10 +33,7 @@ loop-source-preserved c =
     let p : ℕ = get_or c.as_slice-source-items.result.now k 0 in
     let t = tags_here es p c.entry.result.now (omega (arith, e, h)) in
     let m : own_tags c.entry.result.now ≡ own_tags_at es (get_or tagged k 0) = ap own_tags c.entry.ensures.value ∙ sym t ∙ ap (own_tags_at es) e in
-    record {
-      tags = tags_step c.args.file_tags.now (own_tags_at es) tagged k c.loop-source.tags.tags (own_tags c.entry.result.now) c.add_own.new.tags.tags (omega (arith, n)) c.loop-source.invariant.tags m c.in_ok-add_own.ensures.tags;
-      seen = c.in_ok-add_own.ensures.seen;
-    }
+    tags_step c.args.file_tags.now (own_tags_at es) tagged k c.loop-source.tags (own_tags c.entry.result.now) c.add_own.new.tags (omega (arith, n)) c.loop-source.invariant m c.in_ok-add_own.ensures.ok
 
 pub returns-clause-value : goal.returns-clause-value
 returns-clause-value c =
@@ -46,7 +43,8 @@ returns-clause-value c =
     let k = c.loop-source.source-index in
     let l : c.as_slice-source-items.result.now ≡ tagged = c.as_slice-source-items.ensures ∙ c.in_ok-line.ensures.value in
     let n = ap length l in
-    c.loop-source.invariant.tags
+    c.into_texts.ensures.value
+    ∙ c.loop-source.invariant
     ∙ ap (λ v. fold with_tag [] (file ++ flat_map (own_tags_at es) v)) (take_all k tagged (omega (arith, n, c.loop-source-test.false)))
     ∙ ap (λ v. fold with_tag [] (file ++ v)) (tags_of_tagged es c.args.place)
 
