@@ -1,6 +1,6 @@
 -- Lines that say no more than their stamps, and have none, say nothing.
-use Rattle.std.proofs.Common.{◌≡◌, ℕ, ◌+◌, ◌-◌, ◌<◌, ◌≤◌, Bool, true, false, List, [], ◌∷◌, ◌++◌, length, take, drop, reverse, refl, sym, ap, ◌∙◌, inl, inr, arith, append-nil, length-append, length-drop, map}
-use Rattle.std.specs.Prelude.{◌||◌, get_or}
+use Rattle.std.proofs.Common.{◌≡◌, ℕ, ◌+◌, ◌-◌, ◌<◌, ◌≤◌, true, false, List, [], ◌∷◌, ◌++◌, length, take, drop, reverse, refl, sym, ap, ◌∙◌, inl, inr, arith, append-nil, length-append, length-drop, map}
+use Rattle.std.specs.Prelude.{get_or}
 use Rattle.std.specs.List.{concat, flat_map, list_all, list_any, position_or_len, prefix_len, suffix_len}
 use Rattle.std.proofs.lemmas.Bool.{cases_Bool, and_parts}
 use Rattle.std.proofs.lemmas.List.{drop-drop, drop_more, take-append-drop, reverse-append, reverse-reverse, length-reverse}
