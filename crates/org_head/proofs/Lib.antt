@@ -4,5 +4,6 @@ pub mod Inside
 pub mod SpanLemmas
 pub mod Runs
 pub mod TagPieces
+pub mod PlainTags
 pub mod PartsHold
 pub mod PartsDetermined

@@ -1,5 +1,6 @@
 -- The words that are parts of a heading line (Org Syntax, Headings).
 use Rattle.std.specs.Prelude.{ℕ, ◌-◌, Bool, ◌&&◌, ◌||◌, not, ◌==◌, nat_lt, List, length, drop, slice_index, bytes_eq, codes, chars, is_some}
+use Rattle.std.specs.Char.{is_ascii_alphanumeric}
 use Rattle.std.specs.List.{list_any, list_all, suffix_len}
 use Rattle.std.specs.Str.{is_utf8}
 use Rattle.org_base.specs.Characters.{is_tag_char}
@@ -17,6 +18,10 @@ is_comment_word w = bytes_eq w (codes "COMMENT")
 -- the byte `:`
 abbrev pub is_colon : ℕ → Bool
 is_colon c = c == 58
+
+-- an ASCII character that may stand among tags, as they are written
+abbrev pub is_plain_tag_char : ℕ → Bool
+is_plain_tag_char c = nat_lt c 128 && ((is_ascii_alphanumeric c || (c == 95 || (c == 64 || (c == 35 || c == 37)))) || is_colon c)
 
 -- characters of tags and colons alone
 abbrev pub are_tag_chars : List ℕ → Bool

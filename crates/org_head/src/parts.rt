@@ -1,10 +1,10 @@
 //! The words that are parts of a heading line.
 ghost use Rattle.std.specs.Prelude.{◌≡◌, ◌≤◌, ◌&&◌, ◌||◌, not, length};
-ghost use Rattle.std.specs.List.{list_any, suffix_len};
+ghost use Rattle.std.specs.List.{list_all, list_any, suffix_len};
 ghost use Rattle.std.specs.Str.{is_utf8};
 ghost use Rattle.org_base.specs.Characters.{is_tag_char};
 ghost use Rattle.org_base.specs.Words.{is_letter};
-ghost use Rattle.org_head.specs.Parts.{is_comment_word, is_colon, are_tag_chars, is_tag_word, last_word};
+ghost use Rattle.org_head.specs.Parts.{is_comment_word, is_colon, is_plain_tag_char, are_tag_chars, is_tag_word, last_word};
 
 use org_base::is_tag_char;
 
@@ -34,8 +34,31 @@ fn has_other_than_colons(word: &[u8]) -> bool
     word.iter().any(|b| *b != b':')
 }
 
-// Whether the bytes are UTF-8 and hold only what may stand among tags.
+// Whether the byte is an ASCII character that may stand among tags.
+fn is_plain_tag_char(byte: u8) -> bool
+    ensures value { result ≡ is_plain_tag_char byte }
+{
+    byte.is_ascii()
+        && (byte.is_ascii_alphanumeric()
+            || matches!(byte, b'_' | b'@' | b'#' | b'%')
+            || byte == b':')
+}
+
+fn are_plain_tag_chars(word: &[u8]) -> bool
+    ensures value { result ≡ list_all is_plain_tag_char word.now }
+{
+    word.iter().all(|b| is_plain_tag_char(*b))
+}
+
+// Whether the bytes are UTF-8 and hold only what may stand among tags. ASCII is looked at byte by byte.
 fn is_tag_text(word: &[u8]) -> bool
+    ensures value { result ≡ (is_utf8 word.now && are_tag_chars word.now) }
+{
+    are_plain_tag_chars(word) || is_decoded_tag_text(word)
+}
+
+// The same of any bytes.
+fn is_decoded_tag_text(word: &[u8]) -> bool
     ensures value { result ≡ (is_utf8 word.now && are_tag_chars word.now) }
 {
     match std::str::from_utf8(word) {

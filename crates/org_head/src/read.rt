@@ -1,6 +1,7 @@
 //! Reading a heading line.
 ghost use Rattle.std.specs.Prelude.{◌≡◌, ◌≤◌, ◌+◌, ◌<◌, ◌^◌, length, IfOk, IsOkUnless, IsTrue};
 ghost use Rattle.org_base.specs.Codes.{memory_fault};
+ghost use Rattle.org_base.specs.Words.{first_word};
 ghost use Rattle.org_class.specs.Heading.{begins_heading};
 ghost use Rattle.org_head.specs.HeadParts.{HasParts};
 ghost use Rattle.org_head.specs.Parts.{is_keyword};
@@ -22,33 +23,29 @@ fn is_keyword(settings: &Settings, word: &[u8]) -> bool
     settings.keyword_place(word).is_some()
 }
 
-// The first word of what is left of a line of so many bytes, if it is a part.
-fn first_part(is_part: bool, line_len: usize, rest: &[u8]) -> Option<Span>
+// The first word of what is left of a line of so many bytes, if it is a part; and what is left behind it, if it is, and the
+// gap that follows.
+fn split_part<'a>(
+    is_part: bool,
+    line_len: usize,
+    rest: &'a [u8],
+    word: &[u8],
+) -> (Option<Span>, &'a [u8])
+    requires first { word.now ≡ first_word rest.now }
     requires within { length rest.now ≤ line_len }
     requires size { line_len < 2 ^ 32 }
-    ensures value { result ≡ first_part is_part line_len rest.now }
+    ensures part { result.0 ≡ first_part is_part line_len rest.now }
+    ensures left { result.1.now ≡ behind is_part rest.now }
+    ensures within { length result.1.now ≤ length rest.now }
 {
-    if is_part {
-        Some(Span {
-            at: (line_len - rest.len()) as u32,
-            len: first_word(rest).len() as u32,
-        })
-    } else {
-        None
+    if !is_part {
+        return (None, rest);
     }
-}
-
-// What is left behind it and the gap that follows.
-fn behind(is_part: bool, rest: &[u8]) -> &[u8]
-    ensures within { length result.now ≤ length rest.now }
-    ensures value { result.now ≡ behind is_part rest.now }
-{
-    if is_part {
-        let word = first_word(rest);
-        trim_start(&rest[word.len()..])
-    } else {
-        rest
-    }
+    let part = Span {
+        at: (line_len - rest.len()) as u32,
+        len: word.len() as u32,
+    };
+    (Some(part), trim_start(&rest[word.len()..]))
 }
 
 // How long the title of a text is that begins at a place, and the tags behind it, if its last word is tags.
@@ -76,14 +73,13 @@ fn read_parts(alloc: Global, line: &[u8], settings: &Settings) -> Result<Head, A
     let n = line.len();
     let level = leading_stars(line);
     let words = trim_start(&line[level..]);
-    let has_keyword = is_keyword(settings, first_word(words));
-    let keyword = first_part(has_keyword, n, words);
-    let words = behind(has_keyword, words);
-    let has_cookie = is_cookie(first_word(words));
-    let priority = first_part(has_cookie, n, words);
-    let words = behind(has_cookie, words);
-    let comment = is_comment_word(first_word(words));
-    let left = behind(comment, words);
+    let word = first_word(words);
+    let (keyword, words) = split_part(is_keyword(settings, word), n, words, word);
+    let word = first_word(words);
+    let (priority, words) = split_part(is_cookie(word), n, words, word);
+    let word = first_word(words);
+    let comment = is_comment_word(word);
+    let (_, left) = split_part(comment, n, words, word);
     let at = n - left.len();
     let (title_len, tags) = title_and_tags(alloc, at, trim_end(left))?;
     let title = Span {
