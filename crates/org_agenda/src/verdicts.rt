@@ -1,10 +1,9 @@
 //! What is known of the tags of a file's headings before an expression is asked of them.
-ghost use Rattle.std.specs.Prelude.{◌≡◌, ◌<◌, [], ◌∷◌, ◌++◌, map, length, IfOk, OnOk, IsOkUnless};
+ghost use Rattle.std.specs.Prelude.{◌≡◌, ◌<◌, [], ◌∷◌, ◌++◌, map, get_or, length, IfOk, OnOk, IsOkUnless};
 ghost use Rattle.org_base.specs.Codes.{memory_fault};
-ghost use Rattle.org_agenda.specs.Verdicts.{AreVerdicts, verdicts_above, verdicts_at};
+ghost use Rattle.org_agenda.specs.Verdicts.{AreVerdicts, list_of, verdicts_at, with_entry};
 ghost use Rattle.org_base.specs.Spans.{bytes_in};
 ghost use Rattle.org_inherit.specs.Tags.{own_tags, own_tags_at};
-ghost use Rattle.org_match.specs.Verdicts.{either, tag_verdicts};
 ghost use Rattle.org_match.specs.Holds.{tag_items};
 ghost use Rattle.org_outline.specs.Levels.{levels};
 ghost use Rattle.org_outline.specs.Tree.{parent};
@@ -18,11 +17,14 @@ use std::alloc::{AllocError, Global};
 use std::marker::Model;
 
 // An expression's verdicts on the file's tags, and on all tags of entries from the first on. An entry's verdicts are those
-// of its parent and those on its own tags, so that inherited tags aren't gone over again.
+// of its parent and those on its own tags, so that inherited tags aren't gone over again. Where it has no own tags they are
+// its parent's, which stand once.
 #[derive(Drop)]
 pub(crate) struct Verdicts {
-    file: TermVerdicts,
-    rows: Vec<TermVerdicts>,
+    // Those on the file's tags, then those of entries with own tags.
+    lists: Vec<TermVerdicts>,
+    // Of each entry which of these are its own.
+    places: Vec<usize>,
 }
 
 impl Model for Verdicts {
@@ -30,17 +32,17 @@ impl Model for Verdicts {
 
     ghost Value = { VerdictsView };
 
-    ghost view = { λ v. record { file = v.file; rows = v.rows.items } };
+    ghost view = { λ v. record { lists = v.lists.items; places = v.places.items } };
 }
 
 impl Verdicts {
-    // Those on the file's tags alone.
-    pub(crate) fn new(alloc: Global, file: TermVerdicts) -> Verdicts
-        ensures { result ≡ record { file = file; rows = [] } }
+    // No verdicts, those on the file's tags neither.
+    pub(crate) fn new(alloc: Global) -> Verdicts
+        ensures { result ≡ record { lists = []; places = [] } }
     {
         Verdicts {
-            file,
-            rows: Vec::new(alloc),
+            lists: Vec::new(alloc),
+            places: Vec::new(alloc),
         }
     }
 
@@ -48,27 +50,50 @@ impl Verdicts {
     pub(crate) fn get(&self, place: usize) -> &[bool]
         ensures { result.now ≡ verdicts_at self.now place }
     {
-        if place < self.rows.len() {
-            self.rows[place].as_slice()
-        } else {
-            self.file.as_slice()
+        self.list(self.list_of(Some(place)))
+    }
+
+    // The verdicts of a list, none where there is no such list.
+    fn list(&self, list: usize) -> &[bool]
+        ensures { result.now ≡ get_or self.now.lists list [] }
+    {
+        match self.lists.get(list) {
+            Some(verdicts) => verdicts.as_slice(),
+            None => &[],
         }
     }
 
-    // Those of a parent, or of the file where there is none.
-    fn above(&self, parent: Option<usize>) -> &[bool]
-        ensures { result.now ≡ verdicts_above self.now parent }
+    // The list of an entry; of the file where there is none.
+    fn list_of(&self, entry: Option<usize>) -> usize
+        ensures { result ≡ list_of self.now.places entry }
     {
-        match parent {
-            Some(place) => self.get(place),
-            None => self.file.as_slice(),
+        match entry {
+            Some(place) if place < self.places.len() => self.places[place],
+            _ => 0,
         }
     }
 
-    fn push(&mut self, row: TermVerdicts) -> Result<(), AllocError>
-        ensures { OnOk result (self.new ≡ record self.old { rows = self.old.rows ++ row ∷ [] }) }
+    // Makes room for the places of so many entries.
+    fn make_room(&mut self, count: usize) -> Result<(), AllocError>
+        ensures { OnOk result (self.new ≡ self.old) }
     {
-        self.rows.push(row)?;
+        self.places.reserve_exact(count)?;
+        Ok(())
+    }
+
+    // Puts a list at the end.
+    fn push_list(&mut self, list: TermVerdicts) -> Result<(), AllocError>
+        ensures { OnOk result (self.new ≡ record self.old { lists = self.old.lists ++ list ∷ [] }) }
+    {
+        self.lists.push(list)?;
+        Ok(())
+    }
+
+    // Gives the entry behind those so far a list.
+    fn push_place(&mut self, list: usize) -> Result<(), AllocError>
+        ensures { OnOk result (self.new ≡ record self.old { places = self.old.places ++ list ∷ [] }) }
+    {
+        self.places.push(list)?;
         Ok(())
     }
 
@@ -83,11 +108,13 @@ impl Verdicts {
         ensures memory { IsOkUnless result memory_fault }
     {
         let file = matcher.verdicts(alloc, &[], inherit.settings().file_tags())?;
-        let mut known = Verdicts::new(alloc, file);
+        let mut known = Verdicts::new(alloc);
+        known.push_list(file)?;
         if !matcher.asks_tags() {
             return Ok(known);
         }
         let outline = inherit.outline();
+        known.make_room(outline.count())?;
         for place in 0..outline.count() {
             known.add(alloc, matcher, outline, place)?;
         }
@@ -103,13 +130,20 @@ impl Verdicts {
         place: usize,
     ) -> Result<(), Fault>
         requires within { place < length outline.now }
-        ensures ok { OnOk result (self.new ≡ record self.old { rows = self.old.rows ++ either (verdicts_above self.old (parent (levels outline.now) place)) (tag_verdicts (own_tags_at outline.now place) (tag_items matcher.old)) ∷ [] }) }
+        ensures ok { OnOk result (self.new ≡ with_entry self.old (list_of self.old.places (parent (levels outline.now) place)) (own_tags_at outline.now place) (tag_items matcher.old)) }
         ensures same { matcher.new ≡ matcher.old }
         ensures memory { IsOkUnless result memory_fault }
     {
+        let above = self.list_of(outline.parent(place));
         let tags = own_tags(alloc, outline.entry(place))?;
-        let row = matcher.verdicts(alloc, self.above(outline.parent(place)), &tags)?;
-        self.push(row)?;
+        if tags.count() == 0 {
+            self.push_place(above)?;
+            return Ok(());
+        }
+        let own = matcher.verdicts(alloc, self.list(above), &tags)?;
+        let list = self.lists.len();
+        self.push_place(list)?;
+        self.push_list(own)?;
         Ok(())
     }
 }

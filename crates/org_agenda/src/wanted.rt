@@ -15,7 +15,7 @@ use crate::verdicts::Verdicts;
 use org_base::{Fault, Texts};
 use org_cal::Moment;
 use org_inherit::Inherit;
-use org_match::{Matcher, TermVerdicts};
+use org_match::Matcher;
 use org_settings::Settings;
 use std::alloc::Global;
 use std::marker::Model;
@@ -61,7 +61,7 @@ impl<'a> Choice<'a> {
         ensures memory { IsOkUnless result memory_fault }
     {
         match &mut self.wanted {
-            Wanted::Open | Wanted::Named(_) => Ok(Verdicts::new(alloc, TermVerdicts::new(alloc))),
+            Wanted::Open | Wanted::Named(_) => Ok(Verdicts::new(alloc)),
             Wanted::Matching(question) => Verdicts::of(alloc, &mut question.matcher, inherit),
         }
     }

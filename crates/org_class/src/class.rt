@@ -1,7 +1,8 @@
 //! What a line of a section is.
-ghost use Rattle.std.specs.Prelude.{◌≡◌, ◌++◌, ◌∷◌, [], length, slice_get, OnOk};
+ghost use Rattle.std.specs.Prelude.{◌≡◌, ◌++◌, ◌∷◌, [], length, slice_get, IfOk, OnOk};
 ghost use Rattle.std.specs.List.{list_any};
 ghost use Rattle.org_class.specs.Classes.{is_setting_class};
+ghost use Rattle.org_class.specs.declared.class.Class.TheVariants.{Heading};
 
 use smallvec::SmallVec;
 use std::alloc::{AllocError, Global};
@@ -61,6 +62,15 @@ impl Classes {
         Classes {
             classes: SmallVec::new(alloc),
         }
+    }
+
+    // Those of a heading alone.
+    pub(crate) fn of_heading(alloc: Global) -> Result<Classes, AllocError>
+        ensures value { IfOk result (λ classes. classes ≡ Heading ∷ []) }
+    {
+        let mut classes = Classes::new(alloc);
+        classes.push(Class::Heading)?;
+        Ok(classes)
     }
 
     // Puts a class at the end.

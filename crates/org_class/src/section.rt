@@ -1,17 +1,19 @@
 //! The classes of a section's lines.
-ghost use Rattle.std.specs.Prelude.{◌≡◌, ◌+◌, ◌≤◌, length, IfOk, IsOkUnless};
+ghost use Rattle.std.specs.Prelude.{◌≡◌, ◌+◌, ◌≤◌, ◌∷◌, [], true, length, IfOk, IsOkUnless};
 ghost use Rattle.org_base.specs.Codes.{memory_fault};
 ghost use Rattle.org_base.specs.Counts.{ticked};
 ghost use Rattle.org_base.specs.declared.meter.Tick.TheVariants.{Classify};
 ghost use Rattle.org_class.specs.Classes.{section_classes};
+ghost use Rattle.org_class.specs.declared.class.Class.TheVariants.{Heading};
 ghost use Rattle.org_base.specs.Spans.{bytes_in};
 
 use crate::ahead::Ahead;
 use crate::class::Classes;
 use crate::ends::EndPlaces;
+use crate::heading;
 use crate::stage::Stage;
 use org_base::{Fault, Meter, Span, Tick};
-use org_lines::Lines;
+use org_lines::{Lines, lent};
 use org_text::Text;
 use std::alloc::Global;
 
@@ -30,7 +32,21 @@ pub fn classify<T: Text>(
     ensures memory { IsOkUnless result memory_fault }
 {
     meter.tick(Tick::Classify);
+    if is_heading_alone(text, section) {
+        return Ok(Classes::of_heading(alloc)?);
+    }
     classes(alloc, text, section)
+}
+
+// Whether a section is lent in one piece and is its heading alone, as most are in an outline of headings.
+fn is_heading_alone<T: Text>(text: &T, section: Span) -> bool
+    requires within { section.at + section.len ≤ length (T.content text.now) }
+    ensures alone { result ≡ true → section_classes (bytes_in (T.content text.now) section) ≡ Heading ∷ [] }
+{
+    match lent(text, section) {
+        Some(bytes) => heading::is_heading_alone(bytes),
+        None => false,
+    }
 }
 
 fn classes<T: Text>(alloc: Global, text: &T, section: Span) -> Result<Classes, Fault>

@@ -1,3 +1,4 @@
+pub mod AloneLemmas
 pub mod ClassLemmas
 pub mod DraftLemmas
 pub mod HeadLemmas

@@ -1,11 +1,12 @@
 -- Lines that say no more than their stamps, and have none, say nothing.
-use Rattle.std.proofs.Common.{◌≡◌, ℕ, ◌+◌, ◌-◌, ◌<◌, ◌≤◌, true, false, List, [], ◌∷◌, ◌++◌, length, take, drop, reverse, refl, sym, ap, ◌∙◌, inl, inr, arith, append-nil, length-append, length-drop, map}
-use Rattle.std.specs.Prelude.{get_or}
+use Rattle.std.proofs.Common.{◌≡◌, ℕ, ◌+◌, ◌-◌, ◌<◌, ◌≤◌, true, false, Option, None, Some, List, [], ◌∷◌, ◌++◌, length, take, drop, reverse, refl, sym, ap, ◌∙◌, inl, inr, arith, append-nil, length-append, length-drop, map}
+use Rattle.std.specs.Prelude.{get_or, is_some}
 use Rattle.std.specs.List.{concat, flat_map, list_all, list_any, position_or_len, prefix_len, suffix_len}
 use Rattle.std.proofs.lemmas.Bool.{cases_Bool, and_parts}
 use Rattle.std.proofs.lemmas.List.{drop-drop, drop_more, take-append-drop, reverse-append, reverse-reverse, length-reverse}
 use Rattle.std.proofs.lemmas.List.Folds.{list_any-append}
 use Rattle.std.proofs.Math.Seq.{drop-append_seam}
+use Rattle.memchr.specs.Find.{IsFirstByte, is_byte2}
 use Rattle.org_settings.specs.Settings.{FileSettings}
 use Rattle.org_class.specs.declared.class.Class.{Class}
 use Rattle.org_class.specs.declared.class.Class.TheVariants as class
@@ -16,10 +17,10 @@ use Rattle.org_entry.specs.Entry.{PlacedLine, active_at, entry_of_lines, if_acti
 use Rattle.org_entry.proofs.DraftLemmas.{lines_end}
 use Rattle.org_lines.specs.Cuts.{Cut}
 use Rattle.org_stamp.specs.Stamp.{is_close}
-use Rattle.org_stamp.proofs.LineLemmas.{none_unclosed}
+use Rattle.org_stamp.proofs.LineLemmas.{none_is, none_unclosed}
 
 -- no closing bracket, by its first place
-pub none_closes : (bytes : List ℕ) → length bytes ≤ position_or_len is_close bytes → list_any is_close bytes ≡ false
+none_closes : (bytes : List ℕ) → length bytes ≤ position_or_len is_close bytes → list_any is_close bytes ≡ false
 none_closes [] h = refl
 none_closes (b ∷ bytes) h = elim (cases_Bool (is_close b)) [
   | inl here ↦ absurd (let none : position_or_len is_close (b ∷ bytes) ≡ 0 = rw here refl in omega (arith, h, none))
@@ -27,6 +28,11 @@ none_closes (b ∷ bytes) h = elim (cases_Bool (is_close b)) [
       let more : position_or_len is_close (b ∷ bytes) ≡ 1 + position_or_len is_close bytes = rw later (omega arith) in
       rw later (none_closes bytes (omega (arith, h, more)))
 ]
+
+-- nor where a search finds none
+pub unclosed : (bytes : List ℕ) (found : Option ℕ) → IsFirstByte (is_byte2 62 93) bytes found → is_some found ≡ false → list_any is_close bytes ≡ false
+unclosed bytes None h none = none_closes bytes (omega (arith, none_is bytes h))
+unclosed bytes (Some i) h none = absurd cc
 
 none_before : (bytes : List ℕ) → list_any is_close bytes ≡ false → length bytes ≤ position_or_len is_close bytes
 none_before [] h = omega arith

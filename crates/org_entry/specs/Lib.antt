@@ -1,3 +1,4 @@
 pub mod Entry
+pub mod Alone
 pub mod Draft
 pub mod Laws

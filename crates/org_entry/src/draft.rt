@@ -12,7 +12,8 @@ use crate::entry::Entry;
 use crate::own::{OwnPlanning, OwnProperties};
 use crate::sparse::Sparse;
 use crate::stamps::push_active;
-use org_base::{Bytes, Fault, Span, Texts};
+use crate::text::EntryText;
+use org_base::{Fault, Span, Texts};
 use org_class::Class;
 use org_drawer::{ClockLine, Planning, read_clock, read_planning};
 use org_head::{Head, part, read_head};
@@ -25,7 +26,7 @@ use std::marker::Model;
 #[derive(Drop)]
 pub(crate) struct Draft {
     alloc: Global,
-    text: Vec<u8>,
+    text: EntryText,
     head: Option<Head>,
     planning: OwnPlanning,
     nodes: Texts,
@@ -38,7 +39,7 @@ impl Model for Draft {
 
     ghost Value = { EntrySoFar };
 
-    ghost view = { λ d. record { text = d.text.items; head = d.head; planning = d.planning; nodes = d.nodes; stamps = d.stamps; clocks = d.clocks } };
+    ghost view = { λ d. record { text = d.text; head = d.head; planning = d.planning; nodes = d.nodes; stamps = d.stamps; clocks = d.clocks } };
 }
 
 impl Draft {
@@ -48,7 +49,7 @@ impl Draft {
     {
         Draft {
             alloc,
-            text: Vec::new(alloc),
+            text: EntryText::new(alloc),
             head: None,
             planning: OwnPlanning::none(),
             nodes: Texts::new(alloc),
@@ -92,8 +93,7 @@ impl Draft {
     {
         let head = read_head(self.alloc, line, settings)?;
         let title = head.title;
-        self.text.reserve_exact(line.len())?;
-        self.text.extend_from_slice(line)?;
+        self.text.push(line)?;
         push_active(&mut self.stamps, at + title.at as usize, part(line, title))?;
         self.head = Some(head);
         Ok(())
@@ -107,8 +107,7 @@ impl Draft {
           planning = option_map (moved at) (planning_of line.now);
         }) }
     {
-        self.text.reserve_exact(line.len())?;
-        self.text.extend_from_slice(line)?;
+        self.text.push(line)?;
         self.planning = OwnPlanning::new(self.alloc, planning_at(at, line))?;
         Ok(())
     }
@@ -140,7 +139,7 @@ impl Draft {
         } = self;
         let drawer = OwnProperties::of_lines(alloc, &nodes)?;
         Ok(Entry {
-            text: Bytes::new(text),
+            text,
             head,
             planning,
             drawer,

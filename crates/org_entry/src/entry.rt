@@ -6,8 +6,9 @@ ghost use Rattle.org_base.specs.Spans.{bytes_in};
 
 use crate::own::{OwnPlanning, OwnProperties};
 use crate::sparse::Sparse;
+use crate::text::EntryText;
 use memchr::memchr;
-use org_base::{Bytes, Span};
+use org_base::Span;
 use org_drawer::ClockLine;
 use org_head::Head;
 use org_stamp::Found;
@@ -18,7 +19,7 @@ use org_stamp::Found;
 pub struct Entry {
     /// The heading line and the planning line, line feeds included. A section's heading and planning lines are its first
     /// two lines, so places in them are places in this text too.
-    pub text: Bytes,
+    pub text: EntryText,
     /// The parts of the heading line; None where the section has no heading.
     pub head: Option<Head>,
     /// What the planning line says.

@@ -4,6 +4,7 @@
 //! count from the section's start. Each law about it is a function in `laws`.
 #![tactic(auto)]
 
+mod alone;
 mod draft;
 mod entry;
 pub mod laws;
@@ -11,8 +12,10 @@ mod own;
 mod read;
 mod sparse;
 mod stamps;
+mod text;
 
 pub use entry::Entry;
 pub use own::{OwnPlanning, OwnProperties};
 pub use read::read_entry;
 pub use sparse::Sparse;
+pub use text::EntryText;

@@ -1,5 +1,5 @@
 //! Parts of an entry that most sections lack. They stand out of line, so that an entry without them is small.
-ghost use Rattle.std.specs.Prelude.{◌≡◌, None, IfOk, IsOkUnless};
+ghost use Rattle.std.specs.Prelude.{◌≡◌, [], None, IfOk, IsOkUnless};
 ghost use Rattle.std.specs.Option.{option_map};
 ghost use Rattle.org_base.specs.Codes.{memory_fault};
 ghost use Rattle.org_base.specs.Properties.{value_in};
@@ -71,13 +71,20 @@ impl Model for OwnProperties {
 }
 
 impl OwnProperties {
+    // Those of a section without drawer.
+    pub(crate) fn none() -> OwnProperties
+        ensures value { result ≡ [] }
+    {
+        OwnProperties { drawer: None }
+    }
+
     // What the lines of a drawer give.
     pub(crate) fn of_lines(alloc: Global, lines: &Texts) -> Result<OwnProperties, Fault>
         ensures value { IfOk result (λ own. own ≡ drawer_of lines.now) }
         ensures memory { IsOkUnless result memory_fault }
     {
         if lines.count() == 0 {
-            return Ok(OwnProperties { drawer: None });
+            return Ok(OwnProperties::none());
         }
         let drawer = read_drawer(alloc, lines)?;
         Ok(OwnProperties {

@@ -10,12 +10,13 @@ ghost use Rattle.org_entry.specs.Draft.{is_quiet};
 ghost use Rattle.org_entry.specs.Entry.{entry_of};
 ghost use Rattle.org_stamp.specs.Stamp.{is_close};
 
+use crate::alone::{heading_alone, heading_entry};
 use crate::draft::Draft;
 use crate::entry::Entry;
 use memchr::memchr2;
 use org_base::{Fault, Meter, Span, Tick};
 use org_class::{Class, Classes};
-use org_lines::Lines;
+use org_lines::{Lines, lent};
 use org_settings::Settings;
 use org_text::Text;
 use std::alloc::Global;
@@ -24,6 +25,7 @@ use std::alloc::Global;
 /// determined by the section's bytes and the settings, wherever the section stands. One pass over the lines, linear in
 /// the section; its last lines aren't read where they can say nothing. Want of memory is the only refusal; the meter
 /// counts one entry read then too.
+#[tactic(auto, using(crate::proofs::AloneLemmas::alone_says, crate::proofs::AloneLemmas::alone_fits))]
 pub fn read_entry<T: Text>(
     alloc: Global,
     meter: &mut Meter,
@@ -39,7 +41,10 @@ pub fn read_entry<T: Text>(
     ensures memory { IsOkUnless result memory_fault }
 {
     meter.tick(Tick::Read);
-    entry_in(alloc, text, section, classes, settings)
+    match heading_alone(text, section, classes) {
+        Some(line) => heading_entry(alloc, settings, line),
+        None => entry_in(alloc, text, section, classes, settings),
+    }
 }
 
 // Whether a line of this class says no more than its stamps.
@@ -72,14 +77,13 @@ fn may_close<T: Text>(text: &T, section: Span, at: usize) -> bool
     ensures none { result ≡ false → list_any is_close (drop at (bytes_in (T.content text.now) section)) ≡ false }
 {
     let _len = text.len();
-    let len = section.len as usize - at;
-    let piece = text.piece_at(section.at as usize + at);
-    if piece.len() < len {
-        return true;
-    }
-    match memchr2(b'>', b']', &piece[..len]) {
-        Some(_) => true,
-        None => false,
+    let rest = Span {
+        at: section.at + at as u32,
+        len: section.len - at as u32,
+    };
+    match lent(text, rest) {
+        Some(bytes) => memchr2(b'>', b']', bytes).is_some(),
+        None => true,
     }
 }
 

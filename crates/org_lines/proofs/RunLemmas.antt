@@ -14,6 +14,15 @@ run_fits run_len c span run is = let l = is.len in omega arith
 pub run_within : (run_len : ℕ → ℕ) (c : List ℕ) (span : Span) (run : List ℕ) → IsRun run_len c span run → length run ≤ run_len span.at
 run_within run_len c span run is = let l = is.len in omega arith
 
+-- a run that reaches as far as the span is its bytes; one that doesn't ends where the text lends no more
+pub whole_run : (run_len : ℕ → ℕ) (c : List ℕ) (span : Span) (run : List ℕ) → IsRun run_len c span run → span.len ≤ length run → run ≡ slice_range c span.at (span.at + span.len)
+whole_run run_len c span run is long =
+    let count : length run ≡ span.len = omega (arith, run_fits run_len c span run is, long) in
+    is.bytes ∙ ap (λ n. take n (drop span.at c)) count ∙ sym (range_is c span.at span.len)
+
+pub short_run : (run_len : ℕ → ℕ) (c : List ℕ) (span : Span) (run : List ℕ) → IsRun run_len c span run → length run < span.len → run_len span.at < span.len
+short_run run_len c span run is short = let l = is.len in omega arith
+
 -- the rest of a run is the run of the rest
 pub run_rest : (run_len : ℕ → ℕ) (c : List ℕ) (span : Span) (run : List ℕ) (n : ℕ) → IsRun run_len c span run → n < length run → IsRun run_len c (behind span n) (take (length run - n) (drop n run))
 run_rest run_len c span run n is lt =

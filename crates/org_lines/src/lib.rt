@@ -5,4 +5,4 @@
 
 mod lines;
 
-pub use lines::{Line, Lines, line_starts};
+pub use lines::{Line, Lines, lent, line_starts};

@@ -1,5 +1,5 @@
 //! An iterator over the lines of a part of a text.
-ghost use Rattle.std.specs.Prelude.{map, ◌≡◌, ◌≢◌, ◌+◌, ◌-◌, ◌^◌, ◌<◌, ◌≤◌, ◌↔◌, ℕ, [], ◌∷◌, length, slice_index, IfOk, IfErr, IfSome, IsTrue, MatchOption, MatchResult, IsOk, IsOkUnless};
+ghost use Rattle.std.specs.Prelude.{map, ◌≡◌, ◌≢◌, ◌+◌, ◌-◌, ◌^◌, ◌<◌, ◌≤◌, ◌↔◌, ℕ, [], ◌∷◌, length, slice_index, IfOk, IfErr, IfSome, IsTrue, None, MatchOption, MatchResult, IsOk, IsOkUnless};
 ghost use Rattle.std.specs.List.{slice_range, concat, All};
 ghost use Rattle.std.specs.Str.{IsUtf8, IsCharBoundary};
 ghost use Rattle.std.specs.Cow.{cow_slice_items, IsBorrowedSlice};
@@ -183,6 +183,20 @@ fn len_in(run: &[u8], left: usize) -> Option<usize>
         None if run.len() == left => Some(left),
         None => None,
     }
+}
+
+/// The bytes of the span, lent, where they lie in one piece of the text.
+#[tactic(auto, using(crate::proofs::RunLemmas::whole_run, crate::proofs::RunLemmas::short_run))]
+pub fn lent<T: Text>(text: &T, span: Span) -> Option<&[u8]>
+    requires { span.at + span.len ≤ length (T.content text.now) }
+    ensures value { IfSome result (λ bytes. bytes.now ≡ slice_range (T.content text.now) span.at (span.at + span.len)) }
+    ensures none { result ≡ None → T.run_len text.now span.at < span.len }
+{
+    let run = run_at(text, span);
+    if run.len() < span.len as usize {
+        return None;
+    }
+    Some(run)
 }
 
 /// Where the lines of the span begin. Want of memory is the only refusal.

@@ -21,8 +21,8 @@ impl Model for TermVerdicts {
 }
 
 impl TermVerdicts {
-    /// Those of no term.
-    pub fn new(alloc: Global) -> TermVerdicts
+    // Those of no term.
+    pub(crate) fn new(alloc: Global) -> TermVerdicts
         ensures value { result ≡ [] }
     {
         TermVerdicts {
