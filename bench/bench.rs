@@ -102,6 +102,8 @@ fn text(bytes: usize) -> String {
 struct Cost {
     seconds: f64,
     kib: u64,
+    // Pages of memory that were touched for the first time: the system has to find each of them.
+    pages: u64,
 }
 
 impl Cost {
@@ -109,6 +111,7 @@ impl Cost {
         Cost {
             seconds: self.seconds.min(other.seconds),
             kib: self.kib.min(other.kib),
+            pages: self.pages.min(other.pages),
         }
     }
 }
@@ -118,25 +121,27 @@ impl Cost {
 struct Usage {
     times: [i64; 4],
     max_rss_kib: i64,
-    rest: [i64; 13],
+    unused: [i64; 3],
+    minor_faults: i64,
+    rest: [i64; 9],
 }
 
 extern "C" {
     fn wait4(pid: i32, status: *mut i32, options: i32, usage: *mut Usage) -> i32;
 }
 
-fn finish(child: Child) -> u64 {
+fn finish(child: Child) -> (u64, u64) {
     let (mut status, mut usage) = (0, Usage::default());
     unsafe { wait4(child.id() as i32, &mut status, 0, &mut usage) };
     assert!(std::process::ExitStatus::from_raw(status).success(), "a run failed");
-    usage.max_rss_kib as u64
+    (usage.max_rss_kib as u64, usage.minor_faults as u64)
 }
 
 fn print_cost(stream: &str, command: &[String]) -> io::Result<()> {
     let start = Instant::now();
     let child = Command::new(&command[0]).args(&command[1..]).stdin(File::open(stream)?).stdout(Stdio::null()).spawn()?;
-    let kib = finish(child);
-    println!("{} {kib}", start.elapsed().as_secs_f64());
+    let (kib, pages) = finish(child);
+    println!("{} {kib} {pages}", start.elapsed().as_secs_f64());
     Ok(())
 }
 
@@ -146,10 +151,11 @@ fn cost(own: &str, stream: &str, command: &[&str]) -> io::Result<Cost> {
     let output = Command::new(own).args(["cost", stream]).args(command).output()?;
     assert!(output.status.success(), "a run failed");
     let figures = String::from_utf8_lossy(&output.stdout);
-    let (seconds, kib) = figures.trim_end().split_once(' ').expect("two figures");
+    let [seconds, kib, pages] = figures.split_whitespace().collect::<Vec<_>>()[..] else { panic!("three figures") };
     Ok(Cost {
         seconds: seconds.parse().expect("seconds"),
         kib: kib.parse().expect("KiB"),
+        pages: pages.parse().expect("pages"),
     })
 }
 
@@ -191,12 +197,14 @@ fn write_stream(path: &str, text: &str, question: &str, questions: usize) -> io:
 fn row(size: usize, what: &str, proved: Cost, plain: Cost) {
     let mib = size as f64 / MIB as f64;
     println!(
-        "{mib:>4.0} MiB  {what:<22} {:>8.4} s {:>7.0} MiB/s {:>6.1} MiB   plain {:>8.4} s {:>6.1} MiB   ratio {:.2}",
+        "{mib:>4.0} MiB  {what:<22} {:>8.4} s {:>7.0} MiB/s {:>6.1} MiB {:>6} pages   plain {:>8.4} s {:>6.1} MiB {:>6} pages   ratio {:.2}",
         proved.seconds,
         mib / proved.seconds,
         proved.kib as f64 / 1024.0,
+        proved.pages,
         plain.seconds,
         plain.kib as f64 / 1024.0,
+        plain.pages,
         proved.seconds / plain.seconds
     );
 }
@@ -205,7 +213,9 @@ fn measure(program: &str, own: &str) -> io::Result<()> {
     let folder = std::env::temp_dir().join(format!("orgviews-bench-{}", std::process::id()));
     std::fs::create_dir_all(&folder)?;
     let stream = folder.join("stream").to_string_lossy().into_owned();
-    println!("least of {RUNS} runs; seconds, speed and peak memory of a whole process; `todo` is a tenth of ten questions");
+    println!(
+        "least of {RUNS} runs; seconds, speed, peak memory and pages touched for the first time, of a whole process; `todo` is a tenth of ten questions"
+    );
     let mut together = Vec::new();
     for size in SIZES {
         let text = text(size);
@@ -219,6 +229,7 @@ fn measure(program: &str, own: &str) -> io::Result<()> {
         let one = |often: Cost, add: Cost| Cost {
             seconds: (often.seconds - add.seconds) / QUESTIONS as f64,
             kib: often.kib,
+            pages: often.pages.saturating_sub(add.pages) / QUESTIONS as u64,
         };
         row(size, "add", add.0, add.1);
         row(size, "todo", one(often.0, add.0), one(often.1, add.1));
