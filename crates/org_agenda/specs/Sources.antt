@@ -50,7 +50,7 @@ plain_sources owner stamps = map (λ (f : Found). source_at owner Plain f.at f.s
 
 -- the stamps of a heading, by their places in the section
 abbrev pub entry_sources : Owner → Entry → List Source
-entry_sources owner e = with_planning owner e.planning (plain_sources owner e.stamps)
+entry_sources owner e = with_planning owner e.details.planning (plain_sources owner e.details.stamps)
 
 -- those of an entry, unless it is hidden
 abbrev pub head_sources : Scope → ℕ → ℕ → Entry → Option Head → List Source

@@ -110,8 +110,8 @@ fn write_own(own: &mut Vec<Source>, owner: &Owner, entry: &Entry) -> Result<(), 
     ensures ok { OnOk result (own.new.items ≡ entry_sources owner.now entry.now) }
 {
     own.clear();
-    push_plain(own, owner, entry.stamps.as_slice())?;
-    match entry.planning.get() {
+    push_plain(own, owner, entry.details.stamps())?;
+    match entry.details.planning() {
         Some(planning) => put_planning(own, owner, planning),
         None => Ok(()),
     }

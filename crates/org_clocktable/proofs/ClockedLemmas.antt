@@ -31,7 +31,7 @@ pub clocks_in_order : (i : ℕ) (es : List Entry) (cs : List Bool) → AreInOrde
 clocks_in_order i [] cs = tt
 clocks_in_order i (e ∷ es) [] = tt
 clocks_in_order i (e ∷ es) (c ∷ cs) =
-    at_in_order (is_some (level_of e) && c) i e.clocks (clocks_from (i + 1) es cs) (sooner i (i + 1) (clocks_from (i + 1) es cs) (omega arith) (clocks_in_order (i + 1) es cs))
+    at_in_order (is_some (level_of e) && c) i e.details.clocks (clocks_from (i + 1) es cs) (sooner i (i + 1) (clocks_from (i + 1) es cs) (omega arith) (clocks_in_order (i + 1) es cs))
 
 -- what they have before a place behind theirs
 placed_before : (days : ℕ × ℕ) (i x : ℕ) (clocks : List ClockLine) (rest : List PlacedClock) → i < x →
@@ -42,9 +42,9 @@ placed_before days i x (c ∷ cs) rest lt =
     omega (arith, here, placed_before days i x cs rest lt, sum_by-cons (λ (d : ClockLine). minutes_in d days) c cs)
 
 at_before : (days : ℕ × ℕ) (t : Bool) (i x : ℕ) (e : Entry) (rest : List PlacedClock) → i < x →
-    minutes_before days ((if t then placed i e.clocks else []) ++ rest) x ≡ (if t then clock_minutes days e else 0) + minutes_before days rest x
+    minutes_before days ((if t then placed i e.details.clocks else []) ++ rest) x ≡ (if t then clock_minutes days e else 0) + minutes_before days rest x
 unfolding clock_minutes
-at_before days true i x e rest lt = placed_before days i x e.clocks rest lt
+at_before days true i x e rest lt = placed_before days i x e.details.clocks rest lt
 at_before days false i x e rest lt = omega arith
 
 sum_first : (f : ℕ → ℕ) (n : ℕ) → sum_below f (suc n) ≡ f 0 + sum_below (λ j. f (suc j)) n
@@ -74,9 +74,9 @@ placed_of days i [] rest = omega arith
 placed_of days i (c ∷ cs) rest = omega (arith, placed_of days i cs rest, sum_by-cons (λ (d : ClockLine). minutes_in d days) c cs)
 
 at_of : (days : ℕ × ℕ) (t : Bool) (i : ℕ) (e : Entry) (rest : List PlacedClock) →
-    minutes_of days ((if t then placed i e.clocks else []) ++ rest) ≤ clock_minutes days e + minutes_of days rest
+    minutes_of days ((if t then placed i e.details.clocks else []) ++ rest) ≤ clock_minutes days e + minutes_of days rest
 unfolding clock_minutes
-at_of days true i e rest = omega (arith, placed_of days i e.clocks rest)
+at_of days true i e rest = omega (arith, placed_of days i e.details.clocks rest)
 at_of days false i e rest = omega arith
 
 all_of : (days : ℕ × ℕ) (i : ℕ) (es : List Entry) (cs : List Bool) → minutes_of days (clocks_from i es cs) ≤ total (clock_minutes days) es

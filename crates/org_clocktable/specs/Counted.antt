@@ -29,7 +29,7 @@ placed i clocks = map (λ (clock : ClockLine). record { place = i; clock = clock
 
 -- those of the entry at a place, if it is a heading that counts
 abbrev pub clocks_at : ℕ → Bool → Entry → List PlacedClock
-clocks_at i counts e = if is_some (level_of e) && counts then placed i e.clocks else []
+clocks_at i counts e = if is_some (level_of e) && counts then placed i e.details.clocks else []
 
 -- those of entries, the first of which stands at a place
 abbrev pub clocks_from : ℕ → List Entry → List Bool → List PlacedClock

@@ -129,7 +129,7 @@ fn push_clocks(
     if !counts || entry.head.is_none() {
         return Ok(());
     }
-    push_all(clocks, place, entry.clocks.as_slice())
+    push_all(clocks, place, entry.details.clocks())
 }
 
 fn push_all(

@@ -1,15 +1,13 @@
 -- A section of one line, which is its heading.
-use Rattle.std.proofs.Common.{◌≡◌, ℕ, ◌+◌, ◌≤◌, ◌<◌, ◌^◌, Option, None, Some, List, [], ◌∷◌, length, get_or, refl, sym, ap, ◌∙◌, arith, append-nil}
+use Rattle.std.proofs.Common.{◌≡◌, ℕ, ◌+◌, ◌≤◌, ◌<◌, ◌^◌, Some, List, [], ◌∷◌, length, get_or, refl, sym, ap, ◌∙◌, arith, append-nil}
 use Rattle.std.specs.List.{concat}
-use Rattle.org_base.specs.Properties.{Property}
 use Rattle.org_base.specs.Spans.{bytes_in}
 use Rattle.org_base.specs.declared.span.Span.{Span}
 use Rattle.org_class.specs.Classes.{section_classes}
 use Rattle.org_class.specs.declared.class.Class.{Class}
 use Rattle.org_class.specs.declared.class.Class.TheVariants.{Heading}
-use Rattle.org_drawer.specs.declared.clock.ClockLine.{ClockLine}
-use Rattle.org_drawer.specs.declared.planning.Planning.{Planning}
 use Rattle.org_entry.specs.Alone.{IsHeadingAlone}
+use Rattle.org_entry.specs.Details.{DetailsView, nothing}
 use Rattle.org_entry.specs.Draft.{ended, nothing_said, with_line}
 use Rattle.org_entry.specs.Entry.{active_at, entry_of, entry_of_lines, placed, title_stamps}
 use Rattle.org_entry.proofs.ClassLemmas.{length-classes}
@@ -19,7 +17,6 @@ use Rattle.org_head.specs.declared.head.Head.{Head}
 use Rattle.org_lines.specs.Cuts.{lines}
 use Rattle.org_lines.proofs.LineLemmas.{concat-lines, length_range}
 use Rattle.org_settings.specs.Settings.{FileSettings}
-use Rattle.org_stamp.specs.declared.stamp.Found.{Found}
 
 -- one class that is a heading's
 pub one_class : (cs : List Class) (d : Class) → length cs ≡ 1 → get_or cs 0 d ≡ Heading → cs ≡ Heading ∷ []
@@ -38,14 +35,14 @@ one_line text (l ∷ []) are one = are ∙ ap (λ k. k ∷ []) (sym (append-nil 
 one_line text (l ∷ m ∷ ls) are one = absurd (omega arith)
 
 -- what a heading line says
-pub heading_says : (settings : FileSettings) (line text : List ℕ) (head : Head) (planning : Option Planning) (drawer : List Property) (stamps : List Found) (clocks : List ClockLine) →
-    text ≡ line → head ≡ head_of settings line → planning ≡ None → drawer ≡ [] → stamps ≡ active_at head.title.at (bytes_in line head.title) → clocks ≡ [] →
-    record { text = text; head = Some head; planning = planning; drawer = drawer; stamps = stamps; clocks = clocks } ≡ ended (with_line settings nothing_said (record { at = 0; class = Heading; bytes = line }))
-heading_says settings line text head planning drawer stamps clocks said parts none none_own found none_run =
+pub heading_says : (settings : FileSettings) (line text : List ℕ) (head : Head) (details : DetailsView) →
+    text ≡ line → head ≡ head_of settings line → details ≡ record nothing { stamps = active_at head.title.at (bytes_in line head.title) } →
+    record { text = text; head = Some head; details = details } ≡ ended (with_line settings nothing_said (record { at = 0; class = Heading; bytes = line }))
+heading_says settings line text head details said parts all =
     let title = (head_of settings line).title in
     let here : title.at ≡ 0 + title.at = omega arith in
-    let all : stamps ≡ title_stamps settings 0 line = found ∙ ap (λ (h : Head). active_at h.title.at (bytes_in line h.title)) parts ∙ ap (λ n. active_at n (bytes_in line title)) here in
-    rw (said, all, parts, none, none_own, none_run) refl
+    let found : active_at head.title.at (bytes_in line head.title) ≡ title_stamps settings 0 line = ap (λ (h : Head). active_at h.title.at (bytes_in line h.title)) parts ∙ ap (λ n. active_at n (bytes_in line title)) here in
+    rw (said, all, found, parts) refl
 
 -- what such a section says
 pub alone_says : (settings : FileSettings) (text : List ℕ) (section : Span) (line : List ℕ) → IsHeadingAlone text section line →

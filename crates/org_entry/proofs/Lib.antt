@@ -1,5 +1,6 @@
 pub mod AloneLemmas
 pub mod ClassLemmas
+pub mod DetailLemmas
 pub mod DraftLemmas
 pub mod HeadLemmas
 pub mod LineLemmas

@@ -53,8 +53,5 @@ abbrev pub ended : EntrySoFar → Entry
 ended so_far = record {
   text = so_far.text;
   head = so_far.head;
-  planning = so_far.planning;
-  drawer = drawer_of so_far.nodes;
-  stamps = so_far.stamps;
-  clocks = so_far.clocks;
+  details = record { planning = so_far.planning; drawer = drawer_of so_far.nodes; stamps = so_far.stamps; clocks = so_far.clocks };
 }

@@ -107,10 +107,12 @@ abbrev pub entry_of_lines : FileSettings → List PlacedLine → Entry
 entry_of_lines settings ls = record {
   text = flat_map (λ l. text_of l.class l.bytes) ls;
   head = head_from settings None ls;
-  planning = planning_from None ls;
-  drawer = drawer_of (flat_map (λ l. nodes_of l.class l.bytes) ls);
-  stamps = flat_map (λ l. stamps_of settings l.at l.class l.bytes) ls;
-  clocks = flat_map (λ l. clocks_of l.class l.bytes) ls;
+  details = record {
+    planning = planning_from None ls;
+    drawer = drawer_of (flat_map (λ l. nodes_of l.class l.bytes) ls);
+    stamps = flat_map (λ l. stamps_of settings l.at l.class l.bytes) ls;
+    clocks = flat_map (λ l. clocks_of l.class l.bytes) ls;
+  };
 }
 
 -- the entry of a section in a file with these settings

@@ -7,13 +7,13 @@ ghost use Rattle.org_class.specs.declared.class.Class.TheVariants.{Heading};
 ghost use Rattle.org_entry.specs.Alone.{IsHeadingAlone};
 ghost use Rattle.org_entry.specs.Draft.{ended, nothing_said, with_line};
 
+use crate::details::Details;
 use crate::entry::Entry;
-use crate::own::{OwnPlanning, OwnProperties};
 use crate::sparse::Sparse;
 use crate::stamps::push_active;
 use crate::text::EntryText;
 use org_base::{Fault, Span};
-use org_class::{Class, Classes};
+use org_class::Class;
 use org_head::{part, read_head};
 use org_lines::lent;
 use org_settings::Settings;
@@ -25,13 +25,13 @@ use std::alloc::Global;
 pub(crate) fn heading_alone<'a, T: Text>(
     text: &'a T,
     section: Span,
-    classes: &Classes,
+    classes: &[Class],
 ) -> Option<&'a [u8]>
     requires within { section.at + section.len ≤ length (T.content text.now) }
     requires belongs { classes.now ≡ section_classes (bytes_in (T.content text.now) section) }
     ensures value { IfSome result (λ line. IsHeadingAlone (T.content text.now) section line.now) }
 {
-    if !is_heading_class_alone(classes.as_slice()) {
+    if !is_heading_class_alone(classes) {
         return None;
     }
     lent(text, section)
@@ -55,14 +55,12 @@ pub(crate) fn heading_entry(alloc: Global, settings: &Settings, line: &[u8]) -> 
     let title = head.title;
     let mut stamps = Sparse::new(alloc);
     push_active(&mut stamps, title.at as usize, part(line, title))?;
+    let details = Details::of_stamps(alloc, stamps)?;
     let mut text = EntryText::new(alloc);
     text.push(line)?;
     Ok(Entry {
         text,
         head: Some(head),
-        planning: OwnPlanning::none(),
-        drawer: OwnProperties::none(),
-        stamps,
-        clocks: Sparse::new(alloc),
+        details,
     })
 }

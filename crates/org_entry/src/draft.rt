@@ -8,9 +8,9 @@ ghost use Rattle.org_entry.specs.Draft.{nothing_said, with_line, ended};
 ghost use Rattle.org_entry.specs.Entry.{moved, moved_stamp, title_stamps};
 ghost use Rattle.org_head.specs.Head.{head_of};
 
+use crate::details::{Details, Parts};
 use crate::entry::Entry;
 use crate::own::{OwnPlanning, OwnProperties};
-use crate::sparse::Sparse;
 use crate::stamps::push_active;
 use crate::text::EntryText;
 use org_base::{Fault, Span, Texts};
@@ -18,7 +18,7 @@ use org_class::Class;
 use org_drawer::{ClockLine, Planning, read_clock, read_planning};
 use org_head::{Head, part, read_head};
 use org_settings::Settings;
-use org_stamp::{Found, Stamp};
+use org_stamp::Stamp;
 use std::alloc::{AllocError, Global};
 use std::marker::Model;
 
@@ -28,10 +28,8 @@ pub(crate) struct Draft {
     alloc: Global,
     text: EntryText,
     head: Option<Head>,
-    planning: OwnPlanning,
     nodes: Texts,
-    stamps: Sparse<Found>,
-    clocks: Sparse<ClockLine>,
+    parts: Parts,
 }
 
 impl Model for Draft {
@@ -39,7 +37,7 @@ impl Model for Draft {
 
     ghost Value = { EntrySoFar };
 
-    ghost view = { λ d. record { text = d.text; head = d.head; planning = d.planning; nodes = d.nodes; stamps = d.stamps; clocks = d.clocks } };
+    ghost view = { λ d. record { text = d.text; head = d.head; planning = d.parts.planning; nodes = d.nodes; stamps = d.parts.stamps; clocks = d.parts.clocks } };
 }
 
 impl Draft {
@@ -51,10 +49,8 @@ impl Draft {
             alloc,
             text: EntryText::new(alloc),
             head: None,
-            planning: OwnPlanning::none(),
             nodes: Texts::new(alloc),
-            stamps: Sparse::new(alloc),
-            clocks: Sparse::new(alloc),
+            parts: Parts::none(alloc),
         }
     }
 
@@ -75,7 +71,7 @@ impl Draft {
             Class::Planning => self.add_planning(at, line)?,
             Class::Node => self.nodes.push(line)?,
             Class::Clock => self.add_clock(line)?,
-            Class::Setting | Class::Plain => push_active(&mut self.stamps, at, line)?,
+            Class::Setting | Class::Plain => push_active(&mut self.parts.stamps, at, line)?,
             _ => {}
         }
         Ok(())
@@ -94,7 +90,11 @@ impl Draft {
         let head = read_head(self.alloc, line, settings)?;
         let title = head.title;
         self.text.push(line)?;
-        push_active(&mut self.stamps, at + title.at as usize, part(line, title))?;
+        push_active(
+            &mut self.parts.stamps,
+            at + title.at as usize,
+            part(line, title),
+        )?;
         self.head = Some(head);
         Ok(())
     }
@@ -108,7 +108,7 @@ impl Draft {
         }) }
     {
         self.text.push(line)?;
-        self.planning = OwnPlanning::new(self.alloc, planning_at(at, line))?;
+        self.parts.planning = OwnPlanning::new(self.alloc, planning_at(at, line))?;
         Ok(())
     }
 
@@ -118,7 +118,7 @@ impl Draft {
     {
         // Taken apart and put together for the prover, which has to see what a clock holds.
         if let Some(ClockLine { from, to }) = read_clock(line) {
-            self.clocks.push(ClockLine { from, to })?;
+            self.parts.clocks.push(ClockLine { from, to })?;
         }
         Ok(())
     }
@@ -132,19 +132,14 @@ impl Draft {
             alloc,
             text,
             head,
-            planning,
             nodes,
-            stamps,
-            clocks,
+            mut parts,
         } = self;
-        let drawer = OwnProperties::of_lines(alloc, &nodes)?;
+        parts.drawer = OwnProperties::of_lines(alloc, &nodes)?;
         Ok(Entry {
             text,
             head,
-            planning,
-            drawer,
-            stamps,
-            clocks,
+            details: Details::new(alloc, parts)?,
         })
     }
 }

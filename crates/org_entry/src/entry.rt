@@ -4,14 +4,11 @@ ghost use Rattle.std.specs.List.{position};
 ghost use Rattle.org_entry.specs.Entry.{heading_line};
 ghost use Rattle.org_base.specs.Spans.{bytes_in};
 
-use crate::own::{OwnPlanning, OwnProperties};
-use crate::sparse::Sparse;
+use crate::details::Details;
 use crate::text::EntryText;
 use memchr::memchr;
 use org_base::Span;
-use org_drawer::ClockLine;
 use org_head::Head;
-use org_stamp::Found;
 
 /// What a section says (Org Syntax, "Sections"). All places count from the section's start, so that they stay true where
 /// the section moves.
@@ -22,14 +19,8 @@ pub struct Entry {
     pub text: EntryText,
     /// The parts of the heading line; None where the section has no heading.
     pub head: Option<Head>,
-    /// What the planning line says.
-    pub planning: OwnPlanning,
-    /// The heading's own properties.
-    pub drawer: OwnProperties,
-    /// The active stamps of the title and of setting lines and plain lines.
-    pub stamps: Sparse<Found>,
-    /// The clocks of clock lines.
-    pub clocks: Sparse<ClockLine>,
+    /// Its planning, drawer, stamps and clocks.
+    pub details: Details,
 }
 
 impl Entry {

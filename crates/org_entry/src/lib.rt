@@ -5,6 +5,7 @@
 #![tactic(auto)]
 
 mod alone;
+mod details;
 mod draft;
 mod entry;
 pub mod laws;
@@ -14,8 +15,7 @@ mod sparse;
 mod stamps;
 mod text;
 
+pub use details::Details;
 pub use entry::Entry;
-pub use own::{OwnPlanning, OwnProperties};
 pub use read::read_entry;
-pub use sparse::Sparse;
 pub use text::EntryText;

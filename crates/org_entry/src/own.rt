@@ -1,5 +1,5 @@
-//! Parts of an entry that most sections lack. They stand out of line, so that an entry without them is small.
-ghost use Rattle.std.specs.Prelude.{◌≡◌, [], None, IfOk, IsOkUnless};
+//! The planning and the properties of a section.
+ghost use Rattle.std.specs.Prelude.{◌≡◌, [], None, true, IfOk, IsOkUnless};
 ghost use Rattle.std.specs.Option.{option_map};
 ghost use Rattle.org_base.specs.Codes.{memory_fault};
 ghost use Rattle.org_base.specs.Properties.{value_in};
@@ -10,9 +10,9 @@ use org_drawer::{Drawer, Planning, read_drawer};
 use std::alloc::{AllocError, Global};
 use std::marker::Model;
 
-/// What the planning line of a section says, if it has one; seen as that.
+// What the planning line of a section says, if it has one; seen as that.
 #[derive(Debug, Drop)]
-pub struct OwnPlanning {
+pub(crate) struct OwnPlanning {
     planning: Option<Box<Planning>>,
 }
 
@@ -45,8 +45,15 @@ impl OwnPlanning {
         Ok(OwnPlanning { planning })
     }
 
-    /// The planning, lent; None where the section has no planning line.
-    pub fn get(&self) -> Option<&Planning>
+    // Whether there is no planning line.
+    pub(crate) fn is_none(&self) -> bool
+        ensures none { result ≡ true → self.now ≡ None }
+    {
+        self.planning.is_none()
+    }
+
+    // The planning, lent; None where the section has no planning line.
+    pub(crate) fn get(&self) -> Option<&Planning>
         ensures value { option_map (λ planning. planning.now) result ≡ self.now }
     {
         let planning = self.planning.as_ref()?;
@@ -54,9 +61,9 @@ impl OwnPlanning {
     }
 }
 
-/// The properties of a section's drawer, none where it has no drawer; seen as their list.
+// The properties of a section's drawer, none where it has no drawer; seen as their list.
 #[derive(Debug, Drop)]
-pub struct OwnProperties {
+pub(crate) struct OwnProperties {
     drawer: Option<Box<Drawer>>,
 }
 
@@ -92,9 +99,15 @@ impl OwnProperties {
         })
     }
 
-    /// What a name has, lent; None where the drawer doesn't name it. Letter case doesn't count. It is never
-    /// refused, and takes time as the logarithm of the number of names.
-    pub fn get(&self, name: &[u8]) -> Option<&[u8]>
+    // Whether there is no drawer.
+    pub(crate) fn is_none(&self) -> bool
+        ensures none { result ≡ true → self.now ≡ [] }
+    {
+        self.drawer.is_none()
+    }
+
+    // What a name has, lent; None where the drawer doesn't name it. Letter case doesn't count.
+    pub(crate) fn get(&self, name: &[u8]) -> Option<&[u8]>
         ensures value { option_map (λ text. text.now) result ≡ value_in self.now name.now }
     {
         let drawer = self.drawer.as_ref()?;

@@ -15,7 +15,7 @@ use crate::draft::Draft;
 use crate::entry::Entry;
 use memchr::memchr2;
 use org_base::{Fault, Meter, Span, Tick};
-use org_class::{Class, Classes};
+use org_class::Class;
 use org_lines::{Lines, lent};
 use org_settings::Settings;
 use org_text::Text;
@@ -31,7 +31,7 @@ pub fn read_entry<T: Text>(
     meter: &mut Meter,
     text: &T,
     section: Span,
-    classes: &Classes,
+    classes: &[Class],
     settings: &Settings,
 ) -> Result<Entry, Fault>
     requires within { section.at + section.len ≤ length (T.content text.now) }
@@ -92,7 +92,7 @@ fn entry_in<T: Text>(
     alloc: Global,
     text: &T,
     section: Span,
-    classes: &Classes,
+    classes: &[Class],
     settings: &Settings,
 ) -> Result<Entry, Fault>
     requires within { section.at + section.len ≤ length (T.content text.now) }
@@ -101,7 +101,6 @@ fn entry_in<T: Text>(
     ensures memory { IsOkUnless result memory_fault }
 {
     let _len = text.len();
-    let classes = classes.as_slice();
     let spoken = classes.len() - quiet_lines(classes);
     let mut draft = Draft::new(alloc);
     let mut at = 0;

@@ -1,13 +1,13 @@
 //! Lists that are mostly empty.
-ghost use Rattle.std.specs.Prelude.{◌≡◌, ◌++◌, ◌∷◌, [], length, slice_get, OnOk};
+ghost use Rattle.std.specs.Prelude.{◌≡◌, ◌++◌, ◌∷◌, [], true, OnOk};
 
 use std::alloc::{AllocError, Global};
 use std::marker::Model;
 
-/// What few sections have, in order, seen as its list. Most sections have none, so the list stands out of line; most of the
-/// others have one, so it begins with room for one.
+// What few sections have, in order, seen as its list. It stands out of line, and begins with room for one, since most
+// sections that have any have one.
 #[derive(Debug, Drop)]
-pub struct Sparse<T> {
+pub(crate) struct Sparse<T> {
     alloc: Global,
     list: Option<Box<Vec<T>>>,
 }
@@ -43,29 +43,21 @@ impl<T: Drop> Sparse<T> {
         Ok(())
     }
 
-    /// How many there are.
-    pub fn count(&self) -> usize
-        ensures value { result ≡ length self.now }
+    // Whether there is none.
+    #[tactic(auto, using(crate::proofs::DetailLemmas::none_counted))]
+    pub(crate) fn is_empty(&self) -> bool
+        ensures none { result ≡ true → self.now ≡ [] }
     {
-        self.as_slice().len()
+        self.as_slice().len() == 0
     }
 
-    /// All of them, to go over.
-    pub fn as_slice(&self) -> &[T]
+    // All of them, to go over.
+    pub(crate) fn as_slice(&self) -> &[T]
         ensures value { result.now ≡ self.now }
     {
         match &self.list {
             Some(list) => list.as_slice(),
             None => &[],
         }
-    }
-}
-
-impl<T: Copy> Sparse<T> {
-    /// The one at a place, from 0.
-    pub fn get(&self, place: usize) -> Option<T>
-        ensures value { result ≡ slice_get self.now place }
-    {
-        self.as_slice().get(place).copied()
     }
 }

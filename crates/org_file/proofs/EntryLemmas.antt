@@ -108,16 +108,16 @@ same_planning settings planning at (l ∷ ls) (c ∷ cs) h =
 pub record HasPlaces (section : List ℕ) (entry : Entry) : Type 0 where
   pub text : IsFront section entry.text
   pub line : IsFront entry.text (heading_line entry)
-  pub planning : IfSome entry.planning (IsLaid (length (heading_line entry)) (length entry.text))
+  pub planning : IfSome entry.details.planning (IsLaid (length (heading_line entry)) (length entry.text))
 
 of_parts : (t l : List ℕ) (ls : List (List ℕ)) (more : List ℕ) (entry : Entry) → lines t ≡ l ∷ ls → (ls ≡ [] → more ≡ []) → entry.text ≡ l ++ more → IsFront t (l ++ more) →
-    IfSome entry.planning (IsLaid (length l) (length (l ++ more))) → HasPlaces t entry
+    IfSome entry.details.planning (IsLaid (length l) (length (l ++ more))) → HasPlaces t entry
 of_parts t l ls more entry e last text front laid =
     let line : heading_line entry ≡ l = ap first text ∙ first_again t l ls more e last in
     record {
       text = subst (IsFront t) (sym text) front;
       line = record { behind = more; joined = text ∙ ap (λ x. x ++ more) (sym line) };
-      planning = subst (λ x. IfSome entry.planning (IsLaid (length (heading_line entry)) (length x))) (sym text) (subst (λ x. IfSome entry.planning (IsLaid (length x) (length (l ++ more)))) (sym line) laid);
+      planning = subst (λ x. IfSome entry.details.planning (IsLaid (length (heading_line entry)) (length x))) (sym text) (subst (λ x. IfSome entry.details.planning (IsLaid (length x) (length (l ++ more)))) (sym line) laid);
     }
 
 whole : (t : List ℕ) (ls : List (List ℕ)) → lines t ≡ ls → t ≡ concat ls

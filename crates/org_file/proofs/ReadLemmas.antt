@@ -1,7 +1,8 @@
 -- One section more, classified and read.
 use Rattle.std.proofs.Common.{◌≡◌, ◌∙◌, ℕ, zero, suc, ◌+◌, ◌<◌, ◌≤◌, List, [], ◌∷◌, ◌++◌, map, length, take, get_or, refl, sym, ap, arith}
-use Rattle.std.specs.Prelude.{Result, OnErr}
+use Rattle.std.specs.Prelude.{Result, Some, OnErr, slice_get}
 use Rattle.std.proofs.lemmas.List.{length-map, take_more}
+use Rattle.std.proofs.lemmas.Option.{get_or_from_slice_get}
 use Rattle.org_base.specs.Counts.{Counts, ticked}
 use Rattle.org_base.specs.declared.meter.Tick.TheVariants.{Read}
 use Rattle.org_base.specs.declared.span.Span.{Span}
@@ -19,11 +20,12 @@ get_mapped f (x ∷ xs) zero d e lt = refl
 get_mapped f (x ∷ xs) (suc i) d e lt = get_mapped f xs i d e (omega arith)
 
 -- the classes at a place are those of the section there
-pub class_at : (t : List ℕ) (spans : List Span) (classes : List (List Class)) → map (bytes_in t) spans ≡ sections t → classes ≡ text_classes t → (i : ℕ) (d : Span) (k : List Class) → i < length spans → get_or classes i k ≡ section_classes (bytes_in t (get_or spans i d))
-class_at t spans classes bytes belong i d k lt =
+pub class_at : (t : List ℕ) (spans : List Span) (classes : List (List Class)) → map (bytes_in t) spans ≡ sections t → classes ≡ text_classes t → (i : ℕ) (d : Span) (own : List Class) → i < length spans → slice_get classes i ≡ Some own → own ≡ section_classes (bytes_in t (get_or spans i d))
+class_at t spans classes bytes belong i d own lt there =
     let count = length-map spans (bytes_in t) in
-    ap (λ cs. get_or cs i k) (belong ∙ ap (map section_classes) (sym bytes))
-    ∙ get_mapped section_classes (map (bytes_in t) spans) i (bytes_in t d) k (omega arith)
+    sym (get_or_from_slice_get classes i own own there)
+    ∙ ap (λ cs. get_or cs i own) (belong ∙ ap (map section_classes) (sym bytes))
+    ∙ get_mapped section_classes (map (bytes_in t) spans) i (bytes_in t d) own (omega arith)
     ∙ ap section_classes (get_mapped (bytes_in t) spans i d (bytes_in t d) lt)
 
 -- the entry of one section more stands behind those that were read

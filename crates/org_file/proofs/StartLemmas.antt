@@ -1,13 +1,13 @@
 -- Where the sections of a text begin, and which of its lines are heading lines.
 use Rattle.std.proofs.Common.{◌≡◌, ◌≢◌, ℕ, zero, suc, ◌+◌, ◌-◌, ◌<◌, ◌≤◌, Bool, true, false, ◌&&◌, ◌==◌, inl, inr, List, [], ◌∷◌, ◌++◌, map, length, take, drop, get_or, refl, sym, ap, ◌∙◌, arith, length-append, append-nil}
-use Rattle.std.specs.Prelude.{slice_get, nat_lt}
+use Rattle.std.specs.Prelude.{Some, slice_get, nat_lt}
 use Rattle.std.specs.List.{concat, flat_map, onto_first}
 use Rattle.std.proofs.lemmas.Grind.{flat_map-append}
 use Rattle.std.proofs.lemmas.Bool.Decides.{nat_tests}
 use Rattle.std.proofs.lemmas.Bool.{and_parts, cases_Bool, eqb-true}
 use Rattle.std.proofs.lemmas.List.{take-append-drop, take_at, drop_at, take_all, take_more, length-map}
 use Rattle.std.proofs.lemmas.List.Folds.{concat-append}
-use Rattle.std.proofs.lemmas.Option.{slice_get_past}
+use Rattle.std.proofs.lemmas.Option.{get_or_from_slice_get, slice_get_past, slice_get_within}
 use Rattle.org_lines.specs.Cuts.{lines}
 use Rattle.org_lines.proofs.LineLemmas.{concat-lines}
 use Rattle.org_settings.specs.Pieces.{put_before}
@@ -250,9 +250,9 @@ lines_next t place lt =
     ∙ ap (λ ls. lines_before t place + length ls) (append-nil (lines s))
 
 -- there are as many classes as lines in a section
-pub count_there : (t : List ℕ) (classes : List (List Class)) (place : ℕ) (own : List Class) → classes ≡ text_classes t → own ≡ get_or classes place own → place < length classes → (place < length (sections t)) × (length own ≡ length (lines (section_of t place)))
-count_there t classes place own is e lt =
+pub count_there : (t : List ℕ) (classes : List (List Class)) (place : ℕ) (own : List Class) → classes ≡ text_classes t → slice_get classes place ≡ Some own → (place < length (sections t)) × (length own ≡ length (lines (section_of t place)))
+count_there t classes place own is there =
     let all = length-map (sections t) section_classes in
-    let inside : place < length (sections t) = omega (arith, all, ap length is, lt) in
-    let own_is : own ≡ section_classes (section_of t place) = e ∙ ap (λ cs. get_or cs place own) is ∙ get_mapped section_classes (sections t) place [] own inside in
+    let inside : place < length (sections t) = omega (arith, all, ap length is, slice_get_within classes place own there) in
+    let own_is : own ≡ section_classes (section_of t place) = sym (get_or_from_slice_get classes place own own there) ∙ ap (λ cs. get_or cs place own) is ∙ get_mapped section_classes (sections t) place [] own inside in
     (inside, ap length own_is ∙ length-classes (lines (section_of t place)))

@@ -117,7 +117,7 @@ planned_parts at line old settings (Ok plan) = Ok (plan_parts at line old settin
 abbrev pub entry_parts : ℕ → Moment → FileSettings → List ℕ → Entry → Option Head → Result (List Part) Fault
 entry_parts at now settings keyword entry None = Err (Plain code.Heading)
 entry_parts at now settings keyword entry (Some head) =
-    planned_parts at (heading_line entry) head.keyword settings (plan_of now settings entry.planning (keyword_place settings.keywords keyword))
+    planned_parts at (heading_line entry) head.keyword settings (plan_of now settings entry.details.planning (keyword_place settings.keywords keyword))
 
 -- the same, by the entry's own head
 abbrev pub section_parts : ℕ → Moment → FileSettings → List ℕ → Entry → Result (List Part) Fault

@@ -15,8 +15,8 @@ ghost use Rattle.org_file.specs.Counts.{have_read};
 ghost use Rattle.org_file.specs.Outline.{file_entries, file_settings};
 ghost use Rattle.org_text.specs.Replace.{max_bytes};
 
-use org_base::{Fault, Meter, Texts};
-use org_class::{Classes, SectionSpans, classify, push_setting_lines, sections};
+use org_base::{Fault, Meter, Runs, Texts};
+use org_class::{Class, SectionSpans, classify, push_setting_lines, sections};
 use org_entry::{Entry, read_entry};
 use org_outline::Entries;
 use org_settings::Settings;
@@ -30,7 +30,7 @@ use std::marker::Model;
 pub(crate) struct Sections<'a, T: Text> {
     text: &'a T,
     spans: SectionSpans,
-    classes: Vec<Classes>,
+    classes: Runs<Class>,
     settings: Settings,
 }
 
@@ -42,7 +42,7 @@ impl<'a, T: Text> Model for Sections<'a, T> {
 
     ghost view = { λ s. T.content s.text.now };
 
-    ghost invariant = { λ s. AreSections (T.content s.text.now) s.spans s.classes.items s.settings };
+    ghost invariant = { λ s. AreSections (T.content s.text.now) s.spans s.classes s.settings };
 }
 
 impl<'a, T: Text> Sections<'a, T> {
@@ -85,7 +85,7 @@ impl<'a, T: Text> Sections<'a, T> {
                 meter,
                 self.text,
                 *span,
-                &self.classes[place],
+                self.classes.get(place),
                 &self.settings,
             )?;
             entries.push(entry)?;
@@ -99,11 +99,11 @@ impl<'a, T: Text> Sections<'a, T> {
         ensures none { result ≡ None → has_heading self.now line ≡ false }
     {
         let mut before = line.checked_sub(1)?;
-        for (place, classes) in self.classes.iter().enumerate() {
+        for place in 0..self.classes.count() {
             if before == 0 {
                 return Some(place);
             }
-            before = before.checked_sub(classes.count() as u64)?;
+            before = before.checked_sub(self.classes.get(place).len() as u64)?;
         }
         None
     }
@@ -125,7 +125,7 @@ impl<'a, T: Text> Sections<'a, T> {
             meter,
             self.text,
             self.spans.as_slice()[place],
-            &self.classes[place],
+            self.classes.get(place),
             &self.settings,
         )
     }
@@ -170,20 +170,20 @@ fn classify_sections<T: Text>(
     text: &T,
     spans: &SectionSpans,
     lines: &mut Texts,
-) -> Result<Vec<Classes>, Fault>
+) -> Result<Runs<Class>, Fault>
     requires bytes { map (bytes_in (T.content text.now)) spans.now ≡ sections (T.content text.now) }
     requires inside { All (λ s. s.at + s.len ≤ length (T.content text.now)) spans.now }
-    ensures value { IfOk result (λ classes. classes.items ≡ text_classes (T.content text.now)) }
+    ensures value { IfOk result (λ classes. classes ≡ text_classes (T.content text.now)) }
     ensures lines { OnOk result (lines.new ≡ lines.old ++ setting_lines (T.content text.now)) }
     ensures counts { OnOk result (meter.new ≡ classified (length (sections (T.content text.now))) meter.old) }
     ensures few { OnErr result ((n : ℕ) × (n ≤ length (sections (T.content text.now))) × (meter.new ≡ classified n meter.old)) }
     ensures memory { IsOkUnless result memory_fault }
 {
-    let mut classes = Vec::with_capacity(alloc, spans.count())?;
+    let mut classes = Runs::with_room(alloc, spans.count())?;
     for span in spans.as_slice() {
         let own = classify(alloc, meter, text, *span)?;
         push_setting_lines(alloc, lines, text, *span, &own)?;
-        classes.push(own)?;
+        classes.push(own.as_slice())?;
     }
     Ok(classes)
 }

@@ -16,6 +16,7 @@ use org_base::{Fault, Span};
 use org_class::leading_stars;
 use org_settings::Settings;
 use std::alloc::{AllocError, Global};
+use std::marker::Model;
 
 fn is_keyword(settings: &Settings, word: &[u8]) -> bool
     ensures value { result ≡ is_keyword settings.now.keywords word.now }
@@ -23,29 +24,71 @@ fn is_keyword(settings: &Settings, word: &[u8]) -> bool
     settings.keyword_place(word).is_some()
 }
 
-// The first word of what is left of a line of so many bytes, if it is a part; and what is left behind it, if it is, and the
-// gap that follows.
-fn split_part<'a>(
-    is_part: bool,
-    line_len: usize,
-    rest: &'a [u8],
-    word: &[u8],
-) -> (Option<Span>, &'a [u8])
-    requires first { word.now ≡ first_word rest.now }
-    requires within { length rest.now ≤ line_len }
-    requires size { line_len < 2 ^ 32 }
-    ensures part { result.0 ≡ first_part is_part line_len rest.now }
-    ensures left { result.1.now ≡ behind is_part rest.now }
-    ensures within { length result.1.now ≤ length rest.now }
-{
-    if !is_part {
-        return (None, rest);
+// What is left of a heading line, seen as its bytes. Its first word is found once, though up to three parts are looked for
+// there.
+#[derive(Drop)]
+struct Left<'a> {
+    bytes: &'a [u8],
+    word: &'a [u8],
+}
+
+impl<'a> Model for Left<'a> {
+    ghost use Rattle.std.specs.Prelude.{◌≡◌, ℕ, List};
+    ghost use Rattle.org_base.specs.Words.{first_word};
+
+    ghost Value = { List ℕ };
+
+    ghost view = { λ l. l.bytes.now };
+
+    ghost invariant = { λ l. l.word.now ≡ first_word l.bytes.now };
+}
+
+impl<'a> Left<'a> {
+    // These bytes.
+    fn new(bytes: &'a [u8]) -> Left<'a>
+        ensures value { result ≡ bytes.now }
+    {
+        Left {
+            bytes,
+            word: first_word(bytes),
+        }
     }
-    let part = Span {
-        at: (line_len - rest.len()) as u32,
-        len: word.len() as u32,
-    };
-    (Some(part), trim_start(&rest[word.len()..]))
+
+    // All of them.
+    fn bytes(&self) -> &'a [u8]
+        ensures value { result.now ≡ self.now }
+    {
+        self.bytes
+    }
+
+    // The first word.
+    fn word(&self) -> &'a [u8]
+        ensures value { result.now ≡ first_word self.now }
+    {
+        self.word
+    }
+
+    // The first word as a part of a line of so many bytes, if it is one; and what is left behind it, if it is, and the gap
+    // that follows.
+    fn split(self, is_part: bool, line_len: usize) -> (Option<Span>, Left<'a>)
+        requires within { length self ≤ line_len }
+        requires size { line_len < 2 ^ 32 }
+        ensures part { result.0 ≡ first_part is_part line_len self.entry }
+        ensures left { result.1 ≡ behind is_part self.entry }
+        ensures within { length result.1 ≤ length self.entry }
+    {
+        if !is_part {
+            return (None, self);
+        }
+        let part = Span {
+            at: (line_len - self.bytes.len()) as u32,
+            len: self.word.len() as u32,
+        };
+        (
+            Some(part),
+            Left::new(trim_start(&self.bytes[self.word.len()..])),
+        )
+    }
 }
 
 // How long the title of a text is that begins at a place, and the tags behind it, if its last word is tags.
@@ -72,14 +115,14 @@ fn read_parts(alloc: Global, line: &[u8], settings: &Settings) -> Result<Head, A
 {
     let n = line.len();
     let level = leading_stars(line);
-    let words = trim_start(&line[level..]);
-    let word = first_word(words);
-    let (keyword, words) = split_part(is_keyword(settings, word), n, words, word);
-    let word = first_word(words);
-    let (priority, words) = split_part(is_cookie(word), n, words, word);
-    let word = first_word(words);
-    let comment = is_comment_word(word);
-    let (_, left) = split_part(comment, n, words, word);
+    let left = Left::new(trim_start(&line[level..]));
+    let is_keyword = is_keyword(settings, left.word());
+    let (keyword, left) = left.split(is_keyword, n);
+    let is_cookie = is_cookie(left.word());
+    let (priority, left) = left.split(is_cookie, n);
+    let comment = is_comment_word(left.word());
+    let (_, left) = left.split(comment, n);
+    let left = left.bytes();
     let at = n - left.len();
     let (title_len, tags) = title_and_tags(alloc, at, trim_end(left))?;
     let title = Span {

@@ -74,8 +74,8 @@ tags_step file f line k ts more new h e g n =
     n ∙ (rw (e, g) (sym (fold-append with_tag [] (file ++ flat_map f (take k line)) (f (get_or line k 0)))))
     ∙ ap (fold with_tag []) (flat_map_more f file (take k line) (get_or line k 0) ∙ ap (λ v. file ++ flat_map f v) (sym (take_more line k 0 h)))
 
-pub value_here : (es : List Entry) (name : List ℕ) (i : ℕ) (d : Entry) → i < length es → own_value es name i ≡ value_in (get_or es i d).drawer name
-value_here es name i d h = get_or-map (λ e. value_in e.drawer name) es i d None h
+pub value_here : (es : List Entry) (name : List ℕ) (i : ℕ) (d : Entry) → i < length es → own_value es name i ≡ value_in (get_or es i d).details.drawer name
+value_here es name i d h = get_or-map (λ e. value_in e.details.drawer name) es i d None h
 
 -- an entry without an own category has its parent's, and the file's where it has no parent
 pub category_above : (es : List Entry) (file : List ℕ) (i : ℕ) → own_value es (codes "CATEGORY") i ≡ None → category_under es file i ≡ unwrap_or (first_of (own_value es (codes "CATEGORY")) (up_from (levels es) (parent (levels es) i))) file

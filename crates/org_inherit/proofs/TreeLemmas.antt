@@ -85,7 +85,7 @@ trees_inherit_alone xs ys k b h =
     record {
       hides_same = λ j l. get_behind hides xs ys j _;
       tags_same = λ j l. get_behind own_tags xs ys j _;
-      values_same = λ name j l. get_behind (λ e. value_in e.drawer name) xs ys j _;
+      values_same = λ name j l. get_behind (λ e. value_in e.details.drawer name) xs ys j _;
     } k h same
 
 pub later_says_nothing : LaterSaysNothing
@@ -98,5 +98,5 @@ later_says_nothing xs ys k h =
     record {
       hides_same = λ j l. get_before hides xs ys j _ l;
       tags_same = λ j l. get_before own_tags xs ys j _ l;
-      values_same = λ name j l. get_before (λ e. value_in e.drawer name) xs ys j _ l;
+      values_same = λ name j l. get_before (λ e. value_in e.details.drawer name) xs ys j _ l;
     } k h same

@@ -68,7 +68,7 @@ heading_value settings e head heading.Priority = Some (priority_value settings e
 heading_value settings e head heading.Level = Some (decimal head.level)
 heading_value settings e head heading.Title = Some (bytes_in e.text head.title)
 heading_value settings e head heading.Tags = tags_value (map (bytes_in e.text) head.tags)
-heading_value settings e head (heading.Stamp word) = option_map (bytes_in e.text) (stamp_span word e.planning)
+heading_value settings e head (heading.Stamp word) = option_map (bytes_in e.text) (stamp_span word e.details.planning)
 
 -- what the entry at a place has by its head; nothing where it has none
 abbrev pub by_head : List Entry → ℕ → (Entry → Head → Option (List ℕ)) → Option (List ℕ)

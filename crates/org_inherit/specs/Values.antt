@@ -18,7 +18,7 @@ first_of f (j ∷ js) = option_or (f j) (first_of f js)
 
 -- the own value of the entry at a place
 abbrev pub own_value : List Entry → List ℕ → ℕ → Option (List ℕ)
-own_value es name j = get_or (map (λ e. value_in e.drawer name) es) j None
+own_value es name j = get_or (map (λ e. value_in e.details.drawer name) es) j None
 
 -- the own value, else that of the nearest ancestor that has one
 abbrev pub nearest_value : List Entry → List ℕ → ℕ → Option (List ℕ)
@@ -32,7 +32,7 @@ value_without_head (Some head) drawer name = None
 -- what the drawer of the lines before the first heading gives
 abbrev pub front_value : List Entry → List ℕ → Option (List ℕ)
 front_value [] name = None
-front_value (e ∷ es) name = value_without_head e.head e.drawer name
+front_value (e ∷ es) name = value_without_head e.head e.details.drawer name
 
 -- the file's value: that of the drawer of the lines before the first heading, else that of the settings
 abbrev pub file_value : Scope → List ℕ → Option (List ℕ)

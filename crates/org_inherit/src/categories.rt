@@ -42,7 +42,7 @@ impl<'a> Categories<'a> {
         requires before { self.now ≡ map (category_under outline.now file_category.now) (range_with_len 0 place) }
         ensures value { result.now ≡ category_under outline.now file_category.now place }
     {
-        if let Some(own) = outline.entry(place).drawer.get(b"CATEGORY") {
+        if let Some(own) = outline.entry(place).details.property(b"CATEGORY") {
             return own;
         }
         match outline.parent(place) {

@@ -75,9 +75,9 @@ fn part_value(alloc: Global, entry: &Entry, part: Option<Span>) -> Result<Option
 
 // Where the stamp of a planning keyword stands in the entry's text.
 fn stamp_span(entry: &Entry, word: PlanningKeyword) -> Option<Span>
-    ensures value { result ≡ stamp_span word entry.now.planning }
+    ensures value { result ≡ stamp_span word entry.now.details.planning }
 {
-    let planning = entry.planning.get()?;
+    let planning = entry.details.planning()?;
     let stamp = match word {
         PlanningKeyword::Scheduled => &planning.scheduled,
         PlanningKeyword::Deadline => &planning.deadline,

@@ -159,7 +159,7 @@ impl<'a> Inherit<'a> {
         ensures value { option_map (λ value. value.now) result ≡ plain_value self.now place name.now }
     {
         if !is_inherited(self.inherited, name) {
-            return self.outline.entry(place).drawer.get(name);
+            return self.outline.entry(place).details.property(name);
         }
         match nearest_value(self.outline, place, name) {
             Some(value) => Some(value),

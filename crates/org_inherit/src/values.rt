@@ -16,7 +16,7 @@ pub(crate) fn nearest_value<'a>(outline: &'a Outline, place: usize, name: &[u8])
 {
     let mut next = Some(place);
     while let Some(place) = next {
-        if let Some(value) = outline.entry(place).drawer.get(name) {
+        if let Some(value) = outline.entry(place).details.property(name) {
             return Some(value);
         }
         next = outline.parent(place);
@@ -34,7 +34,7 @@ pub(crate) fn front_value<'a>(outline: &'a Outline, name: &[u8]) -> Option<&'a [
     let first = outline.entry(0);
     match &first.head {
         Some(_) => None,
-        None => first.drawer.get(name),
+        None => first.details.property(name),
     }
 }
 

@@ -2,10 +2,10 @@
 use Rattle.std.proofs.Common.{◌≡◌, ℕ, ◌-◌, ◌<◌, ◌≤◌, List, [], ◌∷◌, ◌++◌, Option, None, Some, map, length, get_or, take, drop, refl, sym, ap, ◌∙◌, arith}
 use Rattle.std.specs.List.{range_with_len, splice}
 use Rattle.std.specs.Option.{SomeIff}
-use Rattle.std.proofs.lemmas.List.{length-map, take-map, drop-map, append_assoc}
+use Rattle.std.proofs.lemmas.List.{get_or-map, length-map, take-map, drop-map, append_assoc}
 use Rattle.std.proofs.lemmas.List.FromFn.{length-map-range_with_len, get_or-map-range_with_len}
 use Rattle.org_entry.specs.declared.entry.Entry.{Entry}
-use Rattle.org_outline.specs.Tree.{end_of}
+use Rattle.org_outline.specs.Tree.{end_of, level_at}
 use Rattle.org_outline.specs.Levels.{level_of, levels}
 use Rattle.org_outline.specs.Places.{behind}
 use Rattle.org_outline.specs.Shared.{HasTables, up_to_parent}
@@ -20,6 +20,13 @@ table_at f xs n i d e h = ap (λ v. get_or v i d) e ∙ get_or-map-range_with_le
 pub map_twice : {X Y Z : Type 0} (f : X → Y) (g : Y → Z) (xs : List X) → map g (map f xs) ≡ map (λ x. g (f x)) xs
 map_twice f g [] = refl
 map_twice f g (x ∷ xs) = ap (λ v. g (f x) ∷ v) (map_twice f g xs)
+
+-- a place in a table of what is read of the items is one of theirs
+pub within_map : {X Y : Type 0} (f : X → Y) (xs : List X) (i : ℕ) → i < length (map f xs) → i < length xs
+within_map f xs i h = omega (arith, h, length-map xs f)
+
+pub level_there : {R : Type 0} (v : R → Entry) (rs : List R) (i : ℕ) (r : R) (level : Option ℕ) → i < length rs → r ≡ get_or rs i r → level ≡ level_of (v r) → level ≡ level_at (map (λ x. level_of (v x)) rs) i
+level_there v rs i r level h there is = is ∙ ap (λ x. level_of (v x)) there ∙ sym (get_or-map (λ x. level_of (v x)) rs i r None h)
 
 pub tables_are : {R : Type 0} (v : R → Entry) (rs : List R) (ls : List (Option ℕ)) (ps es : List ℕ) →
     ls ≡ map (λ r. level_of (v r)) rs →

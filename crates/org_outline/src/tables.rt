@@ -4,10 +4,11 @@ ghost use Rattle.std.specs.Prelude.{◌≡◌, ℕ, ◌<◌, length, map, slice_
 ghost use Rattle.std.specs.List.{range_with_len};
 ghost use Rattle.org_outline.specs.Levels.{level_of};
 ghost use Rattle.org_outline.specs.Shared.{HasTables, up_to_parent};
-ghost use Rattle.org_outline.specs.Tree.{end_of, ends};
+ghost use Rattle.org_outline.specs.Tree.{end_of, ends, level_at};
 
 use org_entry::Entry;
 use std::alloc::{AllocError, Global};
+use std::marker::Model;
 use std::rc::Rc;
 
 // The parents and the subtree ends of entries, by their places.
@@ -23,7 +24,7 @@ impl Tables {
     pub(crate) fn of(alloc: Global, list: &[Rc<Entry>]) -> Result<Tables, AllocError>
         ensures value { IfOk result (λ t. HasTables (map (λ e. e.value) list.now) t.parents.items t.ends.items) }
     {
-        let levels = levels_of(alloc, list)?;
+        let levels = Levels { list };
         let parents = parent_table(alloc, &levels)?;
         let ends = end_table(alloc, &levels)?;
         Ok(Tables { parents, ends })
@@ -38,33 +39,64 @@ fn level_of(entry: &Entry) -> Option<u32>
     Some(head.level)
 }
 
-// The levels of entries.
-fn levels_of(alloc: Global, list: &[Rc<Entry>]) -> Result<Vec<Option<u32>>, AllocError>
-    ensures value { IfOk result (λ v. v.items ≡ map (λ e. level_of e.value) list.now) }
-{
-    let mut levels = Vec::with_capacity(alloc, list.len())?;
-    for entry in list {
-        levels.push(level_of(entry))?;
+// The levels of entries, read from their heads; seen as their list.
+#[derive(Drop)]
+struct Levels<'a> {
+    list: &'a [Rc<Entry>],
+}
+
+impl<'a> Model for Levels<'a> {
+    ghost use Rattle.std.specs.Prelude.{ℕ, List, Option, map};
+    ghost use Rattle.org_outline.specs.Levels.{level_of};
+
+    ghost Value = { List (Option ℕ) };
+
+    ghost view = { λ l. map (λ e. level_of e.value) l.list.now };
+}
+
+impl<'a> Levels<'a> {
+    // How many there are.
+    fn count(&self) -> usize
+        ensures value { result ≡ length self.now }
+    {
+        self.list.len()
     }
-    Ok(levels)
+
+    // The one at a place.
+    #[tactic(auto, using(crate::proofs::ByPlace::within_map))]
+    fn get(&self, place: usize) -> Option<u32>
+        requires within { place < length self.now }
+        ensures value { result ≡ level_at self.now place }
+    {
+        level_in(self.list, place)
+    }
+}
+
+// The level of the entry at a place of a list.
+#[tactic(auto, using(crate::proofs::ByPlace::level_there))]
+fn level_in(list: &[Rc<Entry>], place: usize) -> Option<u32>
+    requires within { place < length list.now }
+    ensures value { result ≡ level_at (map (λ e. level_of e.value) list.now) place }
+{
+    level_of(&list[place])
 }
 
 // How many entries there are up to the parent of an entry, with it, from the same of those before it. An earlier heading
 // whose level isn't smaller has nothing between its parent and itself that has a smaller level, so the search goes on at
 // its parent.
-fn up_to_parent(levels: &[Option<u32>], parents: &[usize], place: usize) -> usize
+fn up_to_parent(levels: &Levels<'_>, parents: &[usize], place: usize) -> usize
     requires within { place < length levels.now }
     requires count { length parents.now ≡ place }
     requires before { (k : ℕ) → k < place → slice_index parents.now k ≡ up_to_parent levels.now k }
     ensures value { result ≡ up_to_parent levels.now place }
 {
-    let Some(level) = levels[place] else {
+    let Some(level) = levels.get(place) else {
         return 0;
     };
     let mut rest = place;
     while rest > 0 {
         let candidate = rest - 1;
-        match levels[candidate] {
+        match levels.get(candidate) {
             None => rest = candidate,
             Some(other) => {
                 if other < level {
@@ -78,11 +110,11 @@ fn up_to_parent(levels: &[Option<u32>], parents: &[usize], place: usize) -> usiz
 }
 
 // The same of all entries.
-fn parent_table(alloc: Global, levels: &[Option<u32>]) -> Result<Vec<usize>, AllocError>
+fn parent_table(alloc: Global, levels: &Levels<'_>) -> Result<Vec<usize>, AllocError>
     ensures value { IfOk result (λ v. v.items ≡ map (up_to_parent levels.now) (range_with_len 0 (length levels.now))) }
 {
-    let mut parents = Vec::with_capacity(alloc, levels.len())?;
-    for place in 0..levels.len() {
+    let mut parents = Vec::with_capacity(alloc, levels.count())?;
+    for place in 0..levels.count() {
         parents.push(up_to_parent(levels, &parents, place))?;
     }
     Ok(parents)
@@ -101,15 +133,15 @@ fn ends_subtree(level: Option<u32>, later: Option<u32>) -> bool
 
 // Where the subtree of an entry ends, from the subtree ends of those behind it. With an entry its whole subtree is below,
 // so the search goes on at its end.
-fn end_from(levels: &[Option<u32>], all_ends: &[usize], place: usize) -> usize
+fn end_from(levels: &Levels<'_>, all_ends: &[usize], place: usize) -> usize
     requires within { place < length levels.now }
     requires count { length all_ends.now ≡ length levels.now }
     requires later { (k : ℕ) → place < k → k < length levels.now → slice_index all_ends.now k ≡ end_of levels.now k }
     ensures value { result ≡ end_of levels.now place }
 {
     let mut end = place + 1;
-    while end < levels.len() {
-        if ends_subtree(levels[place], levels[end]) {
+    while end < levels.count() {
+        if ends_subtree(levels.get(place), levels.get(end)) {
             return end;
         }
         end = all_ends[end];
@@ -118,11 +150,11 @@ fn end_from(levels: &[Option<u32>], all_ends: &[usize], place: usize) -> usize
 }
 
 // The subtree ends of all entries.
-fn end_table(alloc: Global, levels: &[Option<u32>]) -> Result<Vec<usize>, AllocError>
+fn end_table(alloc: Global, levels: &Levels<'_>) -> Result<Vec<usize>, AllocError>
     ensures value { IfOk result (λ v. v.items ≡ map (end_of levels.now) (range_with_len 0 (length levels.now))) }
 {
-    let mut all_ends = vec![in alloc; 0; levels.len()]?;
-    let mut place = levels.len();
+    let mut all_ends = vec![in alloc; 0; levels.count()]?;
+    let mut place = levels.count();
     while place > 0 {
         place -= 1;
         all_ends[place] = end_from(levels, &all_ends, place);

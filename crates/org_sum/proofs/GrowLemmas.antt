@@ -26,7 +26,7 @@ all_grow f g (x ∷ xs) h = omega (arith, sum_by-cons f x xs, sum_by-cons g x xs
 
 entry_grows : (e : Entry) (p w : ℕ × ℕ) → w.0 ≤ p.0 → p.1 ≤ w.1 → clock_minutes p e ≤ clock_minutes w e
 unfolding clock_minutes
-entry_grows e p w h k = all_grow _ _ e.clocks (λ clock. clock_grows clock p w h k)
+entry_grows e p w h k = all_grow _ _ e.details.clocks (λ clock. clock_grows clock p w h k)
 
 if_grows : (b : Bool) (x y : ℕ) → x ≤ y → (if b then x else 0) ≤ (if b then y else 0)
 if_grows true x y h = h

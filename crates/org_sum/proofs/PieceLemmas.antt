@@ -44,7 +44,7 @@ clocks first last ps (c ∷ cs) one joined =
 
 entry : (first last : ℕ) (ps : List (ℕ × ℕ)) (e : Entry) → 1 ≤ first → AreJoined first ps last → sum_by (λ p. clock_minutes p e) ps ≡ clock_minutes (first, last) e
 unfolding clock_minutes
-entry first last ps e one joined = clocks first last ps e.clocks one joined
+entry first last ps e one joined = clocks first last ps e.details.clocks one joined
 
 at_place : (first last : ℕ) (ps : List (ℕ × ℕ)) (es : List Entry) (cs : List Bool) (j : ℕ) → 1 ≤ first → AreJoined first ps last →
     sum_by (λ p. own_at (clock_minutes p) es cs j) ps ≡ own_at (clock_minutes (first, last)) es cs j

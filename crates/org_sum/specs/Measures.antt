@@ -16,11 +16,11 @@ minutes_of days clocks = sum_by (λ c. minutes_in c days) clocks
 
 -- those of an entry's clocks
 unfoldable pub clock_minutes : ℕ × ℕ → Entry → ℕ
-clock_minutes days e = minutes_of days e.clocks
+clock_minutes days e = minutes_of days e.details.clocks
 
 -- the effort of an entry's own property; 0 where there is none, or the text is no effort
 unfoldable pub effort_minutes : Entry → ℕ
-effort_minutes e = unwrap_or (option_and_then effort_of (value_in e.drawer (codes "EFFORT"))) 0
+effort_minutes e = unwrap_or (option_and_then effort_of (value_in e.details.drawer (codes "EFFORT"))) 0
 
 -- what is measured of an entry
 abbrev pub amount : Measure → Entry → ℕ

@@ -45,7 +45,7 @@ fn clock_minutes(period: &Period, entry: &Entry) -> u64
     requires small { clock_minutes (days_of period.now) entry.now < 2 ^ 63 }
     ensures value { result ≡ clock_minutes (days_of period.now) entry.now }
 {
-    minutes_of(period, entry.clocks.as_slice())
+    minutes_of(period, entry.details.clocks())
 }
 
 fn minutes_of(period: &Period, clocks: &[ClockLine]) -> u64
@@ -63,7 +63,7 @@ fn minutes_of(period: &Period, clocks: &[ClockLine]) -> u64
 fn effort_of_entry(entry: &Entry) -> u64
     ensures value { result ≡ effort_minutes entry.now }
 {
-    match entry.drawer.get(b"EFFORT") {
+    match entry.details.property(b"EFFORT") {
         Some(text) => effort_minutes(text).unwrap_or(0),
         None => 0,
     }

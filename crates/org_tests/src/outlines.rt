@@ -55,7 +55,7 @@ fn read_section<T: Text>(
 {
     let mut meter = Meter::new();
     let classes = classify(alloc, &mut meter, text, span)?;
-    read_entry(alloc, &mut meter, text, span, &classes, settings)
+    read_entry(alloc, &mut meter, text, span, classes.as_slice(), settings)
 }
 
 fn keep(entries: &mut Entries, entry: Entry) -> Result<(), Fault> {
@@ -435,7 +435,7 @@ fn title(entry: &Entry) -> Option<&[u8]> {
 }
 
 fn deadline(entry: &Entry) -> Option<&[u8]> {
-    match entry.planning.get() {
+    match entry.details.planning() {
         Some(
             Planning {
                 deadline: Some((_, place)),
@@ -448,10 +448,11 @@ fn deadline(entry: &Entry) -> Option<&[u8]> {
 
 // Whether the plain stamps of an entry stand at these places.
 fn stamps_stand_at(entry: &Entry, places: &[usize]) -> bool {
-    if entry.stamps.count() != places.len() {
+    let stamps = entry.details.stamps();
+    if stamps.len() != places.len() {
         return false;
     }
-    for (place, stamp) in entry.stamps.as_slice().iter().enumerate() {
+    for (place, stamp) in stamps.iter().enumerate() {
         if stamp.at != places[place] {
             return false;
         }
@@ -460,7 +461,7 @@ fn stamps_stand_at(entry: &Entry, places: &[usize]) -> bool {
 }
 
 fn first_clock(entry: &Entry) -> Option<Minute> {
-    match entry.clocks.as_slice().get(0) {
+    match entry.details.clocks().get(0) {
         Some(clock) => Some(clock.from),
         None => None,
     }
@@ -469,9 +470,9 @@ fn first_clock(entry: &Entry) -> Option<Minute> {
 // Whether the entry of the lines before the first heading is as it should be.
 fn is_front(entry: &Entry) -> bool {
     entry.head.is_none()
-        && entry.planning.get().is_none()
+        && entry.details.planning().is_none()
         && entry.line().is_empty()
-        && entry.drawer.get(b"OWNER") == Some(b"ann".as_slice())
+        && entry.details.property(b"OWNER") == Some(b"ann".as_slice())
         && stamps_stand_at(entry, &[57])
 }
 
@@ -481,7 +482,7 @@ fn is_heading(entry: &Entry, start: Minute) -> bool {
         && entry.line() == b"* TODO a <2024-02-28 Wed>  :x:\n".as_slice()
         && title(entry) == Some(b"a <2024-02-28 Wed>".as_slice())
         && deadline(entry) == Some(b"<2024-03-01 Fri>".as_slice())
-        && entry.drawer.get(b"owner") == Some(b"bob cy".as_slice())
+        && entry.details.property(b"owner") == Some(b"bob cy".as_slice())
         && stamps_stand_at(entry, &[9, 186])
         && first_clock(entry) == Some(start)
 }

@@ -1,6 +1,7 @@
 -- The title lies within the line.
 use Rattle.std.proofs.Common.{ap, ap₂, ◌∙◌, ◌++◌, arith, length, drop, length-take}
 use Rattle.org_base.proofs.SpanLemmas.{bytes_taken}
+use Rattle.org_entry.specs.Details.{nothing}
 use Rattle.org_entry.specs.Entry.{active_at}
 use Rattle.org_entry.proofs.AloneLemmas.{heading_says}
 use Rattle.org_entry.proofs.alone.heading_entry.Goals as goal
@@ -15,10 +16,8 @@ push_active-requires c =
 pub returns-clause-value : goal.returns-clause-value
 returns-clause-value c =
     let head = c.in_ok-head.head in
-    heading_says c.args.settings.now c.args.line.now _ head _ _ _ _
+    let stamps = c.in_ok-push_active.ensures.ok ∙ ap₂ (λ s b. s ++ active_at head.title.at b) c.new-stamps.ensures.value c.part.ensures.value in
+    heading_says c.args.settings.now c.args.line.now _ head _
     (c.in_ok-push.ensures.ok ∙ ap (λ t. t ++ c.args.line.now) c.new-text.ensures.value)
     c.in_ok-head.ensures.value
-    c.none.ensures.value
-    c.none-2.ensures.value
-    (c.in_ok-push_active.ensures.ok ∙ ap₂ (λ s b. s ++ active_at head.title.at b) c.new-stamps.ensures.value c.part.ensures.value)
-    c.new.ensures.value
+    (c.in_ok-details.ensures.value ∙ ap (λ s. record nothing { stamps = s }) stamps)

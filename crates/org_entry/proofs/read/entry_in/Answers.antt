@@ -16,25 +16,25 @@ loop-line-init g c =
     let section = c.args.section in
     let text = g.T.Text.content c.args.text.now in
     let items = c.new-line-items.ensures in
-    let all = c.as_slice-classes.ensures.value ∙ c.requires.belongs in
+    let all = c.requires.belongs in
     rw (c.into_iter-line-iterator.ensures.into_iter_gives, c.new-draft.ensures.value) (record {
       few = classes_left (bytes_in text section) _ _ items.lines all;
       room = bytes_left (bytes_in text section) section.len c.new-line-items.result items.joined (length_range text section.at section.len c.requires.within);
       left = items.joined;
-      all = lines_left c.args.settings.now (bytes_in text section) c.as_slice-classes.result.now c.new-line-items.result items.lines;
+      all = lines_left c.args.settings.now (bytes_in text section) c.args.classes.now c.new-line-items.result items.lines;
     })
 
 pub returns-clause-value : goal.returns-clause-value
 returns-clause-value g c =
     let part = bytes_in (g.T.Text.content c.args.text.now) c.args.section in
     let settings = c.args.settings.now in
-    let every = placed 0 (lines part) c.as_slice-classes.result.now in
+    let every = placed 0 (lines part) c.args.classes.now in
     let known = c.loop-line.invariant in
     let read : ended c.loop-line.draft ≡ entry_of_lines settings every = elim c.match-next.branch [
       | in-None w ↦ none_left settings c.loop-line.draft c.loop-line.at c.loop-line.line-iterator _ every w.in-None.ensures.steps.0 known.all
-      | in-Some+then-place-spoken+then-not-may_close w ↦ quiet_left settings c.loop-line.draft c.loop-line.at c.loop-line.line-iterator c.as_slice-classes.result.now c.loop-line.place c.quiet_lines.result part every c.quiet_lines.ensures.value w.if-place-spoken.true (w.may_close.ensures.none w.if-not-may_close.true) known.left known.all
+      | in-Some+then-place-spoken+then-not-may_close w ↦ quiet_left settings c.loop-line.draft c.loop-line.at c.loop-line.line-iterator c.args.classes.now c.loop-line.place c.quiet_lines.result part every c.quiet_lines.ensures.value w.if-place-spoken.true (w.may_close.ensures.none w.if-not-may_close.true) known.left known.all
     ] in
-    let all = c.as_slice-classes.ensures.value ∙ c.requires.belongs in
+    let all = c.requires.belongs in
     subst (λ e. IfOk c.ended.result (λ entry. entry ≡ e)) (read ∙ ap (λ cs. entry_of_lines settings (placed 0 (lines part) cs)) all) c.ended.ensures.value
 
 pub loop-line-preserved-in_ok-add : goal.loop-line-preserved-in_ok-add
@@ -50,7 +50,7 @@ loop-line-preserved-in_ok-add g c =
       few = omega (arith, ap length first, known.few);
       room = bytes_fewer c.loop-line.at left next step.0 _ _ first is known.room;
       left = bytes_left_more c.loop-line.at left next step.0 section first known.left ∙ ap (λ l. drop (c.loop-line.at + length l) section) (sym is);
-      all = line_more c.args.settings.now c.loop-line.draft c.add.new.self _ c.loop-line.at c.loop-line.place left next c.as_slice-classes.result.now step.0 c.as_slice-line.result.now _ first is (omega (arith, ap length first, known.few)) c.in_ok-add.ensures.ok known.all;
+      all = line_more c.args.settings.now c.loop-line.draft c.add.new.self _ c.loop-line.at c.loop-line.place left next c.args.classes.now step.0 c.as_slice-line.result.now _ first is (omega (arith, ap length first, known.few)) c.in_ok-add.ensures.ok known.all;
     }
 
 pub loop-line-preserved : goal.loop-line-preserved
@@ -66,5 +66,5 @@ loop-line-preserved g c =
       few = omega (arith, ap length first, known.few);
       room = bytes_fewer c.loop-line.at left next step.0 _ _ first is known.room;
       left = bytes_left_more c.loop-line.at left next step.0 section first known.left ∙ ap (λ l. drop (c.loop-line.at + length l) section) (sym is);
-      all = line_more c.args.settings.now c.loop-line.draft c.add.new.self _ c.loop-line.at c.loop-line.place left next c.as_slice-classes.result.now step.0 c.as_slice-line.result.now _ first is (omega (arith, ap length first, known.few)) c.in_ok-add.ensures.ok known.all;
+      all = line_more c.args.settings.now c.loop-line.draft c.add.new.self _ c.loop-line.at c.loop-line.place left next c.args.classes.now step.0 c.as_slice-line.result.now _ first is (omega (arith, ap length first, known.few)) c.in_ok-add.ensures.ok known.all;
     }

@@ -13,5 +13,5 @@ complete_entry-requires-clause-plan g c =
     let entry = c.in_ok-entry.entry in
     let headed : IsSome entry.head = subst (λ o. IsSome o) (sym c.in-Some.is) refl in
     let own : IsEntryOf t c.args.place settings entry = record { utf8 = c.text-text.ensures.utf8; small = c.text-text.ensures.small; within = c.requires.within; is = c.in_ok-entry.ensures.value; headed = headed } in
-    let planned = rw (c.settings.ensures.value, c.get.ensures.value) at c.in_ok-plan.ensures.value in
+    let planned = rw (c.settings.ensures.value, c.planning.ensures.value) at c.in_ok-plan.ensures.value in
     can_write t c.args.place settings entry c.in-Some.head c.args.moment (keyword_place settings.keywords c.args.keyword.now) c.in_ok-plan.plan own c.in-Some.is planned

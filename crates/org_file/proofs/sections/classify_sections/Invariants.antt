@@ -8,7 +8,7 @@ use Rattle.org_file.proofs.sections.classify_sections.Given as goal
 
 abbrev pub invariant-loop-span : goal.invariant-loop-span
 invariant-loop-span g l = record {
-  classes : l.classes.items ++ map section_classes (map (bytes_in (g.T.Text.content l.text)) (drop l.span-index l.span-items)) ≡ text_classes (g.T.Text.content l.text);
+  classes : l.classes ++ map section_classes (map (bytes_in (g.T.Text.content l.text)) (drop l.span-index l.span-items)) ≡ text_classes (g.T.Text.content l.text);
   lines : l.lines ++ flat_map section_settings (map (bytes_in (g.T.Text.content l.text)) (drop l.span-index l.span-items)) ≡ l.fn.lines ++ setting_lines (g.T.Text.content l.text);
   counts : l.meter ≡ classified l.span-index l.fn.meter;
 }

@@ -23,7 +23,7 @@ loop-next-preserved c =
     let b : behind (Some p) ≤ length es = rw c.in-Some.is at c.loop-next.invariant.within in
     let q = behind_parent (levels es) p in
     let a : behind c.parent-next.result ≤ p = rw c.parent-next.ensures.value q in
-    let h : own_value es n p ≡ None = value_here es n p c.entry.result.now (omega arith) ∙ ap (λ e. value_in e.drawer n) (sym c.entry.ensures.value) ∙ sym c.in_default-get.ensures.value in
+    let h : own_value es n p ≡ None = value_here es n p c.entry.result.now (omega arith) ∙ ap (λ e. value_in e.details.drawer n) (sym c.entry.ensures.value) ∙ sym c.in_default-property.ensures.value in
     record {
       within = omega arith;
       rest = ap (λ v. first_of (own_value es n) (up_from (levels es) v)) c.parent-next.ensures.value ∙ sym (value_above es n p h)

@@ -5,7 +5,7 @@ use Rattle.org_outline.proofs.Parents.{NoneFrom, none_at_first, no_parent, no_he
 use Rattle.org_outline.proofs.tables.up_to_parent.Goals as goal
 
 pub returns-in_default : goal.returns-in_default
-returns-in_default c = record { value = sym (ap behind (no_heading_no_parent c.args.levels.now c.args.place c.in_default.is)) }
+returns-in_default c = record { value = sym (ap behind (no_heading_no_parent c.args.levels.now c.args.place (sym c.get.ensures.value ∙ c.in_default.is))) }
 
 pub loop-rest-init : goal.loop-rest-init
 loop-rest-init c = none_at_first c.args.levels.now c.args.place
@@ -14,7 +14,7 @@ pub returns-then-other-level : goal.returns-then-other-level
 returns-then-other-level c =
     let e : c.loop-rest.rest ≡ suc (c.loop-rest.rest - 1) = omega arith in
     let n : NoneFrom c.args.levels.now c.args.place (suc (c.loop-rest.rest - 1)) = subst (λ (x : ℕ). NoneFrom c.args.levels.now c.args.place x) e c.loop-rest.invariant in
-    let found = parent_found c.args.levels.now c.args.place (c.loop-rest.rest - 1) c.in-Some-levels.other c.in-Some.level n c.in-Some.is c.in-Some-levels.is c.if-other-level.true in
+    let found = parent_found c.args.levels.now c.args.place (c.loop-rest.rest - 1) c.in-Some-get.other c.in-Some.level n (sym c.get.ensures.value ∙ c.in-Some.is) (sym c.get-in-loop-rest.ensures.value ∙ c.in-Some-get.is) c.if-other-level.true in
     let count : c.loop-rest.rest - 1 + 1 ≡ c.loop-rest.rest = omega arith in
     record { value = sym (ap behind found ∙ count) }
 
@@ -30,7 +30,7 @@ loop-rest-preserved c =
     let s : c.loop-rest.rest ≡ suc k = omega arith in
     let n : NoneFrom c.args.levels.now c.args.place (suc k) = subst (λ (x : ℕ). NoneFrom c.args.levels.now c.args.place x) s c.loop-rest.invariant in
     subst (λ (x : ℕ). NoneFrom c.args.levels.now c.args.place x) (sym b)
-    (over_heading c.args.levels.now c.args.place k c.in-Some-levels.other c.in-Some.level n c.in-Some.is c.in-Some-levels.is c.if-other-level.false)
+    (over_heading c.args.levels.now c.args.place k c.in-Some-get.other c.in-Some.level n (sym c.get.ensures.value ∙ c.in-Some.is) (sym c.get-in-loop-rest.ensures.value ∙ c.in-Some-get.is) c.if-other-level.false)
 
 pub returns : goal.returns
 returns c =

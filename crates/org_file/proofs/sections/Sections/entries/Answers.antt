@@ -26,8 +26,7 @@ read_entry-requires-clause-belongs g c =
     let own = c.self.invariant in
     let place = c.loop-place.place in
     let within : place < length spans = omega (arith, ap length c.as_slice-span-items.ensures.value) in
-    c.index.ensures
-    ∙ class_at t spans c.self.inside.classes.items own.bytes own.belong place nowhere c.index.result.now within
+    class_at t spans c.self.inside.classes own.bytes own.belong place nowhere c.get.result.now within c.get.ensures.value
     ∙ ap (λ (ss : List Span). section_classes (bytes_in t (get_or ss place nowhere))) (sym c.as_slice-span-items.ensures.value)
 
 pub returns-in_err-entry-clause-few : goal.returns-in_err-entry-clause-few

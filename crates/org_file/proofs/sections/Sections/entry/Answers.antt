@@ -20,6 +20,5 @@ read_entry-requires-clause-belongs g c =
     let count = length-map spans (bytes_in t) in
     let lt : place < length (sections t) = subst (λ x. place < length (sections x)) (sym c.self.view_is) c.requires.within in
     let within : place < length spans = omega (arith, ap length own.bytes, count, lt) in
-    c.index.ensures
-    ∙ class_at t spans c.self.inside.classes.items own.bytes own.belong place nowhere c.index.result.now within
+    class_at t spans c.self.inside.classes own.bytes own.belong place nowhere c.get.result.now within c.get.ensures.value
     ∙ ap (λ (ss : List Span). section_classes (bytes_in t (get_or ss place nowhere))) (sym c.as_slice.ensures.value)

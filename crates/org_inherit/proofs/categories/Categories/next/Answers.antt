@@ -13,8 +13,8 @@ use Rattle.org_outline.specs.Places.{behind}
 use Rattle.org_outline.specs.Tree.{parent, ancestors, up_from}
 use Rattle.org_inherit.proofs.categories.Categories.next.Goals as goal
 
-pub get-requires-in-Some-parent : goal.get-requires-in-Some-parent
-get-requires-in-Some-parent c =
+pub get-requires : goal.get-requires
+get-requires c =
     let n = table_length (category_under c.args.outline.now c.args.file_category.now) c.args.self.now c.args.place c.requires.before in
     let p = behind_parent (levels c.args.outline.now) c.args.place in
     let q = ap behind (sym c.parent.ensures.value ∙ c.in-Some-parent.is) in
@@ -27,7 +27,7 @@ returns-in-Some c =
     let i = c.args.place in
     let name = codes "CATEGORY" in
     let own : own_value es name i ≡ Some c.in-Some.own.now =
-    value_here es name i c.entry.result.now c.requires.within ∙ ap (λ e. value_in e.drawer name) (sym c.entry.ensures.value) ∙ sym c.in-Some.ensures.value in
+    value_here es name i c.entry.result.now c.requires.within ∙ ap (λ e. value_in e.details.drawer name) (sym c.entry.ensures.value) ∙ sym c.in-Some.ensures.value in
     record { value = sym (ap (λ v. unwrap_or (option_or v (first_of (own_value es name) (ancestors (levels es) i))) file) own) }
 
 pub returns-in-Some-parent : goal.returns-in-Some-parent
@@ -38,12 +38,12 @@ returns-in-Some-parent c =
     let p = c.in-Some-parent.parent in
     let name = codes "CATEGORY" in
     let own : own_value es name i ≡ None =
-    value_here es name i c.entry.result.now c.requires.within ∙ ap (λ e. value_in e.drawer name) (sym c.entry.ensures.value) ∙ sym c.in_default.ensures.value in
+    value_here es name i c.entry.result.now c.requires.within ∙ ap (λ e. value_in e.details.drawer name) (sym c.entry.ensures.value) ∙ sym c.in_default.ensures.value in
     let above : parent (levels es) i ≡ Some p = sym c.parent.ensures.value ∙ c.in-Some-parent.is in
     let q = ap behind above in
     let b = behind_parent (levels es) i in
     record {
-      value = category_in es file c.args.self.now i p c.get-in-Some-parent.result.now c.requires.before (omega arith) c.get-in-Some-parent.ensures.value
+      value = category_in es file c.args.self.now i p c.get.result.now c.requires.before (omega arith) c.get.ensures.value
           ∙ sym (category_above es file i own ∙ ap (λ v. unwrap_or (first_of (own_value es name) (up_from (levels es) v)) file) above);
     }
 
@@ -54,6 +54,6 @@ returns-in-None c =
     let i = c.args.place in
     let name = codes "CATEGORY" in
     let own : own_value es name i ≡ None =
-    value_here es name i c.entry.result.now c.requires.within ∙ ap (λ e. value_in e.drawer name) (sym c.entry.ensures.value) ∙ sym c.in_default.ensures.value in
+    value_here es name i c.entry.result.now c.requires.within ∙ ap (λ e. value_in e.details.drawer name) (sym c.entry.ensures.value) ∙ sym c.in_default.ensures.value in
     let above : parent (levels es) i ≡ None = sym c.parent.ensures.value ∙ c.in-None.is in
     record { value = sym (category_above es file i own ∙ ap (λ v. unwrap_or (first_of (own_value es name) (up_from (levels es) v)) file) above) }

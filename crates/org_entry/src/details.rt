@@ -1,0 +1,140 @@
+//! What few headings have: planning, properties, stamps and clocks.
+ghost use Rattle.std.specs.Prelude.{◌≡◌, true, IfOk};
+ghost use Rattle.std.specs.Option.{option_map};
+ghost use Rattle.org_base.specs.Properties.{value_in};
+ghost use Rattle.org_entry.specs.Details.{nothing};
+
+use crate::own::{OwnPlanning, OwnProperties};
+use crate::sparse::Sparse;
+use org_drawer::{ClockLine, Planning};
+use org_stamp::Found;
+use std::alloc::{AllocError, Global};
+use std::marker::Model;
+
+// What a section may have beside its heading line.
+#[derive(Debug, Drop)]
+pub(crate) struct Parts {
+    pub planning: OwnPlanning,
+    pub drawer: OwnProperties,
+    pub stamps: Sparse<Found>,
+    pub clocks: Sparse<ClockLine>,
+}
+
+impl Model for Parts {
+    ghost use Rattle.org_entry.specs.Details.{DetailsView};
+
+    ghost Value = { DetailsView };
+
+    ghost view = { λ p. record { planning = p.planning; drawer = p.drawer; stamps = p.stamps; clocks = p.clocks } };
+}
+
+impl Parts {
+    // Nothing of it.
+    pub(crate) fn none(alloc: Global) -> Parts
+        ensures value { result ≡ nothing }
+    {
+        Parts {
+            planning: OwnPlanning::none(),
+            drawer: OwnProperties::none(),
+            stamps: Sparse::new(alloc),
+            clocks: Sparse::new(alloc),
+        }
+    }
+
+    // Whether there is nothing of it.
+    #[tactic(auto, using(crate::proofs::DetailLemmas::nothing_there))]
+    fn are_none(&self) -> bool
+        ensures none { result ≡ true → self.now ≡ nothing }
+    {
+        self.planning.is_none()
+            && self.drawer.is_none()
+            && self.stamps.is_empty()
+            && self.clocks.is_empty()
+    }
+}
+
+/// What the planning line, the property drawer, the stamps and the clock lines of a section say, seen as these four. Most
+/// headings have nothing of it, so it stands out of line.
+#[derive(Debug, Drop)]
+pub struct Details {
+    parts: Option<Box<Parts>>,
+}
+
+impl Model for Details {
+    ghost use Rattle.std.specs.Prelude.{unwrap_or};
+    ghost use Rattle.std.specs.Option.{option_map};
+    ghost use Rattle.org_entry.specs.Details.{DetailsView, nothing};
+
+    ghost Value = { DetailsView };
+
+    ghost view = { λ d. unwrap_or (option_map (λ b. b.value) d.parts) nothing };
+}
+
+impl Details {
+    // These parts.
+    pub(crate) fn new(alloc: Global, parts: Parts) -> Result<Details, AllocError>
+        ensures value { IfOk result (λ details. details ≡ parts) }
+    {
+        if parts.are_none() {
+            return Ok(Details { parts: None });
+        }
+        Ok(Details {
+            parts: Some(Box::new(alloc, parts)?),
+        })
+    }
+
+    // These stamps, and nothing else. A heading alone has no more, and mostly none.
+    pub(crate) fn of_stamps(alloc: Global, stamps: Sparse<Found>) -> Result<Details, AllocError>
+        ensures value { IfOk result (λ details. details ≡ record nothing { stamps = stamps }) }
+    {
+        if stamps.is_empty() {
+            return Ok(Details { parts: None });
+        }
+        let parts = Parts {
+            planning: OwnPlanning::none(),
+            drawer: OwnProperties::none(),
+            stamps,
+            clocks: Sparse::new(alloc),
+        };
+        Ok(Details {
+            parts: Some(Box::new(alloc, parts)?),
+        })
+    }
+
+    /// What the planning line says, lent; None where the section has no planning line.
+    pub fn planning(&self) -> Option<&Planning>
+        ensures value { option_map (λ planning. planning.now) result ≡ self.now.planning }
+    {
+        let parts = self.parts.as_ref()?;
+        parts.planning.get()
+    }
+
+    /// What the heading's own property of a name has, lent; None where its drawer doesn't name it. Letter case doesn't
+    /// count. It is never refused, and takes time as the logarithm of the number of names.
+    pub fn property(&self, name: &[u8]) -> Option<&[u8]>
+        ensures value { option_map (λ text. text.now) result ≡ value_in self.now.drawer name.now }
+    {
+        let parts = self.parts.as_ref()?;
+        parts.drawer.get(name)
+    }
+
+    /// The active stamps of the title and of setting lines and plain lines.
+    pub fn stamps(&self) -> &[Found]
+        ensures value { result.now ≡ self.now.stamps }
+    {
+        match &self.parts {
+            Some(parts) => parts.stamps.as_slice(),
+            None => &[],
+        }
+    }
+
+    /// The clocks of clock lines.
+    pub fn clocks(&self) -> &[ClockLine]
+        ensures value { result.now ≡ self.now.clocks }
+    {
+        match &self.parts {
+            Some(parts) => parts.clocks.as_slice(),
+            None => &[],
+        }
+    }
+}
