@@ -1,6 +1,5 @@
 //! What is known of the tags of a file's headings before an expression is asked of them.
-ghost use Rattle.std.specs.Prelude.{◌≡◌, ◌<◌, [], ◌∷◌, ◌++◌, map, get_or, length, IfOk, OnOk, IsOkUnless};
-ghost use Rattle.org_base.specs.Codes.{memory_fault};
+ghost use Rattle.std.specs.Prelude.{◌≡◌, ◌<◌, [], ◌∷◌, ◌++◌, map, get_or, length, IfOk, OnOk};
 ghost use Rattle.org_agenda.specs.Verdicts.{AreVerdicts, list_of, verdicts_at, with_entry};
 ghost use Rattle.org_base.specs.Spans.{bytes_in};
 ghost use Rattle.org_inherit.specs.Tags.{own_tags, own_tags_at};
@@ -8,10 +7,10 @@ ghost use Rattle.org_match.specs.Holds.{tag_items};
 ghost use Rattle.org_outline.specs.Levels.{levels};
 ghost use Rattle.org_outline.specs.Tree.{parent};
 
-use org_base::{Fault, Span, Texts};
+use org_base::Span;
 use org_entry::Entry;
 use org_inherit::Inherit;
-use org_match::{Matcher, TermVerdicts};
+use org_match::{Matcher, TagList, TermVerdicts};
 use org_outline::Outline;
 use std::alloc::{AllocError, Global};
 use std::marker::Model;
@@ -102,10 +101,9 @@ impl Verdicts {
         alloc: Global,
         matcher: &mut Matcher<'_>,
         inherit: &Inherit<'_>,
-    ) -> Result<Verdicts, Fault>
+    ) -> Result<Verdicts, AllocError>
         ensures value { IfOk result (λ known. AreVerdicts matcher.old inherit.now known) }
         ensures same { matcher.new ≡ matcher.old }
-        ensures memory { IsOkUnless result memory_fault }
     {
         let file = matcher.verdicts(alloc, &[], inherit.settings().file_tags())?;
         let mut known = Verdicts::new(alloc);
@@ -128,15 +126,14 @@ impl Verdicts {
         matcher: &mut Matcher<'_>,
         outline: &Outline,
         place: usize,
-    ) -> Result<(), Fault>
+    ) -> Result<(), AllocError>
         requires within { place < length outline.now }
         ensures ok { OnOk result (self.new ≡ with_entry self.old (list_of self.old.places (parent (levels outline.now) place)) (own_tags_at outline.now place) (tag_items matcher.old)) }
         ensures same { matcher.new ≡ matcher.old }
-        ensures memory { IsOkUnless result memory_fault }
     {
         let above = self.list_of(outline.parent(place));
-        let tags = own_tags(alloc, outline.entry(place))?;
-        if tags.count() == 0 {
+        let tags = OwnTags::of(outline.entry(place));
+        if tags.tag_count() == 0 {
             self.push_place(above)?;
             return Ok(());
         }
@@ -148,25 +145,34 @@ impl Verdicts {
     }
 }
 
-// An entry's own tags.
-fn own_tags(alloc: Global, entry: &Entry) -> Result<Texts, Fault>
-    ensures value { IfOk result (λ tags. tags ≡ own_tags entry.now) }
-    ensures memory { IsOkUnless result memory_fault }
-{
-    match &entry.head {
-        Some(head) => parts(alloc, entry, head.tags.as_slice()),
-        None => Ok(Texts::new(alloc)),
+// An entry's own tags, lent.
+#[derive(Drop)]
+struct OwnTags<'a> {
+    entry: &'a Entry,
+    spans: &'a [Span],
+}
+
+impl<'a> OwnTags<'a> {
+    // Those of an entry.
+    fn of(entry: &'a Entry) -> OwnTags<'a>
+        ensures value { map (bytes_in result.entry.now.text) result.spans.now ≡ own_tags entry.now }
+    {
+        let spans = match &entry.head {
+            Some(head) => head.tags.as_slice(),
+            None => &[],
+        };
+        OwnTags { entry, spans }
     }
 }
 
-// Parts of an entry's text, copied.
-fn parts(alloc: Global, entry: &Entry, spans: &[Span]) -> Result<Texts, Fault>
-    ensures value { IfOk result (λ parts. parts ≡ map (bytes_in entry.now.text) spans.now) }
-    ensures memory { IsOkUnless result memory_fault }
-{
-    let mut parts = Texts::new(alloc);
-    for span in spans {
-        parts.push(entry.part(*span))?;
+impl TagList for OwnTags<'_> {
+    ghost list = { λ t. map (bytes_in t.entry.now.text) t.spans.now };
+
+    fn tag_count(&self) -> usize {
+        self.spans.len()
     }
-    Ok(parts)
+
+    fn tag(&self, place: usize) -> &[u8] {
+        self.entry.part(self.spans[place])
+    }
 }

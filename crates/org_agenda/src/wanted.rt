@@ -17,7 +17,7 @@ use org_cal::Moment;
 use org_inherit::Inherit;
 use org_match::Matcher;
 use org_settings::Settings;
-use std::alloc::Global;
+use std::alloc::{AllocError, Global};
 use std::marker::Model;
 
 // Which headings a list shows.
@@ -55,10 +55,13 @@ impl<'a> Model for Choice<'a> {
 
 impl<'a> Choice<'a> {
     // What has to be known of the tags of a file's headings.
-    pub(crate) fn known(&mut self, alloc: Global, inherit: &Inherit<'_>) -> Result<Verdicts, Fault>
+    pub(crate) fn known(
+        &mut self,
+        alloc: Global,
+        inherit: &Inherit<'_>,
+    ) -> Result<Verdicts, AllocError>
         ensures value { IfOk result (λ known. AreKnown self.old inherit.now known) }
         ensures same { self.new ≡ self.old }
-        ensures memory { IsOkUnless result memory_fault }
     {
         match &mut self.wanted {
             Wanted::Open | Wanted::Named(_) => Ok(Verdicts::new(alloc)),

@@ -8,7 +8,8 @@ use Rattle.org_drawer.specs.declared.clock.ClockLine.{ClockLine}
 use Rattle.org_entry.specs.declared.entry.Entry.{Entry}
 use Rattle.org_expression.specs.Grammar.{Expr}
 use Rattle.org_inherit.specs.Scope.{Scope}
-use Rattle.org_outline.specs.Levels.{level_of}
+use Rattle.org_outline.specs.Levels.{level_of, levels}
+use Rattle.org_outline.specs.Tree.{all_ends}
 use Rattle.org_sum.specs.Measures.{clock_minutes, effort_minutes}
 use Rattle.org_sum.specs.Sums.{own_at, subtree_sum, subtree_sums, sum_below, whole_sum}
 use Rattle.org_sum.specs.Texts.{AreOfText}
@@ -37,9 +38,10 @@ clocks_from i [] cs = []
 clocks_from i (e ∷ es) [] = []
 clocks_from i (e ∷ es) (c ∷ cs) = clocks_at i c e ++ clocks_from (i + 1) es cs
 
--- what is worked out of a file once for a table: the clocks of the headings that count, and the efforts
-pub record IsPrepared (entries : List Entry) (counted : List Bool) (placed : List PlacedClock) (sums : List ℕ) (sum : ℕ) : Type 0 where
+-- what is worked out of a file once for a table: subtree ends, the clocks of the headings that count, and the efforts
+pub record IsPrepared (entries : List Entry) (counted : List Bool) (ends : List ℕ) (placed : List PlacedClock) (sums : List ℕ) (sum : ℕ) : Type 0 where
   pub is : IsCounted entries counted
+  pub ends_are : ends ≡ all_ends (levels entries)
   pub clocks : placed ≡ clocks_from 0 entries counted
   pub efforts : sums ≡ subtree_sums effort_minutes entries counted
   pub effort : sum ≡ whole_sum effort_minutes entries counted

@@ -8,6 +8,8 @@ ghost use Rattle.org_clocktable.specs.Clocked.{AreOf};
 ghost use Rattle.org_clocktable.specs.Counted.{clocks_at, clocks_from, counted_of, file_sum, heading_sum, matching_of, whole_of, placed, IsCounted};
 ghost use Rattle.org_clocktable.specs.Marks.{before};
 ghost use Rattle.org_inherit.specs.Scope.{Scope};
+ghost use Rattle.org_outline.specs.Levels.{levels};
+ghost use Rattle.org_outline.specs.Tree.{all_ends};
 ghost use Rattle.org_sum.specs.Measures.{effort_minutes};
 ghost use Rattle.org_sum.specs.Texts.{AreOfText};
 
@@ -29,7 +31,8 @@ use std::marker::Model;
 pub struct CountedFile<'a> {
     outline: &'a Outline,
     counted: Vec<bool>,
-    // The clocks of the headings that count, and the efforts: these are the same at each step of a table.
+    // Subtree ends, the clocks of the headings that count, and the efforts: these are the same at each step of a table.
+    ends: Vec<usize>,
     clocks: Vec<PlacedClock>,
     efforts: Vec<u64>,
     effort: u64,
@@ -42,7 +45,7 @@ impl<'a> Model for CountedFile<'a> {
 
     ghost view = { λ c. record { entries = c.outline.now; counted = c.counted.items } };
 
-    ghost invariant = { λ c. IsPrepared c.outline.now c.counted.items c.clocks.items c.efforts.items c.effort };
+    ghost invariant = { λ c. IsPrepared c.outline.now c.counted.items c.ends.items c.clocks.items c.efforts.items c.effort };
 }
 
 impl<'a> CountedFile<'a> {
@@ -56,12 +59,14 @@ impl<'a> CountedFile<'a> {
         ensures value { IfOk result (λ file. file ≡ record { entries = outline.now; counted = counted.items }) }
         ensures memory { IsOkUnless result memory_fault }
     {
+        let ends = outline.ends(alloc)?;
         let clocks = clocks_of(alloc, outline, counted.as_slice())?;
         let efforts = effort_sums(alloc, outline, counted.as_slice())?;
         let effort = whole_sum(&Measure::Efforts, outline, counted.as_slice());
         Ok(CountedFile {
             outline,
             counted,
+            ends,
             clocks,
             efforts,
             effort,
@@ -73,6 +78,13 @@ impl<'a> CountedFile<'a> {
         ensures value { result.now ≡ self.now.entries }
     {
         self.outline
+    }
+
+    // Where the subtree of each entry ends.
+    pub(crate) fn ends(&self) -> &[usize]
+        ensures value { result.now ≡ all_ends (levels self.now.entries) }
+    {
+        self.ends.as_slice()
     }
 
     // What its clocks have in a period.

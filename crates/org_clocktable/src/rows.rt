@@ -195,7 +195,8 @@ fn push_heading(
     ensures { OnOk result (rows.new.items ≡ rows.old.items ++ rows_at marks.now.days most at file.now place) }
 {
     let outline = file.outline();
-    let clock = marks.before(outline.end_of(place)) - marks.before(place);
+    let end = file.ends()[place];
+    let clock = marks.before(end) - marks.before(place);
     push_row(
         rows,
         most,

@@ -3,6 +3,5 @@ pub mod LawLemmas
 pub mod LineageLemmas
 pub mod ListLemmas
 mod OrderLemmas
-pub mod TaggedLemmas
 pub mod TagLemmas
 pub mod TreeLemmas

@@ -1,15 +1,14 @@
 -- Laws of inheritance (Org manual 9.6, Tag Inheritance; Property Inheritance; Internal Archiving).
-use Rattle.std.specs.Prelude.{◌≡◌, ◌↔◌, ◌||◌, ℕ, ◌+◌, ◌<◌, Bool, true, List, ◌∷◌, ◌++◌, Some, filter, length, reverse, slice_get, bytes_eq}
+use Rattle.std.specs.Prelude.{◌≡◌, ◌↔◌, ◌||◌, ℕ, ◌+◌, ◌<◌, Bool, true, List, ◌∷◌, ◌++◌, Some, length, reverse, slice_get, bytes_eq}
 use Rattle.std.specs.List.{list_any, flat_map, position_or_len}
 use Rattle.org_entry.specs.declared.entry.Entry.{Entry}
 use Rattle.org_inherit.specs.Hidden.{is_hidden}
 use Rattle.org_inherit.specs.Scope.{Scope}
-use Rattle.org_inherit.specs.Tagged.{is_tagged_at, nearest_tagged}
 use Rattle.org_inherit.specs.Tags.{own_tags_at, all_tags, lineage}
 use Rattle.org_inherit.specs.Values.{nearest_value}
 use Rattle.org_outline.specs.Laws.{BeginsTree, is_above}
 use Rattle.org_outline.specs.Levels.{levels}
-use Rattle.org_outline.specs.Tree.{ancestors, up_from}
+use Rattle.org_outline.specs.Tree.{ancestors}
 
 -- what has a hidden ancestor is hidden
 abbrev pub HiddenIsInherited : Type 0
@@ -44,12 +43,6 @@ abbrev pub TagsKeepTheirOrder : Type 0
 TagsKeepTheirOrder = (scope : Scope) (i j k : ℕ) (a b : List ℕ) →
     slice_get (all_tags scope i) j ≡ Some a → slice_get (all_tags scope i) k ≡ Some b →
     (j < k) ↔ (first_place a (tags_named scope i) < first_place b (tags_named scope i))
-
--- of an entry and its ancestors those with own tags are the nearest such one and those above it; without a nearest one
--- there are none
-abbrev pub TaggedAreUpFromTheNearest : Type 0
-TaggedAreUpFromTheNearest = (es : List Entry) (i : ℕ) →
-    filter (is_tagged_at es) (i ∷ ancestors (levels es) i) ≡ filter (is_tagged_at es) (up_from (levels es) (nearest_tagged es i))
 
 -- over two entries the same stands: what hides them, the tags along their lineage, and the nearest values
 pub record InheritSame (es fs : List Entry) (i j : ℕ) : Type 0 where

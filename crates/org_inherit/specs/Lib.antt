@@ -1,8 +1,6 @@
 pub mod Scope
 pub mod Tags
 pub mod Seen
-pub mod Places
-pub mod Tagged
 pub mod Tables
 pub mod Hidden
 pub mod Values

@@ -1,13 +1,41 @@
--- What the tables beside an outline hold (profile).
-use Rattle.std.specs.Prelude.{◌≡◌, ℕ, Bool, Option, List, length, map}
-use Rattle.std.specs.List.{range_with_len}
-use Rattle.org_inherit.specs.Category.{category}
-use Rattle.org_inherit.specs.Hidden.{is_hidden}
+-- What is kept beside an outline (profile).
+use Rattle.std.specs.Prelude.{◌≡◌, ℕ, Bool, false, nat_lt, Option, None, Some, List, ◌∷◌, length, map, get_or, codes}
+use Rattle.std.specs.List.{list_any, range_with_len}
+use Rattle.std.specs.Option.{is_some}
+use Rattle.org_base.specs.Properties.{value_in}
+use Rattle.org_entry.specs.declared.entry.Entry.{Entry}
+use Rattle.org_inherit.specs.Category.{category_under, file_category}
+use Rattle.org_inherit.specs.Hidden.{hides}
 use Rattle.org_inherit.specs.Scope.{Scope}
-use Rattle.org_inherit.specs.Tagged.{all_nearest_tagged}
+use Rattle.org_inherit.specs.Tags.{own_tags}
+use Rattle.org_outline.specs.Levels.{levels}
+use Rattle.org_outline.specs.Tree.{ancestors}
 
--- by the places of all entries whether each is hidden, its nearest entry with own tags, and its category
-pub record HasTables (scope : Scope) (hidden : List Bool) (tagged : List (Option ℕ)) (categories : List (List ℕ)) : Type 0 where
-  pub hidden_are : hidden ≡ map (is_hidden scope.entries) (range_with_len 0 (length scope.entries))
-  pub tagged_are : tagged ≡ all_nearest_tagged scope.entries
-  pub categories_are : categories ≡ map (category scope) (range_with_len 0 (length scope.entries))
+-- an entry has own tags
+abbrev pub has_tags : Entry → Bool
+has_tags e = nat_lt 0 (length (own_tags e))
+
+-- an entry has its own category
+abbrev pub has_category : Entry → Bool
+has_category e = is_some (value_in e.details.drawer (codes "CATEGORY"))
+
+-- the entry at a place or an ancestor of it passes the test
+abbrev pub one_passes : (Entry → Bool) → List Entry → ℕ → Bool
+one_passes test es i = list_any (λ j. get_or (map test es) j false) (i ∷ ancestors (levels es) i)
+
+-- the same of all entries, by their places
+abbrev pub all_passing : (Entry → Bool) → List Entry → List Bool
+all_passing test es = map (one_passes test es) (range_with_len 0 (length es))
+
+-- the categories of all entries, or nothing where all have the file's
+abbrev pub AreCategories : List Entry → List ℕ → Option (List (List ℕ)) → Type 0
+AreCategories es file None = (i : ℕ) → category_under es file i ≡ file
+AreCategories es file (Some categories) = categories ≡ map (category_under es file) (range_with_len 0 (length es))
+
+-- what is kept: of each entry whether it is hidden and whether it has tags, own or inherited, the file's category, and
+-- the categories
+pub record HasTables (scope : Scope) (hidden tagged : List Bool) (file : List ℕ) (categories : Option (List (List ℕ))) : Type 0 where
+  pub hidden_are : hidden ≡ all_passing hides scope.entries
+  pub tagged_are : tagged ≡ all_passing has_tags scope.entries
+  pub file_is : file ≡ file_category scope
+  pub categories_are : AreCategories scope.entries file categories

@@ -1,7 +1,8 @@
 //! The categories of entries.
 ghost use Rattle.std.specs.Prelude.{◌≡◌, ◌<◌, [], ◌++◌, ◌∷◌, Some, length, map, slice_get, IfOk, OnOk};
-ghost use Rattle.std.specs.List.{range_with_len};
+ghost use Rattle.std.specs.List.{list_any, range_with_len};
 ghost use Rattle.org_inherit.specs.Category.{category_under};
+ghost use Rattle.org_inherit.specs.Tables.{has_category, AreCategories};
 
 use org_outline::Outline;
 use std::alloc::{AllocError, Global};
@@ -23,7 +24,7 @@ impl<'a> Model for Categories<'a> {
 
 impl<'a> Categories<'a> {
     // No categories, with room for so many. Want of memory is its only refusal.
-    pub(crate) fn with_room(alloc: Global, count: usize) -> Result<Categories<'a>, AllocError>
+    fn with_room(alloc: Global, count: usize) -> Result<Categories<'a>, AllocError>
         ensures value { IfOk result (λ categories. categories ≡ []) }
     {
         let list = Vec::with_capacity(alloc, count)?;
@@ -32,12 +33,7 @@ impl<'a> Categories<'a> {
 
     // The category of the entry that comes next: its own value of `CATEGORY`, else its parent's category, and the file's
     // where it has no parent.
-    pub(crate) fn next(
-        &self,
-        outline: &'a Outline,
-        file_category: &'a [u8],
-        place: usize,
-    ) -> &'a [u8]
+    fn next(&self, outline: &'a Outline, file_category: &'a [u8], place: usize) -> &'a [u8]
         requires within { place < length outline.now }
         requires before { self.now ≡ map (category_under outline.now file_category.now) (range_with_len 0 place) }
         ensures value { result.now ≡ category_under outline.now file_category.now place }
@@ -52,7 +48,7 @@ impl<'a> Categories<'a> {
     }
 
     // Puts one more at the end.
-    pub(crate) fn push(&mut self, category: &'a [u8]) -> Result<(), AllocError>
+    fn push(&mut self, category: &'a [u8]) -> Result<(), AllocError>
         ensures ok { OnOk result (self.new ≡ self.old ++ category.now ∷ []) }
     {
         self.list.push(category)?;
@@ -66,4 +62,26 @@ impl<'a> Categories<'a> {
     {
         self.list[place]
     }
+}
+
+// The categories of all entries, in a file with this category; None where no entry has its own, since all have the file's
+// then. Want of memory is its only refusal.
+pub(crate) fn own_categories<'a>(
+    alloc: Global,
+    outline: &'a Outline,
+    file_category: &'a [u8],
+    some_own: bool,
+) -> Result<Option<Categories<'a>>, AllocError>
+    requires some { some_own ≡ list_any has_category outline.now }
+    ensures value { IfOk result (AreCategories outline.now file_category.now) }
+{
+    if !some_own {
+        return Ok(None);
+    }
+    let mut categories = Categories::with_room(alloc, outline.count())?;
+    for place in 0..outline.count() {
+        let category = categories.next(outline, file_category, place);
+        categories.push(category)?;
+    }
+    Ok(Some(categories))
 }

@@ -9,6 +9,7 @@ ghost use Rattle.org_inherit.specs.declared.special.Special.TheVariants.{AllTags
 ghost use Rattle.org_inherit.specs.Tags.{all_tags};
 ghost use Rattle.org_inherit.specs.Values.{plain_value};
 
+use crate::categories::{Categories, own_categories};
 use crate::category::file_category;
 use crate::heading::{copied, heading_value};
 use crate::special::{HeadingValue, Special};
@@ -31,7 +32,10 @@ pub struct Inherit<'a> {
     settings: &'a Settings,
     file: &'a str,
     inherited: &'a Texts,
-    tables: Tables<'a>,
+    tables: Tables,
+    file_category: &'a [u8],
+    // None where all have the file's.
+    categories: Option<Categories<'a>>,
 }
 
 impl<'a> Model for Inherit<'a> {
@@ -42,7 +46,7 @@ impl<'a> Model for Inherit<'a> {
 
     ghost view = { λ i. record { entries = i.outline.now; settings = i.settings.now; file = i.file.now; inherited = i.inherited.now } };
 
-    ghost invariant = { λ i. HasTables (record { entries = i.outline.now; settings = i.settings.now; file = i.file.now; inherited = i.inherited.now }) i.tables.hidden.items i.tables.tagged i.tables.categories };
+    ghost invariant = { λ i. HasTables (record { entries = i.outline.now; settings = i.settings.now; file = i.file.now; inherited = i.inherited.now }) i.tables.hidden.items i.tables.tagged.items i.file_category.now i.categories };
 }
 
 impl<'a> Inherit<'a> {
@@ -59,7 +63,8 @@ impl<'a> Inherit<'a> {
         ensures memory { IsOkUnless result memory_fault }
     {
         let file_category = file_category(outline, settings, file);
-        let tables = Tables::of(alloc, outline, file_category)?;
+        let tables = Tables::of(alloc, outline)?;
+        let categories = own_categories(alloc, outline, file_category, tables.has_categories)?;
         Ok(Inherit {
             alloc,
             outline,
@@ -67,6 +72,8 @@ impl<'a> Inherit<'a> {
             file,
             inherited,
             tables,
+            file_category,
+            categories,
         })
     }
 
@@ -93,7 +100,6 @@ impl<'a> Inherit<'a> {
 
     /// Whether the entry or an ancestor of it has the word `COMMENT` or the own tag `ARCHIVE` (Org manual 9.6, "Comment
     /// Lines", "Internal Archiving"). The file's tags hide nothing.
-    #[tactic(auto, using(crate::proofs::LineageLemmas::hidden_within, crate::proofs::LineageLemmas::hidden_at))]
     pub fn hidden(&self, place: usize) -> bool
         requires { place < length self.now.entries }
         ensures value { result ≡ is_hidden self.now.entries place }
@@ -113,8 +119,8 @@ impl<'a> Inherit<'a> {
             self.alloc,
             file_tags,
             self.outline,
-            &self.tables.tagged,
             place,
+            self.tables.tagged[place],
         )
     }
 
@@ -125,7 +131,10 @@ impl<'a> Inherit<'a> {
         requires { place < length self.now.entries }
         ensures value { result.now ≡ category self.now place }
     {
-        self.tables.categories.get(place)
+        match &self.categories {
+            Some(categories) => categories.get(place),
+            None => self.file_category,
+        }
     }
 
     /// The value of a name, whose letter case doesn't count; None where it is missing. It may be empty.

@@ -1,5 +1,5 @@
 //! Laws of inheritance. Each is a function without parameters whose contract is the law.
-ghost use Rattle.org_inherit.specs.Laws.{HiddenIsInherited, LaterSaysNothing, TaggedAreUpFromTheNearest, TagsAreInherited, TagsAreOnce, TagsKeepTheirOrder, TreesInheritAlone};
+ghost use Rattle.org_inherit.specs.Laws.{HiddenIsInherited, LaterSaysNothing, TagsAreInherited, TagsAreOnce, TagsKeepTheirOrder, TreesInheritAlone};
 
 /// What has a hidden ancestor is hidden.
 pub fn hidden_is_inherited()
@@ -20,11 +20,6 @@ pub fn tags_are_once()
 /// first before the other is, by the file, by the ancestors from the outermost, or by the heading itself.
 pub fn tags_keep_their_order()
     ensures { TagsKeepTheirOrder }
-{}
-
-/// Of an entry and its ancestors those that have own tags are the nearest one that has, and those above that one.
-pub fn tagged_are_up_from_the_nearest()
-    ensures { TaggedAreUpFromTheNearest }
 {}
 
 /// Entries before a tree have no say in what its entries inherit.

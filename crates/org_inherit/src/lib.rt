@@ -12,10 +12,8 @@ mod hidden;
 mod inherit;
 mod inherits;
 pub mod laws;
-mod places;
 mod special;
 mod tables;
-mod tagged;
 mod tags;
 mod values;
 

@@ -1,53 +1,83 @@
 //! What the outline says of each entry, by its place.
-ghost use Rattle.std.specs.Prelude.{◌≡◌, length, map, IfOk};
-ghost use Rattle.std.specs.List.{range_with_len};
-ghost use Rattle.org_inherit.specs.Category.{category_under};
-ghost use Rattle.org_inherit.specs.Hidden.{is_hidden};
-ghost use Rattle.org_inherit.specs.Tagged.{all_nearest_tagged};
+ghost use Rattle.std.specs.Prelude.{◌≡◌, ◌≤◌, ◌||◌, length, IfOk};
+ghost use Rattle.std.specs.List.{list_any};
+ghost use Rattle.org_inherit.specs.Hidden.{hides, of_parent};
+ghost use Rattle.org_inherit.specs.Tables.{all_passing, has_category, has_tags};
+ghost use Rattle.org_outline.specs.Places.{behind};
 
-use crate::categories::Categories;
-use crate::hidden::is_hidden;
-use crate::places::Places;
-use crate::tagged::nearest_tagged;
+use crate::hidden::hides;
+use org_entry::Entry;
 use org_outline::Outline;
 use std::alloc::{AllocError, Global};
 
-// Of each entry by its place whether it is hidden, the nearest entry with own tags, itself or an ancestor, and its
-// category.
+// Of each entry whether it is hidden and whether it has tags, own or inherited, and whether any has its own category.
 #[derive(Debug, Drop)]
-pub(crate) struct Tables<'a> {
+pub(crate) struct Tables {
     pub hidden: Vec<bool>,
-    pub tagged: Places,
-    pub categories: Categories<'a>,
+    pub tagged: Vec<bool>,
+    pub has_categories: bool,
 }
 
-impl<'a> Tables<'a> {
-    // Those of all entries, in one pass over the outline, in a file with this category. Want of memory is its only refusal.
-    pub(crate) fn of(
-        alloc: Global,
-        outline: &'a Outline,
-        file_category: &'a [u8],
-    ) -> Result<Tables<'a>, AllocError>
-        ensures hidden { IfOk result (λ tables. tables.hidden.items ≡ map (is_hidden outline.now) (range_with_len 0 (length outline.now))) }
-        ensures tagged { IfOk result (λ tables. tables.tagged ≡ all_nearest_tagged outline.now) }
-        ensures categories { IfOk result (λ tables. tables.categories ≡ map (category_under outline.now file_category.now) (range_with_len 0 (length outline.now))) }
+impl Tables {
+    // Those of all entries, in one pass over the outline. Want of memory is its only refusal.
+    pub(crate) fn of(alloc: Global, outline: &Outline) -> Result<Tables, AllocError>
+        ensures hidden { IfOk result (λ tables. tables.hidden.items ≡ all_passing hides outline.now) }
+        ensures tagged { IfOk result (λ tables. tables.tagged.items ≡ all_passing has_tags outline.now) }
+        ensures categories { IfOk result (λ tables. tables.has_categories ≡ list_any has_category outline.now) }
     {
         let count = outline.count();
         let mut hidden = Vec::with_capacity(alloc, count)?;
-        let mut tagged = Places::with_room(alloc, count)?;
-        let mut categories = Categories::with_room(alloc, count)?;
+        let mut tagged = Vec::with_capacity(alloc, count)?;
+        let mut has_categories = false;
         for place in 0..count {
-            let hides = is_hidden(outline, &hidden, place);
-            let nearest = nearest_tagged(outline, &tagged, place);
-            let category = categories.next(outline, file_category, place);
+            let entry = outline.entry(place);
+            let parent = outline.parent(place);
+            let hides = one_passes(hides(entry), &hidden, parent);
+            let has_tags = one_passes(has_tags(entry), &tagged, parent);
             hidden.push(hides)?;
-            tagged.push(nearest)?;
-            categories.push(category)?;
+            tagged.push(has_tags)?;
+            has_categories |= has_category(entry);
         }
         Ok(Tables {
             hidden,
             tagged,
-            categories,
+            has_categories,
         })
     }
+}
+
+// Whether an entry passes a test or an ancestor of it does, from the same of the entries before it.
+fn one_passes(passes: bool, before: &[bool], parent: Option<usize>) -> bool
+    requires earlier { behind parent ≤ length before.now }
+    ensures value { result ≡ (passes || of_parent before.now parent) }
+{
+    passes || of_parent(before, parent)
+}
+
+// What a table of the entries before says of a parent, if there is one.
+fn of_parent(table: &[bool], parent: Option<usize>) -> bool
+    requires earlier { behind parent ≤ length table.now }
+    ensures value { result ≡ of_parent table.now parent }
+{
+    match parent {
+        Some(place) => table[place],
+        None => false,
+    }
+}
+
+// Whether an entry has own tags.
+fn has_tags(entry: &Entry) -> bool
+    ensures value { result ≡ has_tags entry.now }
+{
+    match &entry.head {
+        Some(head) => head.tags.count() > 0,
+        None => false,
+    }
+}
+
+// Whether an entry has its own category.
+fn has_category(entry: &Entry) -> bool
+    ensures value { result ≡ has_category entry.now }
+{
+    entry.details.property(b"CATEGORY").is_some()
 }

@@ -1,13 +1,12 @@
 //! Tags of a heading.
-ghost use Rattle.std.specs.Prelude.{◌≡◌, ◌<◌, ◌++◌, length, fold, map, filter, IfOk, OnOk, IsOkUnless};
+ghost use Rattle.std.specs.Prelude.{◌≡◌, ◌<◌, ◌++◌, length, fold, map, IfOk, OnOk, IsOkUnless};
 ghost use Rattle.std.specs.List.{flat_map};
 ghost use Rattle.org_base.specs.Codes.{memory_fault};
 ghost use Rattle.org_base.specs.Spans.{bytes_in};
-ghost use Rattle.org_inherit.specs.Tagged.{all_nearest_tagged, is_tagged_at};
+ghost use Rattle.org_inherit.specs.Tables.{has_tags, one_passes};
 ghost use Rattle.org_inherit.specs.Tags.{own_tags, own_tags_at, lineage, with_tag, firsts, tags_text, tags_value, with_shown};
 
 use crate::first_tags::FirstTags;
-use crate::places::Places;
 use org_base::{Bytes, Fault, Span, Texts};
 use org_entry::Entry;
 use org_outline::Outline;
@@ -25,47 +24,42 @@ fn add_own(tags: &mut FirstTags, entry: &Entry) -> Result<(), Fault>
     }
 }
 
-// The places of the entry and its ancestors that have own tags, from the outermost.
-fn tagged_line(
-    alloc: Global,
-    outline: &Outline,
-    tagged: &Places,
-    place: usize,
-) -> Result<SmallVec<usize, 8>, AllocError>
+// The places of the entry's ancestors from the outermost, and its own. A heading has more stars than ancestors, so the way
+// up from all of them takes no more steps than the text has bytes.
+fn lineage(alloc: Global, outline: &Outline, place: usize) -> Result<SmallVec<usize, 8>, AllocError>
     requires within { place < length outline.now }
-    requires tagged { tagged.now ≡ all_nearest_tagged outline.now }
-    ensures value { IfOk result (λ line. line.items ≡ filter (is_tagged_at outline.now) (lineage outline.now place)) }
+    ensures value { IfOk result (λ line. line.items ≡ lineage outline.now place) }
 {
     let mut line = SmallVec::new(alloc);
-    let mut next = tagged.get(place);
+    let mut next = Some(place);
     while let Some(source) = next {
         line.push(source)?;
-        next = tagged.at(outline.parent(source));
+        next = outline.parent(source);
     }
     line.reverse();
     Ok(line)
 }
 
-// A file's tags, the tags of the entry's ancestors from the outermost and its own; of equal ones the first. The table has
-// the nearest entries with own tags, so that no other entry is looked at.
+// A file's tags, the tags of the entry's ancestors from the outermost and its own; of equal ones the first. It is known
+// whether the entry and its ancestors have any.
 pub(crate) fn all_tags(
     alloc: Global,
     file_tags: &Texts,
     outline: &Outline,
-    tagged: &Places,
     place: usize,
+    tagged: bool,
 ) -> Result<Texts, Fault>
     requires within { place < length outline.now }
-    requires tagged { tagged.now ≡ all_nearest_tagged outline.now }
+    requires tagged { tagged ≡ one_passes has_tags outline.now place }
     ensures value { IfOk result (λ tags. tags ≡ firsts (file_tags.now ++ flat_map (own_tags_at outline.now) (lineage outline.now place))) }
     ensures memory { IsOkUnless result memory_fault }
 {
-    if file_tags.count() == 0 && tagged.get(place).is_none() {
-        return Ok(Texts::new(alloc));
-    }
     let mut tags = FirstTags::new(alloc);
     tags.add_all(file_tags)?;
-    let line = tagged_line(alloc, outline, tagged, place)?;
+    if !tagged {
+        return Ok(tags.into_texts());
+    }
+    let line = lineage(alloc, outline, place)?;
     for source in line.as_slice() {
         add_own(&mut tags, outline.entry(*source))?;
     }

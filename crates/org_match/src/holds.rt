@@ -10,6 +10,7 @@ ghost use Rattle.org_match.specs.Built.{built_item_of, built_term_of};
 use crate::built::{BuiltItem, BuiltTerm, Match};
 use crate::facts::Facts;
 use crate::item_matcher::{ItemMatcher, signed};
+use crate::tag_list::TagList;
 use crate::verdicts::TermVerdicts;
 use org_base::{Fault, Texts};
 use org_cal::Moment;
@@ -77,13 +78,13 @@ impl<'a> Matcher<'a> {
 
     /// For each term before the slash whether one of the tags is what it asks for, or the verdict before says so; there may
     /// be no verdicts before. So the verdicts of a heading are those of its own tags and those of its parent.
-    pub fn verdicts(
+    pub fn verdicts<T: TagList>(
         &mut self,
         alloc: Global,
         before: &[bool],
-        tags: &Texts,
+        tags: &T,
     ) -> Result<TermVerdicts, AllocError>
-        ensures value { IfOk result (λ verdicts. verdicts ≡ either before.now (tag_verdicts tags.now (tag_items self.old))) }
+        ensures value { IfOk result (λ verdicts. verdicts ≡ either before.now (tag_verdicts (T.list tags.now) (tag_items self.old))) }
         ensures same { self.new ≡ self.old }
     {
         verdicts_of(alloc, before, tags, self.asked.as_mut_slice())
@@ -166,13 +167,13 @@ fn ask_tags(items: &[BuiltItem]) -> bool
 }
 
 // The verdicts of items on tags, each together with the one before it where there is one.
-fn verdicts_of(
+fn verdicts_of<T: TagList>(
     alloc: Global,
     before: &[bool],
-    tags: &Texts,
+    tags: &T,
     items: &mut [ItemMatcher<'_>],
 ) -> Result<TermVerdicts, AllocError>
-    ensures value { IfOk result (λ verdicts. verdicts ≡ either before.now (tag_verdicts tags.now items.old)) }
+    ensures value { IfOk result (λ verdicts. verdicts ≡ either before.now (tag_verdicts (T.list tags.now) items.old)) }
     ensures same { items.new ≡ items.old }
 {
     let mut verdicts = TermVerdicts::new(alloc);

@@ -12,7 +12,8 @@ use crate::built::{BuiltItem, BuiltTerm};
 use crate::compare::compares;
 use crate::facts::Facts;
 use crate::pattern::Searcher;
-use org_base::{Fault, Texts};
+use crate::tag_list::TagList;
+use org_base::Fault;
 use org_cal::Moment;
 use org_expression::{Link, Sign};
 use std::alloc::{AllocError, Global};
@@ -59,8 +60,8 @@ impl<'a> ItemMatcher<'a> {
     }
 
     // Whether one of the tags is what the term asks for. A comparison asks for none.
-    pub(crate) fn meets_one(&mut self, tags: &Texts) -> bool
-        ensures value { result ≡ list_any (meets self.old) tags.now }
+    pub(crate) fn meets_one<T: TagList>(&mut self, tags: &T) -> bool
+        ensures value { result ≡ list_any (meets self.old) (T.list tags.now) }
         ensures same { self.new ≡ self.old }
     {
         match &self.item.term {
@@ -114,11 +115,11 @@ pub(crate) fn signed(sign: Sign, holds: bool) -> bool
 }
 
 // Whether the name is one of the tags.
-fn has_tag(tags: &Texts, name: &[u8]) -> bool
-    ensures value { result ≡ list_any (bytes_eq name.now) tags.now }
+fn has_tag<T: TagList>(tags: &T, name: &[u8]) -> bool
+    ensures value { result ≡ list_any (bytes_eq name.now) (T.list tags.now) }
 {
-    for place in 0..tags.count() {
-        if name == tags.get(place) {
+    for place in 0..tags.tag_count() {
+        if name == tags.tag(place) {
             return true;
         }
     }
@@ -126,12 +127,12 @@ fn has_tag(tags: &Texts, name: &[u8]) -> bool
 }
 
 // Whether the pattern is found in one of the tags.
-fn finds_tag(tags: &Texts, searcher: &mut Searcher<'_>) -> bool
-    ensures value { result ≡ list_any (found searcher.old) tags.now }
+fn finds_tag<T: TagList>(tags: &T, searcher: &mut Searcher<'_>) -> bool
+    ensures value { result ≡ list_any (found searcher.old) (T.list tags.now) }
     ensures same { searcher.new ≡ searcher.old }
 {
-    for place in 0..tags.count() {
-        if searcher.is_found(tags.get(place)) {
+    for place in 0..tags.tag_count() {
+        if searcher.is_found(tags.tag(place)) {
             return true;
         }
     }

@@ -8,7 +8,6 @@ use Rattle.org_entry.specs.declared.entry.Entry.{Entry}
 use Rattle.org_outline.specs.Tree.{end_of, level_at}
 use Rattle.org_outline.specs.Levels.{level_of, levels}
 use Rattle.org_outline.specs.Places.{behind}
-use Rattle.org_outline.specs.Shared.{HasTables, up_to_parent}
 use Rattle.org_outline.proofs.Ends.{end_is}
 
 pub table_length : {X : Type 0} (f : ℕ → X) (xs : List X) (n : ℕ) → xs ≡ map f (range_with_len 0 n) → length xs ≡ n
@@ -21,22 +20,16 @@ pub map_twice : {X Y Z : Type 0} (f : X → Y) (g : Y → Z) (xs : List X) → m
 map_twice f g [] = refl
 map_twice f g (x ∷ xs) = ap (λ v. g (f x) ∷ v) (map_twice f g xs)
 
--- a place in a table of what is read of the items is one of theirs
-pub within_map : {X Y : Type 0} (f : X → Y) (xs : List X) (i : ℕ) → i < length (map f xs) → i < length xs
-within_map f xs i h = omega (arith, h, length-map xs f)
+pub levels_length : (es : List Entry) → length (levels es) ≡ length es
+levels_length es = length-map es level_of
 
-pub level_there : {R : Type 0} (v : R → Entry) (rs : List R) (i : ℕ) (r : R) (level : Option ℕ) → i < length rs → r ≡ get_or rs i r → level ≡ level_of (v r) → level ≡ level_at (map (λ x. level_of (v x)) rs) i
-level_there v rs i r level h there is = is ∙ ap (λ x. level_of (v x)) there ∙ sym (get_or-map (λ x. level_of (v x)) rs i r None h)
+-- a place among the levels of what is seen of items is one of theirs
+pub within_levels : {R : Type 0} (v : R → Entry) (rs : List R) (i : ℕ) → i < length (levels (map v rs)) → i < length rs
+within_levels v rs i h = omega (arith, h, length-map (map v rs) level_of, length-map rs v)
 
-pub tables_are : {R : Type 0} (v : R → Entry) (rs : List R) (ls : List (Option ℕ)) (ps es : List ℕ) →
-    ls ≡ map (λ r. level_of (v r)) rs →
-    ps ≡ map (up_to_parent ls) (range_with_len 0 (length ls)) →
-    es ≡ map (end_of ls) (range_with_len 0 (length ls)) →
-    HasTables (map v rs) ps es
-tables_are v rs ls ps es a b d =
-    let e : levels (map v rs) ≡ ls = map_twice v level_of rs ∙ sym a in
-    let n : length (map v rs) ≡ length ls = sym (length-map (map v rs) level_of) ∙ ap length e in
-    record { parents_are = rw (e, n) b; ends_are = rw (e, n) d }
+pub level_there : {R : Type 0} (v : R → Entry) (rs : List R) (i : ℕ) (r : R) (level : Option ℕ) → i < length rs → r ≡ get_or rs i r → level ≡ level_of (v r) → level ≡ level_at (levels (map v rs)) i
+level_there v rs i r level h there is =
+    is ∙ ap (λ x. level_of (v x)) there ∙ sym (get_or-map (λ x. level_of (v x)) rs i r None h) ∙ ap (λ ls. level_at ls i) (sym (map_twice v level_of rs))
 
 -- a list made in three steps
 pub three_steps : {R X : Type 0} (v : R → X) (rs : List R) (first end : ℕ) (a b c new : List R) (old fresh : List X) →

@@ -1,6 +1,6 @@
 pub mod Bodies
 pub mod Laws
 pub mod Levels
+pub mod Parents
 pub mod Places
-pub mod Shared
 pub mod Tree

@@ -1,6 +1,7 @@
 -- The tree that the levels of entries give (Org Syntax, Headings and Sections; that levels may skip: Org manual 9.6,
 -- Headlines). An entry that is no heading has no level.
-use Rattle.std.specs.Prelude.{ℕ, zero, suc, ◌+◌, ◌-◌, Bool, true, false, nat_lt, nat_le, Option, Some, None, List, [], ◌∷◌, length, get_or}
+use Rattle.std.specs.Prelude.{ℕ, zero, suc, ◌+◌, ◌-◌, Bool, true, false, nat_lt, nat_le, Option, Some, None, List, [], ◌∷◌, length, map, get_or}
+use Rattle.std.specs.List.{range_with_len}
 use Rattle.org_outline.specs.Places.{greatest_below, least_from}
 
 -- the level of the entry at a place; none where it is no heading, and past the end
@@ -26,6 +27,10 @@ ends None b = true
 -- where the subtree ends: the first later heading that isn't below the entry, else the number of entries
 abbrev pub end_of : List (Option ℕ) → ℕ → ℕ
 end_of ls i = least_from (λ j. ends (level_at ls i) (level_at ls j)) (i + 1) (length ls - (i + 1))
+
+-- the same of all entries, by their places
+abbrev pub all_ends : List (Option ℕ) → List ℕ
+all_ends ls = map (end_of ls) (range_with_len 0 (length ls))
 
 -- the parent, its parent and so on, at most n of them
 abbrev pub chain : List (Option ℕ) → ℕ → ℕ → List ℕ

@@ -1,33 +1,34 @@
-//! Entries with the tables of their parents and subtree ends.
+//! Entries with the table of their parents.
 ghost use Rattle.std.specs.Prelude.{◌≡◌, ◌<◌, ◌≤◌, ◌++◌, length, map, slice_index_or, IfOk, IfErr, OnOk};
 ghost use Rattle.std.specs.List.{splice};
-ghost use Rattle.org_outline.specs.Levels.{level_of, levels};
-ghost use Rattle.org_outline.specs.Tree.{parent, end_of};
+ghost use Rattle.org_outline.specs.Levels.{levels};
+ghost use Rattle.org_outline.specs.Tree.{all_ends, end_of, parent};
 
-use crate::tables::Tables;
+use crate::levels::{Levels, end_table, parent_table};
 use org_entry::Entry;
 use std::alloc::{AllocError, AllocFailed, Global};
 use std::marker::Model;
 use std::ops::Range;
 use std::rc::Rc;
 
-// Entries, and by their places their parents and where their subtrees end.
+// Entries, and by their places how many there are up to the parent of each, with it; 0 where it has none.
 #[derive(Debug, Drop)]
 pub(crate) struct Body {
     list: Vec<Rc<Entry>>,
-    tables: Tables,
+    parents: Vec<usize>,
 }
 
 impl Model for Body {
-    ghost use Rattle.std.specs.Prelude.{List, map};
+    ghost use Rattle.std.specs.Prelude.{◌≡◌, List, map};
     ghost use Rattle.org_entry.specs.declared.entry.Entry.{Entry};
-    ghost use Rattle.org_outline.specs.Shared.{HasTables};
+    ghost use Rattle.org_outline.specs.Levels.{levels};
+    ghost use Rattle.org_outline.specs.Parents.{all_up_to_parent};
 
     ghost Value = { List Entry };
 
     ghost view = { λ s. map (λ e. e.value) s.list.items };
 
-    ghost invariant = { λ s. HasTables (map (λ e. e.value) s.list.items) s.tables.parents.items s.tables.ends.items };
+    ghost invariant = { λ s. s.parents.items ≡ all_up_to_parent (levels (map (λ e. e.value) s.list.items)) };
 }
 
 // Puts more entries at the end of a list.
@@ -49,8 +50,8 @@ impl Body {
         ensures value { IfOk result (λ b. b ≡ map (λ e. e.value) list.items) }
         ensures back { IfErr result (λ failed. map (λ e. e.value) failed.value.items ≡ map (λ e. e.value) list.items) }
     {
-        match Tables::of(alloc, &list) {
-            Ok(tables) => Ok(Body { list, tables }),
+        match parent_table(alloc, &Levels::of(&list)) {
+            Ok(parents) => Ok(Body { list, parents }),
             Err(_) => Err(AllocFailed { value: list }),
         }
     }
@@ -100,7 +101,7 @@ impl Body {
         requires { place < length self.now }
         ensures value { result ≡ parent (levels self.now) place }
     {
-        self.tables.parents[place].checked_sub(1)
+        self.parents[place].checked_sub(1)
     }
 
     // Where the subtree of the entry at a place ends.
@@ -110,6 +111,13 @@ impl Body {
         ensures behind { place < result }
         ensures within { result ≤ length self.now }
     {
-        self.tables.ends[place]
+        Levels::of(&self.list).end_of(place)
+    }
+
+    // The same of all entries, by their places.
+    pub(crate) fn ends(&self, alloc: Global) -> Result<Vec<usize>, AllocError>
+        ensures value { IfOk result (λ ends. ends.items ≡ all_ends (levels self.now)) }
+    {
+        end_table(alloc, &Levels::of(&self.list))
     }
 }

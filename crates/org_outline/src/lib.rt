@@ -8,8 +8,8 @@ mod ancestors;
 mod body;
 mod entries;
 pub mod laws;
+mod levels;
 mod outline;
-mod tables;
 
 pub use ancestors::Ancestors;
 pub use entries::Entries;

@@ -4,7 +4,7 @@ ghost use Rattle.std.specs.List.{splice};
 ghost use Rattle.org_base.specs.Codes.{memory_fault};
 ghost use Rattle.org_base.specs.declared.code.Code.TheVariants.{Memory};
 ghost use Rattle.org_outline.specs.Levels.{levels};
-ghost use Rattle.org_outline.specs.Tree.{parent, end_of, ancestors};
+ghost use Rattle.org_outline.specs.Tree.{all_ends, ancestors, end_of, parent};
 
 use crate::ancestors::Ancestors;
 use crate::body::Body;
@@ -98,7 +98,8 @@ impl Outline {
     }
 
     /// Where the subtree ends: the place of the first later heading that isn't below the entry, else the number of
-    /// entries. That of an entry without head ends right behind it.
+    /// entries. That of an entry without head ends right behind it. It passes over the subtree, so who asks of many
+    /// entries asks for [`Outline::ends`].
     pub fn end_of(&self, place: usize) -> usize
         requires { place < length self.now }
         ensures value { result ≡ end_of (levels self.now) place }
@@ -108,6 +109,17 @@ impl Outline {
         match &self.body {
             None => 0,
             Some(body) => body.end_of(place),
+        }
+    }
+
+    /// Where the subtrees of all entries end, by their places, in one pass over the entries. Want of memory is its only
+    /// refusal.
+    pub fn ends(&self, alloc: Global) -> Result<Vec<usize>, AllocError>
+        ensures value { IfOk result (λ ends. ends.items ≡ all_ends (levels self.now)) }
+    {
+        match &self.body {
+            None => Ok(Vec::new(alloc)),
+            Some(body) => body.ends(alloc),
         }
     }
 

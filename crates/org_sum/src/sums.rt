@@ -93,9 +93,10 @@ fn subtree_sums(
     ensures value { IfOk result (λ v. v.items ≡ subtree_sums (amount measure.now) outline.now counted.now) }
 {
     let before = sums_before(alloc, measure, outline, counted)?;
+    let ends = outline.ends(alloc)?;
     let mut sums = Vec::new(alloc);
     for i in 0..outline.count() {
-        sums.push(before[outline.end_of(i)] - before[i])?;
+        sums.push(before[ends[i]] - before[i])?;
     }
     Ok(sums)
 }

@@ -4,8 +4,7 @@ use Rattle.org_clocktable.specs.Counted.{clocks_before, heading_sum}
 use Rattle.org_clocktable.specs.Table.{level_rows}
 use Rattle.org_clocktable.specs.declared.row.TableRow.{TableRow}
 use Rattle.org_clocktable.proofs.WalkLemmas.{level_here, sum_of}
-use Rattle.org_entry.specs.declared.entry.Entry.{Entry}
-use Rattle.org_outline.proofs.ByPlace.{table_at, table_length}
+use Rattle.org_outline.proofs.ByPlace.{levels_length, table_at, table_length}
 use Rattle.org_outline.specs.Levels.{levels}
 use Rattle.org_outline.specs.Tree.{end_of}
 use Rattle.org_sum.specs.Measures.{clock_minutes, effort_minutes}
@@ -16,9 +15,15 @@ overflow_sub-clock c =
     let days = c.args.marks.now.days in
     let file = c.args.file.now in
     let place = c.args.place in
-    let end = c.end_of.result in
-    let is : end ≡ end_of (levels file.entries) place = c.end_of.ensures.value ∙ ap (λ (es : List Entry). end_of (levels es) place) c.outline-outline.ensures.value in
+    let end = get_or c.ends.result.now place 0 in
+    let is : end ≡ end_of (levels file.entries) place = table_at _ _ _ place 0 c.ends.ensures.value (omega (arith, levels_length file.entries, c.requires.within)) in
     omega (arith, c.before-2.ensures ∙ c.requires.marks end, c.before-3.ensures ∙ c.requires.marks place, (sum_of days file place end c.requires.within is).0)
+
+pub offset_bounds-ends-place : goal.offset_bounds-ends-place
+offset_bounds-ends-place c = omega (arith, table_length _ _ _ c.ends.ensures.value, levels_length c.args.file.now.entries, c.requires.within, c.ends.type_inv.1)
+
+pub bounds-ends-place : goal.bounds-ends-place
+bounds-ends-place c = omega (arith, table_length _ _ _ c.ends.ensures.value, levels_length c.args.file.now.entries, c.requires.within)
 
 pub offset_bounds-efforts-place : goal.offset_bounds-efforts-place
 offset_bounds-efforts-place c = omega (arith, table_length _ _ _ c.efforts.ensures.value, c.requires.within, c.efforts.type_inv.1)
@@ -33,9 +38,9 @@ returns c =
     let at = c.args.at in
     let file = c.args.file.now in
     let place = c.args.place in
-    let end = c.end_of.result in
+    let end = get_or c.ends.result.now place 0 in
     let entry = c.entry.result.now in
-    let is : end ≡ end_of (levels file.entries) place = c.end_of.ensures.value ∙ ap (λ (es : List Entry). end_of (levels es) place) c.outline-outline.ensures.value in
+    let is : end ≡ end_of (levels file.entries) place = table_at _ _ _ place 0 c.ends.ensures.value (omega (arith, levels_length file.entries, c.requires.within)) in
     let here : entry ≡ get_or file.entries place entry = c.entry.ensures.value ∙ ap (λ es. get_or es place entry) c.outline-outline.ensures.value in
     let upto : c.before-2.result ≡ clocks_before days file end = c.before-2.ensures ∙ c.requires.marks end in
     let before : c.before-3.result ≡ clocks_before days file place = c.before-3.ensures ∙ c.requires.marks place in

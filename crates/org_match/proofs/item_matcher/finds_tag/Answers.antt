@@ -5,13 +5,13 @@ use Rattle.org_match.proofs.Tags.{any_hit, any_miss}
 use Rattle.org_match.proofs.item_matcher.finds_tag.Goals as goal
 
 pub returns-then-is_found-clause-value : goal.returns-then-is_found-clause-value
-returns-then-is_found-clause-value c =
+returns-then-is_found-clause-value g c =
     let inv = c.loop-place.invariant in
-    any_hit (found c.loop-place.searcher) _ c.loop-place.place c.get.result.now inv.told c.get.ensures.value (sym c.is_found.ensures.value ∙ c.if-is_found.true)
-    ∙ ap (λ q. list_any (found q) c.args.tags.now) inv.same
+    any_hit (found c.loop-place.searcher) _ c.loop-place.place c.tag.result.now inv.told c.tag.ensures.value (sym c.is_found.ensures.value ∙ c.if-is_found.true)
+    ∙ ap (λ q. list_any (found q) (g.T.TagList.list c.args.tags.now)) inv.same
 
 pub loop-place-preserved : goal.loop-place-preserved
-loop-place-preserved c =
+loop-place-preserved g c =
     let inv = c.loop-place.invariant in
-    let miss = any_miss (found c.loop-place.searcher) _ c.loop-place.place c.get.result.now inv.told c.get.ensures.value (sym c.is_found.ensures.value ∙ c.if-is_found.false) in
+    let miss = any_miss (found c.loop-place.searcher) _ c.loop-place.place c.tag.result.now inv.told c.tag.ensures.value (sym c.is_found.ensures.value ∙ c.if-is_found.false) in
     record { same = c.is_found.ensures.same ∙ inv.same; told = rw c.is_found.ensures.same miss }

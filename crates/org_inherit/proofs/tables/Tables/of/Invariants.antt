@@ -1,14 +1,13 @@
 -- The entries so far have their places in the tables.
-use Rattle.std.proofs.Common.{◌≡◌, map}
-use Rattle.std.specs.List.{range_with_len}
-use Rattle.org_inherit.specs.Category.{category_under}
-use Rattle.org_inherit.specs.Hidden.{is_hidden}
-use Rattle.org_inherit.specs.Tagged.{nearest_tagged}
+use Rattle.std.proofs.Common.{◌≡◌, map, take}
+use Rattle.std.specs.List.{list_any, range_with_len}
+use Rattle.org_inherit.specs.Hidden.{hides}
+use Rattle.org_inherit.specs.Tables.{has_category, has_tags, one_passes}
 use Rattle.org_inherit.proofs.tables.Tables.of.Given as goal
 
 abbrev pub invariant-loop-place : goal.invariant-loop-place
 invariant-loop-place l = record {
-  hidden : l.hidden.items ≡ map (is_hidden l.outline) (range_with_len 0 l.place);
-  tagged : l.tagged ≡ map (nearest_tagged l.outline) (range_with_len 0 l.place);
-  categories : l.categories ≡ map (category_under l.outline l.file_category) (range_with_len 0 l.place);
+  hidden : l.hidden.items ≡ map (one_passes hides l.outline) (range_with_len 0 l.place);
+  tagged : l.tagged.items ≡ map (one_passes has_tags l.outline) (range_with_len 0 l.place);
+  categories : l.has_categories ≡ list_any has_category (take l.place l.outline);
 }

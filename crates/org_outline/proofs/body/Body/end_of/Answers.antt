@@ -1,23 +1,13 @@
-use Rattle.std.proofs.Common.{length, ap, ◌∙◌, arith}
+use Rattle.std.proofs.Common.{map, ap, ◌∙◌, arith}
 use Rattle.org_outline.specs.Levels.{levels}
 use Rattle.org_outline.specs.Tree.{end_of}
-use Rattle.org_outline.proofs.ByPlace.{table_length, table_at, end_after, end_inside}
+use Rattle.org_outline.proofs.ByPlace.{end_after, end_inside}
 use Rattle.org_outline.proofs.body.Body.end_of.Goals as goal
-
-pub index-requires : goal.index-requires
-index-requires c =
-    let n = ap length c.self.view_is in
-    let t = c.self.invariant.ends_are in
-    let l = table_length _ _ _ t in
-    omega (arith, n, l, c.requires)
 
 value : goal.returns-clause-value
 value c =
-    let n = ap length c.self.view_is in
-    let h = c.requires in
-    c.index.ensures
-    ∙ table_at _ _ _ c.args.place c.index.result.now c.self.invariant.ends_are (omega (arith, n, h))
-    ∙ ap (λ v. end_of (levels v) c.args.place) c.self.view_is
+    let seen = c.of.ensures.value ∙ ap (λ v. levels (map (λ e. e.value) v)) c.deref.ensures.value ∙ ap levels c.self.view_is in
+    c.end_of.ensures.value ∙ ap (λ v. end_of v c.args.place) seen
 
 pub returns-clause-value : goal.returns-clause-value
 returns-clause-value c = value c
