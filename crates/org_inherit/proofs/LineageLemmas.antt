@@ -152,9 +152,6 @@ first_none f h (j ∷ js) = rw (h j) (first_none f h js)
 pub all_as_the_file : (es : List Entry) (file : List ℕ) (i : ℕ) → list_any has_category es ≡ false → category_under es file i ≡ file
 all_as_the_file es file i h = ap (λ v. unwrap_or v file) (first_none (own_value es (codes "CATEGORY")) (λ j. own_none es j h) (i ∷ ancestors (levels es) i))
 
-pub entry_there : (es : List Entry) (i : ℕ) (e : Entry) → i < length es → e ≡ get_or es i e → slice_get es i ≡ Some e
-entry_there es i e h is = slice_get-get_or es i e h ∙ ap Some (sym is)
-
 -- an entry without a value has that of its parent
 pub value_above : (es : List Entry) (name : List ℕ) (p : ℕ) → own_value es name p ≡ None → first_of (own_value es name) (up_from (levels es) (Some p)) ≡ first_of (own_value es name) (up_from (levels es) (parent (levels es) p))
 value_above es name p h = rw h (ap (first_of (own_value es name)) (ancestors_step (levels es) p))

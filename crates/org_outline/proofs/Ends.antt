@@ -34,20 +34,6 @@ end_found ls i e b h =
     (end_is ls i (omega (arith, b.from, b.within)))
     record { from = omega (arith, b.from); within = b.within; first = λ k x y. b.first k (omega arith) y; passes = h }
 
-pub below_at_first : (ls : List (Option ℕ)) (i : ℕ) → i < length ls → BelowUpTo ls i (i + 1)
-below_at_first ls i h = record { from = omega arith; within = omega arith; first = λ k x y. absurd (omega arith) }
-
-here_or_before : (e k : ℕ) → k < e + 1 → (k < e) ⊎ (k ≡ e)
-here_or_before e k h = grind arith
-
--- over an entry that is below
-pub over_one : (ls : List (Option ℕ)) (i e : ℕ) → BelowUpTo ls i e → e < length ls → ends (level_at ls i) (level_at ls e) ≡ false → BelowUpTo ls i (e + 1)
-over_one ls i e b l h = record {
-  from = omega (arith, b.from);
-  within = omega arith;
-  first = λ k x y. elim (here_or_before e k y) [ inl before ↦ b.first k x before | inr q ↦ rw q h ];
-}
-
 cases_at : (e k : ℕ) → (k < e) ⊎ (k ≡ e) ⊎ (e < k)
 cases_at e k = grind arith
 
