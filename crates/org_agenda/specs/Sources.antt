@@ -4,6 +4,7 @@ use Rattle.org_base.specs.declared.span.Span.{Span}
 use Rattle.org_drawer.specs.declared.planning.Planning.{Planning}
 use Rattle.org_entry.specs.Entry.{heading_line}
 use Rattle.org_entry.specs.declared.entry.Entry.{Entry}
+use Rattle.org_entry.specs.Planning.{entry_planning}
 use Rattle.org_head.specs.Head.{priority_of}
 use Rattle.org_head.specs.declared.head.Head.{Head}
 use Rattle.org_inherit.specs.Hidden.{is_hidden}
@@ -50,7 +51,7 @@ plain_sources owner stamps = map (λ (f : Found). source_at owner Plain f.at f.s
 
 -- the stamps of a heading, by their places in the section
 abbrev pub entry_sources : Owner → Entry → List Source
-entry_sources owner e = with_planning owner e.details.planning (plain_sources owner e.details.stamps)
+entry_sources owner e = with_planning owner (entry_planning e) (plain_sources owner e.details.stamps)
 
 -- those of an entry, unless it is hidden
 abbrev pub head_sources : Scope → ℕ → ℕ → Entry → Option Head → List Source

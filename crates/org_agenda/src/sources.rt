@@ -111,8 +111,8 @@ fn write_own(own: &mut Vec<Source>, owner: &Owner, entry: &Entry) -> Result<(), 
 {
     own.clear();
     push_plain(own, owner, entry.details.stamps())?;
-    match entry.details.planning() {
-        Some(planning) => put_planning(own, owner, planning),
+    match entry.planning() {
+        Some(planning) => put_planning(own, owner, &planning),
         None => Ok(()),
     }
 }

@@ -42,6 +42,12 @@ with_pair planning p = record {
 abbrev pub planning_of : List ℕ → Option Planning
 planning_of line = if is_planning line then Some (planned (pairs line)) else None
 
+-- what planning says under a keyword
+abbrev pub stamp_under : PlanningKeyword → Planning → Option (Stamp × Span)
+stamp_under Scheduled planning = planning.scheduled
+stamp_under Deadline planning = planning.deadline
+stamp_under Closed planning = planning.closed
+
 -- the part of a stamp, if there is one, lies within the line
 abbrev pub IsInside : List ℕ → Option (Stamp × Span) → Type 0
 IsInside line found = IfSome found (λ s. s.1.at + s.1.len ≤ length line)

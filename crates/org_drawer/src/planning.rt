@@ -1,5 +1,6 @@
 //! Planning lines.
 ghost use Rattle.std.specs.Prelude.{◌≡◌, ◌+◌, ◌<◌, ◌≤◌, ◌^◌, length, IfSome};
+ghost use Rattle.std.specs.Option.{option_map};
 ghost use Rattle.org_drawer.specs.Planning as spec;
 
 use org_base::Span;
@@ -12,6 +13,29 @@ pub struct Planning {
     pub scheduled: Option<(Stamp, Span)>,
     pub deadline: Option<(Stamp, Span)>,
     pub closed: Option<(Stamp, Span)>,
+}
+
+impl Planning {
+    /// The part of the line that the stamp under a keyword takes, if there is one.
+    pub fn part(self, word: PlanningKeyword) -> Option<Span>
+        ensures value { result ≡ option_map (λ s. s.1) (spec.stamp_under word self) }
+    {
+        match word {
+            PlanningKeyword::Scheduled => part_of(self.scheduled),
+            PlanningKeyword::Deadline => part_of(self.deadline),
+            PlanningKeyword::Closed => part_of(self.closed),
+        }
+    }
+}
+
+// The part of the line that a stamp takes.
+fn part_of(found: Option<(Stamp, Span)>) -> Option<Span>
+    ensures value { result ≡ option_map (λ s. s.1) found }
+{
+    match found {
+        Some((_, part)) => Some(part),
+        None => None,
+    }
 }
 
 /// What a planning line says; None exactly where the line is none. Whether it stands directly under a heading isn't asked.

@@ -1,15 +1,14 @@
 -- Details without parts.
-use Rattle.std.proofs.Common.{◌≡◌, None, Option, List, [], ◌∷◌, length, refl, arith}
+use Rattle.std.proofs.Common.{◌≡◌, List, [], ◌∷◌, length, refl, arith}
 use Rattle.org_base.specs.Properties.{Property}
 use Rattle.org_drawer.specs.declared.clock.ClockLine.{ClockLine}
-use Rattle.org_drawer.specs.declared.planning.Planning.{Planning}
 use Rattle.org_entry.specs.Details.{nothing}
 use Rattle.org_stamp.specs.declared.stamp.Found.{Found}
 
--- four parts that are none are nothing
-pub nothing_there : (planning : Option Planning) (drawer : List Property) (stamps : List Found) (clocks : List ClockLine) → planning ≡ None → drawer ≡ [] → stamps ≡ [] → clocks ≡ [] →
-    record { planning = planning; drawer = drawer; stamps = stamps; clocks = clocks } ≡ nothing
-nothing_there planning drawer stamps clocks p d s c = rw (p, d, s, c) refl
+-- three parts that are none are nothing
+pub nothing_there : (drawer : List Property) (stamps : List Found) (clocks : List ClockLine) → drawer ≡ [] → stamps ≡ [] → clocks ≡ [] →
+    record { drawer = drawer; stamps = stamps; clocks = clocks } ≡ nothing
+nothing_there drawer stamps clocks d s c = rw (d, s, c) refl
 
 -- none where none are counted
 pub none_counted : {A : Type 0} (items : List A) → length items ≡ 0 → items ≡ []

@@ -1,12 +1,13 @@
 -- What lines say one by one is what they say together.
-use Rattle.std.proofs.Common.{◌≡◌, ℕ, ◌+◌, List, [], ◌∷◌, ◌++◌, map, length, refl, sym, ap, ◌∙◌, arith, append-nil, append_assoc}
+use Rattle.std.proofs.Common.{◌≡◌, ℕ, ◌+◌, ◌≤◌, List, [], ◌∷◌, ◌++◌, map, length, refl, sym, ap, ◌∙◌, arith, length-append, append-nil, append_assoc}
 use Rattle.std.proofs.lemmas.List.{length-map}
 use Rattle.std.specs.List.{flat_map, concat}
 use Rattle.org_class.specs.Classes.{section_classes}
 use Rattle.org_settings.specs.Settings.{FileSettings}
 use Rattle.org_class.specs.declared.class.Class.{Class}
+use Rattle.org_class.specs.declared.class.Class.TheVariants.{Heading, Planning, DrawerOpen, Node, DrawerEnd, Clock, Setting, Comment, BlockOpen, Verbatim, BlockEnd, Plain}
 use Rattle.org_entry.specs.Draft.{EntrySoFar, nothing_said, with_line, with_lines, ended}
-use Rattle.org_entry.specs.Entry.{PlacedLine, text_of, nodes_of, clocks_of, stamps_of, head_from, planning_from, placed, entry_of_lines}
+use Rattle.org_entry.specs.Entry.{PlacedLine, text_of, nodes_of, clocks_of, stamps_of, head_from, placed, entry_of_lines}
 use Rattle.org_entry.proofs.ClassLemmas.{length-classes}
 use Rattle.org_lines.specs.Cuts.{Cut, lines}
 
@@ -15,7 +16,6 @@ abbrev said_then : FileSettings → EntrySoFar → List PlacedLine → EntrySoFa
 said_then settings so_far ls = record {
   text = so_far.text ++ flat_map (λ l. text_of l.class l.bytes) ls;
   head = head_from settings so_far.head ls;
-  planning = planning_from so_far.planning ls;
   nodes = so_far.nodes ++ flat_map (λ l. nodes_of l.class l.bytes) ls;
   stamps = so_far.stamps ++ flat_map (λ l. stamps_of settings l.at l.class l.bytes) ls;
   clocks = so_far.clocks ++ flat_map (λ l. clocks_of l.class l.bytes) ls;
@@ -33,6 +33,28 @@ said_by_lines settings so_far (l ∷ ls) =
 -- the entry of all lines
 pub lines_end : (settings : FileSettings) (ls : List PlacedLine) → ended (with_lines settings nothing_said ls) ≡ entry_of_lines settings ls
 lines_end settings ls = ap ended (said_by_lines settings nothing_said ls)
+
+-- a line gives the text no more bytes than it has
+text_no_longer : (c : Class) (bytes : List ℕ) → length (text_of c bytes) ≤ length bytes
+text_no_longer Heading bytes = omega arith
+text_no_longer Planning bytes = omega arith
+text_no_longer DrawerOpen bytes = omega arith
+text_no_longer Node bytes = omega arith
+text_no_longer DrawerEnd bytes = omega arith
+text_no_longer Clock bytes = omega arith
+text_no_longer Setting bytes = omega arith
+text_no_longer Comment bytes = omega arith
+text_no_longer BlockOpen bytes = omega arith
+text_no_longer Verbatim bytes = omega arith
+text_no_longer BlockEnd bytes = omega arith
+text_no_longer Plain bytes = omega arith
+
+-- so the text is never longer than the lines so far
+pub text_behind : (settings : FileSettings) (so_far new : EntrySoFar) (at : ℕ) (c : Class) (line : List ℕ) → length so_far.text ≤ at → new ≡ with_line settings so_far (record { at = at; class = c; bytes = line }) →
+    length new.text ≤ at + length line
+text_behind settings so_far new at c line known made =
+    let both = length-append so_far.text (text_of c line) in
+    omega (arith, ap (λ (x : EntrySoFar). length x.text) made, both, text_no_longer c line, known)
 
 -- at first as many lines are left as there are classes
 pub classes_left : (section : List ℕ) (cs : List Class) (left : List Cut) → map (λ c. c.bytes) left ≡ lines section → cs ≡ section_classes section → 0 + length left ≡ length cs

@@ -4,5 +4,7 @@ pub mod DetailLemmas
 pub mod DraftLemmas
 pub mod HeadLemmas
 pub mod LineLemmas
+pub mod OtherLemmas
+pub mod PlanningLemmas
 pub mod ReadLemmas
 pub mod QuietLemmas

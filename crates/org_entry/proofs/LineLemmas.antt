@@ -1,5 +1,5 @@
 -- The first line of a text.
-use Rattle.std.proofs.Common.{◌≡◌, ℕ, suc, ◌+◌, ◌==◌, nat_lt, Bool, true, false, cond, Option, Some, None, List, [], ◌∷◌, ◌++◌, length, take, get_or, refl, sym, ap, ◌∙◌, inl, inr, arith}
+use Rattle.std.proofs.Common.{◌≡◌, ℕ, suc, ◌+◌, ◌==◌, nat_lt, ◌≤◌, Bool, true, false, cond, Option, Some, None, List, [], ◌∷◌, ◌++◌, length, length-take, take, get_or, refl, sym, ap, ◌∙◌, inl, inr, arith}
 use Rattle.std.proofs.lemmas.Bool.{cases_Bool, false_from_ne_true, le-ltb, lt-ltb, ltb-false}
 use Rattle.std.proofs.lemmas.List.{take_all}
 use Rattle.std.proofs.lemmas.List.Sums.{position_or_len_is}
@@ -36,6 +36,10 @@ test_some false n i e = absurd cc
 test_none : (test : Bool) (n : ℕ) → cond test (Some n) None ≡ None → test ≡ false
 test_none true n e = absurd cc
 test_none false n e = refl
+
+-- it is no longer than the text
+pub first_within : (t : List ℕ) → length (first t) ≤ length t
+first_within t = omega (arith, ap length (first_is t), length-take (suc (feed t)) t)
 
 pub up_to_feed : (t : List ℕ) (i : ℕ) → position (λ b. b == 10) t ≡ Some i → take (i + 1) t ≡ first t
 up_to_feed t i e =

@@ -1,18 +1,16 @@
 -- What few headings have (Org Syntax, Sections).
-use Rattle.std.specs.Prelude.{List, [], Option, None}
+use Rattle.std.specs.Prelude.{List, []}
 use Rattle.org_base.specs.Properties.{Property}
 use Rattle.org_drawer.specs.declared.clock.ClockLine.{ClockLine}
-use Rattle.org_drawer.specs.declared.planning.Planning.{Planning}
 use Rattle.org_stamp.specs.declared.stamp.Found.{Found}
 
--- what the planning line says, the heading's own properties, the active stamps of its title and of setting lines and plain
--- lines, and the clocks of its clock lines
+-- the heading's own properties, the active stamps of its title and of setting lines and plain lines, and the clocks of its
+-- clock lines
 pub record DetailsView : Type 0 where
-  pub planning : Option Planning
   pub drawer : List Property
   pub stamps : List Found
   pub clocks : List ClockLine
 
 -- nothing of it
 abbrev pub nothing : DetailsView
-nothing = record { planning = None; drawer = []; stamps = []; clocks = [] }
+nothing = record { drawer = []; stamps = []; clocks = [] }

@@ -5,8 +5,7 @@ use Rattle.org_class.specs.declared.class.Class.{Class}
 use Rattle.org_class.specs.declared.class.Class.TheVariants.{Heading, Planning as PlanningLine, Node, Clock}
 use Rattle.org_drawer.specs.Node.{drawer_of}
 use Rattle.org_drawer.specs.declared.clock.ClockLine.{ClockLine}
-use Rattle.org_drawer.specs.declared.planning.Planning.{Planning}
-use Rattle.org_entry.specs.Entry.{PlacedLine, text_of, nodes_of, clocks_of, stamps_of, head_after, planning_after}
+use Rattle.org_entry.specs.Entry.{PlacedLine, text_of, nodes_of, clocks_of, stamps_of, head_after}
 use Rattle.org_entry.specs.declared.entry.Entry.{Entry}
 use Rattle.org_head.specs.declared.head.Head.{Head}
 use Rattle.org_stamp.specs.declared.stamp.Found.{Found}
@@ -15,14 +14,13 @@ use Rattle.org_stamp.specs.declared.stamp.Found.{Found}
 pub record EntrySoFar : Type 0 where
   pub text : List ℕ
   pub head : Option Head
-  pub planning : Option Planning
   pub nodes : List (List ℕ)
   pub stamps : List Found
   pub clocks : List ClockLine
 
 -- before the first line
 abbrev pub nothing_said : EntrySoFar
-nothing_said = record { text = []; head = None; planning = None; nodes = []; stamps = []; clocks = [] }
+nothing_said = record { text = []; head = None; nodes = []; stamps = []; clocks = [] }
 
 -- a line of this class says no more than its stamps
 abbrev pub is_quiet : Class → Bool
@@ -37,7 +35,6 @@ abbrev pub with_line : FileSettings → EntrySoFar → PlacedLine → EntrySoFar
 with_line settings so_far l = record {
   text = so_far.text ++ text_of l.class l.bytes;
   head = head_after settings so_far.head l.class l.bytes;
-  planning = planning_after so_far.planning l.at l.class l.bytes;
   nodes = so_far.nodes ++ nodes_of l.class l.bytes;
   stamps = so_far.stamps ++ stamps_of settings l.at l.class l.bytes;
   clocks = so_far.clocks ++ clocks_of l.class l.bytes;
@@ -53,5 +50,5 @@ abbrev pub ended : EntrySoFar → Entry
 ended so_far = record {
   text = so_far.text;
   head = so_far.head;
-  details = record { planning = so_far.planning; drawer = drawer_of so_far.nodes; stamps = so_far.stamps; clocks = so_far.clocks };
+  details = record { drawer = drawer_of so_far.nodes; stamps = so_far.stamps; clocks = so_far.clocks };
 }

@@ -2,8 +2,7 @@
 -- profile).
 use Rattle.std.specs.Prelude.{ℕ, ◌+◌, if◌then◌else◌, List, [], ◌∷◌, length, map, get_or, Option, Some, None}
 use Rattle.std.specs.List.{flat_map}
-use Rattle.std.specs.Option.{option_map, option_to_list}
-use Rattle.org_base.specs.declared.span.Span.{Span}
+use Rattle.std.specs.Option.{option_to_list}
 use Rattle.org_class.specs.Classes.{section_classes}
 use Rattle.org_class.specs.Sections.{sections}
 use Rattle.org_settings.specs.Settings.{FileSettings}
@@ -11,9 +10,7 @@ use Rattle.org_class.specs.declared.class.Class.{Class}
 use Rattle.org_class.specs.declared.class.Class.TheVariants.{Heading, Planning as PlanningLine, Node, Clock, Setting, Plain}
 use Rattle.org_drawer.specs.Clock.{clock_of}
 use Rattle.org_drawer.specs.Node.{drawer_of}
-use Rattle.org_drawer.specs.Planning.{planning_of}
 use Rattle.org_drawer.specs.declared.clock.ClockLine.{ClockLine}
-use Rattle.org_drawer.specs.declared.planning.Planning.{Planning}
 use Rattle.org_entry.specs.declared.entry.Entry.{Entry}
 use Rattle.org_head.specs.Head.{head_of}
 use Rattle.org_base.specs.Spans.{bytes_in}
@@ -21,7 +18,6 @@ use Rattle.org_head.specs.declared.head.Head.{Head}
 use Rattle.org_lines.specs.Cuts.{lines}
 use Rattle.org_stamp.specs.Line.{stamps_of as stamps_of_line}
 use Rattle.org_stamp.specs.declared.stamp.Found.{Found}
-use Rattle.org_stamp.specs.declared.stamp.Stamp.{Stamp}
 
 -- a line of a section: where it begins in the section, its class and its bytes
 pub record PlacedLine : Type 0 where
@@ -75,32 +71,10 @@ abbrev pub head_after : FileSettings → Option Head → Class → List ℕ → 
 head_after settings so_far Heading bytes = Some (head_of settings bytes)
 head_after settings so_far _ bytes = so_far
 
--- a stamp's part so much further
-abbrev pub moved_stamp : ℕ → Stamp × Span → Stamp × Span
-moved_stamp at s = (s.0, record { at = at + s.1.at; len = s.1.len })
-
--- planning with its parts so much further
-abbrev pub moved : ℕ → Planning → Planning
-moved at p = record {
-  scheduled = option_map (moved_stamp at) p.scheduled;
-  deadline = option_map (moved_stamp at) p.deadline;
-  closed = option_map (moved_stamp at) p.closed;
-}
-
--- the planning behind one more line
-abbrev pub planning_after : Option Planning → ℕ → Class → List ℕ → Option Planning
-planning_after so_far at PlanningLine bytes = option_map (moved at) (planning_of bytes)
-planning_after so_far at _ bytes = so_far
-
--- the head of lines, and their planning
+-- the head of lines
 abbrev pub head_from : FileSettings → Option Head → List PlacedLine → Option Head
 head_from settings so_far [] = so_far
 head_from settings so_far (l ∷ ls) = head_from settings (head_after settings so_far l.class l.bytes) ls
-
--- the planning that lines say, behind what was said before
-abbrev pub planning_from : Option Planning → List PlacedLine → Option Planning
-planning_from so_far [] = so_far
-planning_from so_far (l ∷ ls) = planning_from (planning_after so_far l.at l.class l.bytes) ls
 
 -- the entry of placed lines
 abbrev pub entry_of_lines : FileSettings → List PlacedLine → Entry
@@ -108,7 +82,6 @@ entry_of_lines settings ls = record {
   text = flat_map (λ l. text_of l.class l.bytes) ls;
   head = head_from settings None ls;
   details = record {
-    planning = planning_from None ls;
     drawer = drawer_of (flat_map (λ l. nodes_of l.class l.bytes) ls);
     stamps = flat_map (λ l. stamps_of settings l.at l.class l.bytes) ls;
     clocks = flat_map (λ l. clocks_of l.class l.bytes) ls;

@@ -1,4 +1,5 @@
 pub mod Entry
+pub mod Planning
 pub mod Details
 pub mod Alone
 pub mod Draft

@@ -1,12 +1,12 @@
-//! What few headings have: planning, properties, stamps and clocks.
+//! What few headings have: properties, stamps and clocks.
 ghost use Rattle.std.specs.Prelude.{◌≡◌, true, IfOk};
 ghost use Rattle.std.specs.Option.{option_map};
 ghost use Rattle.org_base.specs.Properties.{value_in};
 ghost use Rattle.org_entry.specs.Details.{nothing};
 
-use crate::own::{OwnPlanning, OwnProperties};
+use crate::own::OwnProperties;
 use crate::sparse::Sparse;
-use org_drawer::{ClockLine, Planning};
+use org_drawer::ClockLine;
 use org_stamp::Found;
 use std::alloc::{AllocError, Global};
 use std::marker::Model;
@@ -14,7 +14,6 @@ use std::marker::Model;
 // What a section may have beside its heading line.
 #[derive(Debug, Drop)]
 pub(crate) struct Parts {
-    pub planning: OwnPlanning,
     pub drawer: OwnProperties,
     pub stamps: Sparse<Found>,
     pub clocks: Sparse<ClockLine>,
@@ -25,7 +24,7 @@ impl Model for Parts {
 
     ghost Value = { DetailsView };
 
-    ghost view = { λ p. record { planning = p.planning; drawer = p.drawer; stamps = p.stamps; clocks = p.clocks } };
+    ghost view = { λ p. record { drawer = p.drawer; stamps = p.stamps; clocks = p.clocks } };
 }
 
 impl Parts {
@@ -34,7 +33,6 @@ impl Parts {
         ensures value { result ≡ nothing }
     {
         Parts {
-            planning: OwnPlanning::none(),
             drawer: OwnProperties::none(),
             stamps: Sparse::new(alloc),
             clocks: Sparse::new(alloc),
@@ -46,15 +44,12 @@ impl Parts {
     fn are_none(&self) -> bool
         ensures none { result ≡ true → self.now ≡ nothing }
     {
-        self.planning.is_none()
-            && self.drawer.is_none()
-            && self.stamps.is_empty()
-            && self.clocks.is_empty()
+        self.drawer.is_none() && self.stamps.is_empty() && self.clocks.is_empty()
     }
 }
 
-/// What the planning line, the property drawer, the stamps and the clock lines of a section say, seen as these four. Most
-/// headings have nothing of it, so it stands out of line.
+/// What the property drawer, the stamps and the clock lines of a section say, seen as these three. Most headings have
+/// nothing of it, so it stands out of line.
 #[derive(Debug, Drop)]
 pub struct Details {
     parts: Option<Box<Parts>>,
@@ -91,7 +86,6 @@ impl Details {
             return Ok(Details { parts: None });
         }
         let parts = Parts {
-            planning: OwnPlanning::none(),
             drawer: OwnProperties::none(),
             stamps,
             clocks: Sparse::new(alloc),
@@ -99,14 +93,6 @@ impl Details {
         Ok(Details {
             parts: Some(Box::new(alloc, parts)?),
         })
-    }
-
-    /// What the planning line says, lent; None where the section has no planning line.
-    pub fn planning(&self) -> Option<&Planning>
-        ensures value { option_map (λ planning. planning.now) result ≡ self.now.planning }
-    {
-        let parts = self.parts.as_ref()?;
-        parts.planning.get()
     }
 
     /// What the heading's own property of a name has, lent; None where its drawer doesn't name it. Letter case doesn't

@@ -1,24 +1,22 @@
 //! An entry while the lines of its section are read.
-ghost use Rattle.std.specs.Prelude.{◌≡◌, ◌+◌, ◌++◌, ◌<◌, ◌^◌, length, Some, IfOk, IfSome, OnOk, IsOkUnless};
-ghost use Rattle.std.specs.Option.{option_map, option_to_list};
+ghost use Rattle.std.specs.Prelude.{◌≡◌, ◌+◌, ◌++◌, ◌<◌, ◌≤◌, ◌^◌, length, Some, IfOk, OnOk, IsOkUnless};
+ghost use Rattle.std.specs.Option.{option_to_list};
 ghost use Rattle.org_base.specs.Codes.{memory_fault};
 ghost use Rattle.org_drawer.specs.Clock.{clock_of};
-ghost use Rattle.org_drawer.specs.Planning.{planning_of};
 ghost use Rattle.org_entry.specs.Draft.{nothing_said, with_line, ended};
-ghost use Rattle.org_entry.specs.Entry.{moved, moved_stamp, title_stamps};
+ghost use Rattle.org_entry.specs.Entry.{title_stamps};
 ghost use Rattle.org_head.specs.Head.{head_of};
 
 use crate::details::{Details, Parts};
 use crate::entry::Entry;
-use crate::own::{OwnPlanning, OwnProperties};
+use crate::own::OwnProperties;
 use crate::stamps::push_active;
 use crate::text::EntryText;
-use org_base::{Fault, Span, Texts};
+use org_base::{Fault, Texts};
 use org_class::Class;
-use org_drawer::{ClockLine, Planning, read_clock, read_planning};
+use org_drawer::{ClockLine, read_clock};
 use org_head::{Head, part, read_head};
 use org_settings::Settings;
-use org_stamp::Stamp;
 use std::alloc::{AllocError, Global};
 use std::marker::Model;
 
@@ -37,7 +35,7 @@ impl Model for Draft {
 
     ghost Value = { EntrySoFar };
 
-    ghost view = { λ d. record { text = d.text; head = d.head; planning = d.parts.planning; nodes = d.nodes; stamps = d.parts.stamps; clocks = d.parts.clocks } };
+    ghost view = { λ d. record { text = d.text; head = d.head; nodes = d.nodes; stamps = d.parts.stamps; clocks = d.parts.clocks } };
 }
 
 impl Draft {
@@ -54,7 +52,7 @@ impl Draft {
         }
     }
 
-    // Adds what one more line says, which stands at a place of the section.
+    // Adds what one more line says, which stands at a place of the section, behind all lines so far.
     pub(crate) fn add(
         &mut self,
         settings: &Settings,
@@ -62,13 +60,14 @@ impl Draft {
         at: usize,
         line: &[u8],
     ) -> Result<(), Fault>
+        requires behind { length self.old.text ≤ at }
         requires fits { at + length line.now < 2 ^ 32 }
         ensures ok { OnOk result (self.new ≡ with_line settings.now self.old (record { at = at; class = class; bytes = line.now })) }
         ensures memory { IsOkUnless result memory_fault }
     {
         match class {
             Class::Heading => self.add_heading(settings, at, line)?,
-            Class::Planning => self.add_planning(at, line)?,
+            Class::Planning => self.text.push(line)?,
             Class::Node => self.nodes.push(line)?,
             Class::Clock => self.add_clock(line)?,
             Class::Setting | Class::Plain => push_active(&mut self.parts.stamps, at, line)?,
@@ -79,6 +78,7 @@ impl Draft {
 
     // Adds a heading line.
     fn add_heading(&mut self, settings: &Settings, at: usize, line: &[u8]) -> Result<(), Fault>
+        requires behind { length self.old.text ≤ at }
         requires fits { at + length line.now < 2 ^ 32 }
         ensures ok { OnOk result (self.new ≡ record self.old {
           text = self.old.text ++ line.now;
@@ -96,19 +96,6 @@ impl Draft {
             part(line, title),
         )?;
         self.head = Some(head);
-        Ok(())
-    }
-
-    // Adds a planning line.
-    fn add_planning(&mut self, at: usize, line: &[u8]) -> Result<(), AllocError>
-        requires fits { at + length line.now < 2 ^ 32 }
-        ensures ok { OnOk result (self.new ≡ record self.old {
-          text = self.old.text ++ line.now;
-          planning = option_map (moved at) (planning_of line.now);
-        }) }
-    {
-        self.text.push(line)?;
-        self.parts.planning = OwnPlanning::new(self.alloc, planning_at(at, line))?;
         Ok(())
     }
 
@@ -142,34 +129,4 @@ impl Draft {
             details: Details::new(alloc, parts)?,
         })
     }
-}
-
-// A stamp's part so much further.
-fn moved_stamp(at: usize, found: Option<(Stamp, Span)>) -> Option<(Stamp, Span)>
-    requires fits { IfSome found (λ s. at + s.1.at < 2 ^ 32) }
-    ensures value { result ≡ option_map (moved_stamp at) found }
-{
-    match found {
-        Some((stamp, span)) => Some((
-            stamp,
-            Span {
-                at: at as u32 + span.at,
-                len: span.len,
-            },
-        )),
-        None => None,
-    }
-}
-
-// What a planning line says that stands at a place.
-fn planning_at(at: usize, line: &[u8]) -> Option<Planning>
-    requires fits { at + length line.now < 2 ^ 32 }
-    ensures value { result ≡ option_map (moved at) (planning_of line.now) }
-{
-    let planning = read_planning(line)?;
-    Some(Planning {
-        scheduled: moved_stamp(at, planning.scheduled),
-        deadline: moved_stamp(at, planning.deadline),
-        closed: moved_stamp(at, planning.closed),
-    })
 }

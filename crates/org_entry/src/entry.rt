@@ -2,12 +2,15 @@
 ghost use Rattle.std.specs.Prelude.{◌≡◌, ◌==◌};
 ghost use Rattle.std.specs.List.{position};
 ghost use Rattle.org_entry.specs.Entry.{heading_line};
+ghost use Rattle.org_entry.specs.Planning.{entry_planning};
 ghost use Rattle.org_base.specs.Spans.{bytes_in};
 
 use crate::details::Details;
+use crate::planning::planning_at;
 use crate::text::EntryText;
 use memchr::memchr;
 use org_base::Span;
+use org_drawer::Planning;
 use org_head::Head;
 
 /// What a section says (Org Syntax, "Sections"). All places count from the section's start, so that they stay true where
@@ -19,7 +22,7 @@ pub struct Entry {
     pub text: EntryText,
     /// The parts of the heading line; None where the section has no heading.
     pub head: Option<Head>,
-    /// Its planning, drawer, stamps and clocks.
+    /// Its drawer, stamps and clocks.
     pub details: Details,
 }
 
@@ -33,6 +36,16 @@ impl Entry {
             Some(place) => &text[..place + 1],
             None => text,
         }
+    }
+
+    /// What the planning line says, read of the entry's text; None where the section has no planning line. It takes a pass
+    /// over that text, and no memory.
+    #[tactic(auto, using(crate::proofs::LineLemmas::first_within))]
+    pub fn planning(&self) -> Option<Planning>
+        ensures value { result ≡ entry_planning self.now }
+    {
+        let at = self.line().len();
+        planning_at(at, &self.text.as_slice()[at..])
     }
 
     /// The bytes of a part of the entry's text. What reaches beyond the text isn't there.

@@ -10,6 +10,7 @@ mod draft;
 mod entry;
 pub mod laws;
 mod own;
+mod planning;
 mod read;
 mod sparse;
 mod stamps;

@@ -1,65 +1,14 @@
-//! The planning and the properties of a section.
-ghost use Rattle.std.specs.Prelude.{◌≡◌, [], None, true, IfOk, IsOkUnless};
+//! The properties of a section.
+ghost use Rattle.std.specs.Prelude.{◌≡◌, [], true, IfOk, IsOkUnless};
 ghost use Rattle.std.specs.Option.{option_map};
 ghost use Rattle.org_base.specs.Codes.{memory_fault};
 ghost use Rattle.org_base.specs.Properties.{value_in};
 ghost use Rattle.org_drawer.specs.Node.{drawer_of};
 
 use org_base::{Fault, Texts};
-use org_drawer::{Drawer, Planning, read_drawer};
-use std::alloc::{AllocError, Global};
+use org_drawer::{Drawer, read_drawer};
+use std::alloc::Global;
 use std::marker::Model;
-
-// What the planning line of a section says, if it has one; seen as that.
-#[derive(Debug, Drop)]
-pub(crate) struct OwnPlanning {
-    planning: Option<Box<Planning>>,
-}
-
-impl Model for OwnPlanning {
-    ghost use Rattle.std.specs.Prelude.{Option};
-    ghost use Rattle.std.specs.Option.{option_map};
-    ghost use Rattle.org_drawer.specs.declared.planning.Planning.{Planning};
-
-    ghost Value = { Option Planning };
-
-    ghost view = { λ p. option_map (λ b. b.value) p.planning };
-}
-
-impl OwnPlanning {
-    // No planning line.
-    pub(crate) fn none() -> OwnPlanning
-        ensures value { result ≡ None }
-    {
-        OwnPlanning { planning: None }
-    }
-
-    // What a planning line says, if it says anything.
-    pub(crate) fn new(alloc: Global, planning: Option<Planning>) -> Result<OwnPlanning, AllocError>
-        ensures value { IfOk result (λ own. own ≡ planning) }
-    {
-        let planning = match planning {
-            Some(planning) => Some(Box::new(alloc, planning)?),
-            None => None,
-        };
-        Ok(OwnPlanning { planning })
-    }
-
-    // Whether there is no planning line.
-    pub(crate) fn is_none(&self) -> bool
-        ensures none { result ≡ true → self.now ≡ None }
-    {
-        self.planning.is_none()
-    }
-
-    // The planning, lent; None where the section has no planning line.
-    pub(crate) fn get(&self) -> Option<&Planning>
-        ensures value { option_map (λ planning. planning.now) result ≡ self.now }
-    {
-        let planning = self.planning.as_ref()?;
-        Some(&**planning)
-    }
-}
 
 // The properties of a section's drawer, none where it has no drawer; seen as their list.
 #[derive(Debug, Drop)]

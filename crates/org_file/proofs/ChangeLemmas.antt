@@ -16,6 +16,7 @@ use Rattle.org_cal.specs.declared.moment.Moment.{Moment}
 use Rattle.org_drawer.specs.declared.planning.Planning.{Planning}
 use Rattle.org_entry.specs.Entry.{entry_of, heading_line}
 use Rattle.org_entry.specs.declared.entry.Entry.{Entry}
+use Rattle.org_entry.specs.Planning.{entry_planning}
 use Rattle.org_file.specs.Begun.{section_of, section_start}
 use Rattle.org_file.specs.Completion.{keyword_span, gap_behind, keyword_part, shift_part, plan_parts, plan_of, is_heading_line}
 use Rattle.org_file.specs.Parts.{Part, AreApart, with_parts, end_of_parts, joined_parts}
@@ -269,7 +270,7 @@ planning_in_front s x low (Some p) u f laid k = (stamp_in_front s x low p.schedu
 
 -- what the entry of a heading says can be written
 pub room_in : (t : List ℕ) (place : ℕ) (settings : FileSettings) (entry : Entry) (head : Head) → IsEntryOf t place settings entry → entry.head ≡ Some head →
-    IsTextPart entry.text (keyword_span (heading_line entry) head.keyword) × HasRoom entry.text ((keyword_span (heading_line entry) head.keyword).at + (keyword_span (heading_line entry) head.keyword).len) entry.details.planning
+    IsTextPart entry.text (keyword_span (heading_line entry) head.keyword) × HasRoom entry.text ((keyword_span (heading_line entry) head.keyword).at + (keyword_span (heading_line entry) head.keyword).len) (entry_planning entry)
 room_in t place settings entry head e is =
     let s = section_of t place in
     let x = entry.text in
@@ -283,16 +284,16 @@ room_in t place settings entry head e is =
         low = length (heading_line entry);
         above = in_line.end.0;
         laid = places.planning;
-        text = planning_in_front s x (length (heading_line entry)) entry.details.planning text.text places.text places.planning text.planning;
+        text = planning_in_front s x (length (heading_line entry)) (entry_planning entry) text.text places.text places.planning text.planning;
       },
     )
 
 -- what is planned can be written
 pub can_write : (t : List ℕ) (place : ℕ) (settings : FileSettings) (entry : Entry) (head : Head) (now : Moment) (word : Option ℕ) (plan : Plan) → IsEntryOf t place settings entry → entry.head ≡ Some head →
-    Ok plan ≡ plan_of now settings entry.details.planning word → CanWrite entry.text (keyword_span (heading_line entry) head.keyword) plan
+    Ok plan ≡ plan_of now settings (entry_planning entry) word → CanWrite entry.text (keyword_span (heading_line entry) head.keyword) plan
 can_write t place settings entry head now word plan e is planned =
     let room = room_in t place settings entry head e is in
-    let both = plan_fits entry.text ((keyword_span (heading_line entry) head.keyword).at + (keyword_span (heading_line entry) head.keyword).len) now settings entry.details.planning word plan planned room.1 in
+    let both = plan_fits entry.text ((keyword_span (heading_line entry) head.keyword).at + (keyword_span (heading_line entry) head.keyword).len) now settings (entry_planning entry) word plan planned room.1 in
     record { utf8 = (text_of_entry t place settings entry e).text; keyword = room.0; first = both.0; second = both.1 }
 
 -- the bytes between a place and a stamp

@@ -15,7 +15,7 @@ use Rattle.org_stamp.specs.declared.stamp.Stamp.{Stamp}
 use Rattle.org_stamp.proofs.ReadLemmas.{single_found}
 use Rattle.org_drawer.specs.Planning.{is_same, stamp_if, last_of, planning_of}
 use Rattle.org_drawer.specs.declared.planning.Planning.{Planning}
-use Rattle.org_entry.specs.Entry.{moved, moved_stamp}
+use Rattle.org_entry.specs.Planning.{moved, moved_stamp}
 
 -- each pair's stamp begins behind a place, and the next one's behind its end; the last ends within so many bytes
 abbrev pub AreInOrder : ℕ → ℕ → List Pair → Type 0

@@ -13,6 +13,7 @@ use Rattle.org_class.specs.Sections.{sections}
 use Rattle.org_drawer.specs.declared.planning.Planning.{Planning}
 use Rattle.org_entry.specs.Entry.{entry_of, heading_line}
 use Rattle.org_entry.specs.declared.entry.Entry.{Entry}
+use Rattle.org_entry.specs.Planning.{entry_planning}
 use Rattle.org_file.specs.Outline.{file_settings}
 use Rattle.org_file.specs.Parts.{Part, with_parts}
 use Rattle.org_file.specs.declared.plan.Plan.{Plan}
@@ -117,7 +118,7 @@ planned_parts at line old settings (Ok plan) = Ok (plan_parts at line old settin
 abbrev pub entry_parts : ℕ → Moment → FileSettings → List ℕ → Entry → Option Head → Result (List Part) Fault
 entry_parts at now settings keyword entry None = Err (Plain code.Heading)
 entry_parts at now settings keyword entry (Some head) =
-    planned_parts at (heading_line entry) head.keyword settings (plan_of now settings entry.details.planning (keyword_place settings.keywords keyword))
+    planned_parts at (heading_line entry) head.keyword settings (plan_of now settings (entry_planning entry) (keyword_place settings.keywords keyword))
 
 -- the same, by the entry's own head
 abbrev pub section_parts : ℕ → Moment → FileSettings → List ℕ → Entry → Result (List Part) Fault

@@ -85,7 +85,7 @@ fn complete_section<T: Text>(
     };
     // For the proof alone: its contract says that the text is UTF-8.
     let _text = file.text();
-    let plan = plan_of(file.settings(), entry.details.planning(), keyword, moment)?;
+    let plan = plan_of(file.settings(), entry.planning(), keyword, moment)?;
     complete_entry(alloc, file, place, &entry, head.keyword, plan)
 }
 

@@ -4,8 +4,10 @@ use Rattle.std.specs.Option.{option_map, option_and_then}
 use Rattle.org_base.specs.Words.{same_word}
 use Rattle.org_base.specs.declared.span.Span.{Span}
 use Rattle.org_settings.specs.Settings.{FileSettings}
+use Rattle.org_drawer.specs.Planning.{stamp_under}
 use Rattle.org_drawer.specs.declared.planning.Planning.{Planning}
 use Rattle.org_entry.specs.declared.entry.Entry.{Entry}
+use Rattle.org_entry.specs.Planning.{entry_planning}
 use Rattle.org_head.specs.Cookie.{cookie_value}
 use Rattle.org_base.specs.Spans.{bytes_in}
 use Rattle.org_head.specs.declared.head.Head.{Head}
@@ -19,7 +21,6 @@ use Rattle.org_inherit.specs.declared.special.Special.{Special}
 use Rattle.org_inherit.specs.declared.special.Special.TheVariants as special
 use Rattle.org_stamp.specs.declared.pair.PlanningKeyword.{PlanningKeyword}
 use Rattle.org_stamp.specs.declared.pair.PlanningKeyword.TheVariants.{Scheduled, Deadline, Closed}
-use Rattle.org_stamp.specs.declared.stamp.Stamp.{Stamp}
 
 -- what a name names of a heading's own lines
 abbrev pub heading_value_named : List ℕ → Option HeadingValue
@@ -51,13 +52,7 @@ abbrev pub priority_value : FileSettings → List ℕ → Option Span → List �
 priority_value settings text None = priority_text settings.default_priority
 priority_value settings text (Some cookie) = cookie_value (bytes_in text cookie)
 
--- what planning says under a keyword
-abbrev pub stamp_under : PlanningKeyword → Planning → Option (Stamp × Span)
-stamp_under Scheduled planning = planning.scheduled
-stamp_under Deadline planning = planning.deadline
-stamp_under Closed planning = planning.closed
-
--- where that stamp stands; of a range the first one
+-- where the stamp that planning has under a keyword stands; of a range the first one
 abbrev pub stamp_span : PlanningKeyword → Option Planning → Option Span
 stamp_span word planning = option_map (λ s. s.1) (option_and_then (stamp_under word) planning)
 
@@ -68,7 +63,7 @@ heading_value settings e head heading.Priority = Some (priority_value settings e
 heading_value settings e head heading.Level = Some (decimal head.level)
 heading_value settings e head heading.Title = Some (bytes_in e.text head.title)
 heading_value settings e head heading.Tags = tags_value (map (bytes_in e.text) head.tags)
-heading_value settings e head (heading.Stamp word) = option_map (bytes_in e.text) (stamp_span word e.details.planning)
+heading_value settings e head (heading.Stamp word) = option_map (bytes_in e.text) (stamp_span word (entry_planning e))
 
 -- what the entry at a place has by its head; nothing where it has none
 abbrev pub by_head : List Entry → ℕ → (Entry → Head → Option (List ℕ)) → Option (List ℕ)

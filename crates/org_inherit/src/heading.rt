@@ -2,6 +2,7 @@
 ghost use Rattle.std.specs.Prelude.{◌≡◌, decimal, IfOk, IsOkUnless};
 ghost use Rattle.std.specs.Option.{option_map};
 ghost use Rattle.org_base.specs.Codes.{memory_fault};
+ghost use Rattle.org_entry.specs.Planning.{entry_planning};
 ghost use Rattle.org_head.specs.Cookie.{cookie_value};
 ghost use Rattle.org_base.specs.Spans.{bytes_in};
 ghost use Rattle.org_inherit.specs.Special.{priority_text, priority_value, stamp_span, heading_value};
@@ -75,16 +76,13 @@ fn part_value(alloc: Global, entry: &Entry, part: Option<Span>) -> Result<Option
 
 // Where the stamp of a planning keyword stands in the entry's text.
 fn stamp_span(entry: &Entry, word: PlanningKeyword) -> Option<Span>
-    ensures value { result ≡ stamp_span word entry.now.details.planning }
+    ensures value { result ≡ stamp_span word (entry_planning entry.now) }
 {
-    let planning = entry.details.planning()?;
-    let stamp = match word {
-        PlanningKeyword::Scheduled => &planning.scheduled,
-        PlanningKeyword::Deadline => &planning.deadline,
-        PlanningKeyword::Closed => &planning.closed,
-    };
-    let (_, span) = stamp.as_ref()?;
-    Some(*span)
+    // Matched, since the prover's borrow checker has no plan for `?` or `and_then` at this type here.
+    match entry.planning() {
+        Some(planning) => planning.part(word),
+        None => None,
+    }
 }
 
 // What a heading's own lines say, of its entry and its head.

@@ -1,5 +1,5 @@
 //! A part of the pieces replaced.
-ghost use Rattle.std.specs.Prelude.{◌≡◌, ◌+◌, ◌^◌, ◌<◌, ◌≤◌, ◌++◌, length, IfOk, OnOk, OnErr};
+ghost use Rattle.std.specs.Prelude.{◌≡◌, ◌+◌, ◌^◌, ◌<◌, ◌≤◌, ◌++◌, length, IfOk, OnOk, OnErr, string_bytes};
 ghost use Rattle.std.specs.List.{concat};
 ghost use Rattle.org_text.specs.Replace.{max_bytes, refusal_of, replace};
 ghost use Rattle.org_pieces.specs.Content.{bytes_of, where_joined};
@@ -73,6 +73,17 @@ fn gathered(
     push_text(alloc, &mut pieces, ins)?;
     push_piece(alloc, &mut pieces, back)?;
     Ok(pieces)
+}
+
+// A string as pieces: one, or none where it has no byte.
+pub(crate) fn pieces_of(alloc: Global, text: String) -> Result<Sequence<Piece>, AllocError>
+    requires small { length (string_bytes text) ≤ max_bytes }
+    ensures { IfOk result (λ s. concat s ≡ string_bytes text) }
+{
+    if text.is_empty() {
+        return Ok(Sequence::new(alloc));
+    }
+    Sequence::of(alloc, &[Piece::of_string(text)?])
 }
 
 // Replaces the `del` bytes at a place.

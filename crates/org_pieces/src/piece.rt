@@ -1,5 +1,5 @@
 //! A piece: a part of a block that never changes.
-ghost use Rattle.std.specs.Prelude.{◌≡◌, ◌+◌, ◌^◌, ◌<◌, ◌≤◌, ◌++◌, length, take, drop, false, IfOk};
+ghost use Rattle.std.specs.Prelude.{◌≡◌, ◌+◌, ◌^◌, ◌<◌, ◌≤◌, ◌++◌, length, take, drop, false, IfOk, string_bytes};
 ghost use Rattle.std.specs.Rc.{rc_slice_items};
 
 use org_sequence::Measured;
@@ -85,6 +85,16 @@ impl Piece {
         ensures { IfOk result (λ p. p ≡ text.now) }
     {
         let block = RcSlice::from_slice(alloc, text.as_bytes())?;
+        Ok(Piece::of_block(block))
+    }
+
+    // The bytes of a string as a block, which they become where they stand.
+    pub(crate) fn of_string(text: String) -> Result<Piece, AllocError>
+        requires some { 0 < length (string_bytes text) }
+        requires fits { length (string_bytes text) < 2 ^ 32 }
+        ensures { IfOk result (λ p. p ≡ string_bytes text) }
+    {
+        let block = RcSlice::from_vec(text.into_bytes())?;
         Ok(Piece::of_block(block))
     }
 

@@ -2,7 +2,7 @@
 ghost use Rattle.std.specs.List.{concat};
 ghost use Rattle.org_pieces.specs.Content.{run_len};
 
-use crate::change::{change, refusal_in_pieces};
+use crate::change::{change, pieces_of, refusal_in_pieces};
 use crate::cuts::run_of;
 use crate::piece::Piece;
 use org_base::{Code, Fault};
@@ -42,12 +42,11 @@ impl Text for Pieces {
 
     ghost run_len = { run_len };
 
-    fn of(alloc: Global, text: &str) -> Result<Pieces, Fault> {
+    fn of_string(alloc: Global, text: String) -> Result<Pieces, Fault> {
         if text.len() > MAX_BYTES {
             return Err(Fault::Plain(Code::Size));
         }
-        let mut pieces = Sequence::new(alloc);
-        change(alloc, &mut pieces, 0, 0, text)?;
+        let pieces = pieces_of(alloc, text)?;
         Ok(Pieces { alloc, pieces })
     }
 

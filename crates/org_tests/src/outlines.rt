@@ -435,13 +435,13 @@ fn title(entry: &Entry) -> Option<&[u8]> {
 }
 
 fn deadline(entry: &Entry) -> Option<&[u8]> {
-    match entry.details.planning() {
+    match entry.planning() {
         Some(
             Planning {
                 deadline: Some((_, place)),
                 ..
             },
-        ) => Some(entry.part(*place)),
+        ) => Some(entry.part(place)),
         _ => None,
     }
 }
@@ -470,7 +470,7 @@ fn first_clock(entry: &Entry) -> Option<Minute> {
 // Whether the entry of the lines before the first heading is as it should be.
 fn is_front(entry: &Entry) -> bool {
     entry.head.is_none()
-        && entry.details.planning().is_none()
+        && entry.planning().is_none()
         && entry.line().is_empty()
         && entry.details.property(b"OWNER") == Some(b"ann".as_slice())
         && stamps_stand_at(entry, &[57])

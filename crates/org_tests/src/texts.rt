@@ -82,8 +82,8 @@ impl Text for Pieced {
 
     ghost run_len = { λ p at. if nat_lt at p.cut then min (p.cut - at) (⟦<Whole as Text>⟧.run_len p.whole at) else ⟦<Whole as Text>⟧.run_len p.whole at };
 
-    fn of(alloc: Global, text: &str) -> Result<Pieced, Fault> {
-        match Whole::of(alloc, text) {
+    fn of_string(alloc: Global, text: String) -> Result<Pieced, Fault> {
+        match Whole::of_string(alloc, text) {
             Ok(whole) => Ok(Pieced { whole, cut: 2 }),
             Err(fault) => Err(fault),
         }

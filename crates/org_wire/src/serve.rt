@@ -20,7 +20,7 @@ pub(crate) fn serve<T: Text>(engine: &mut Engine<T>, command: Command) -> Reply
     ensures counts { CountsFor command engine.old.state engine.old.counts engine.new.counts }
 {
     match command {
-        Command::Add(name, text) => told(engine.add(name.as_str(), text.as_slice())),
+        Command::Add(name, text) => told(engine.add_bytes(name.as_str(), text)),
         Command::Drop(name) => told(engine.drop_file(name.as_str())),
         Command::Edit(seen, at, del, ins) => edit(engine, &seen, at, del, ins.as_slice()),
         Command::Complete(seen, line, keyword) => {

@@ -4,7 +4,7 @@ ghost use Rattle.org_base.specs.declared.code.Code.TheVariants.{Size};
 ghost use Rattle.org_text.specs.Replace.{max_bytes};
 ghost use Rattle.orgviews.specs.declared.load.LoadError.TheVariants.{Refused};
 
-use org_base::Code;
+use org_base::{Bytes, Code};
 use org_engine::Engine;
 use org_text::{MAX_BYTES, Text};
 use std::alloc::Global;
@@ -41,7 +41,7 @@ pub fn load<R: Files, T: Text>(
     ensures err { OnErr result (engine.new.state ≡ engine.old.state) }
 {
     let bytes = read_file(rt, alloc, path)?;
-    match engine.add(path, bytes.as_slice()) {
+    match engine.add_bytes(path, Bytes::new(bytes)) {
         Ok(_) => Ok(()),
         Err(fault) => Err(LoadError::Refused(fault.code())),
     }
@@ -65,7 +65,10 @@ fn read_whole<R: Read>(alloc: Global, reader: &mut R) -> Result<Vec<u8>, LoadErr
     let mut bytes = Vec::new(alloc);
     match reader.take(MAX_BYTES as u64 + 1).read_to_end(&mut bytes) {
         Ok(_) if bytes.len() > MAX_BYTES => Err(LoadError::Refused(Code::Size)),
-        Ok(_) => Ok(bytes),
+        Ok(_) => {
+            bytes.shrink_to_fit();
+            Ok(bytes)
+        }
         Err(error) if error.kind() == io::ErrorKind::OutOfMemory => {
             Err(LoadError::Refused(Code::Memory))
         }

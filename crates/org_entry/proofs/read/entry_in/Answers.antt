@@ -4,7 +4,7 @@ use Rattle.org_entry.specs.Draft.{ended}
 use Rattle.std.specs.Prelude.{IfOk}
 use Rattle.org_base.specs.Spans.{bytes_in}
 use Rattle.org_entry.specs.Entry.{placed, entry_of_lines}
-use Rattle.org_entry.proofs.DraftLemmas.{classes_left, bytes_left, lines_left, none_left}
+use Rattle.org_entry.proofs.DraftLemmas.{classes_left, bytes_left, lines_left, none_left, text_behind}
 use Rattle.org_entry.proofs.QuietLemmas.{bytes_fewer, bytes_left_more, line_more, quiet_left}
 use Rattle.org_lines.specs.Cuts.{lines}
 use Rattle.org_lines.proofs.LineLemmas.{length_range}
@@ -18,6 +18,7 @@ loop-line-init g c =
     let items = c.new-line-items.ensures in
     let all = c.requires.belongs in
     rw (c.into_iter-line-iterator.ensures.into_iter_gives, c.new-draft.ensures.value) (record {
+      behind = omega arith;
       few = classes_left (bytes_in text section) _ _ items.lines all;
       room = bytes_left (bytes_in text section) section.len c.new-line-items.result items.joined (length_range text section.at section.len c.requires.within);
       left = items.joined;
@@ -47,6 +48,7 @@ loop-line-preserved-in_ok-add g c =
     let is : c.as_slice-line.result.now ≡ step.0.bytes = c.as_slice-line.ensures.value ∙ step.2.bytes in
     let first = step.1 in
     record {
+      behind = text_behind c.args.settings.now c.loop-line.draft c.add.new.self c.loop-line.at _ c.as_slice-line.result.now known.behind c.in_ok-add.ensures.ok;
       few = omega (arith, ap length first, known.few);
       room = bytes_fewer c.loop-line.at left next step.0 _ _ first is known.room;
       left = bytes_left_more c.loop-line.at left next step.0 section first known.left ∙ ap (λ l. drop (c.loop-line.at + length l) section) (sym is);
@@ -63,6 +65,7 @@ loop-line-preserved g c =
     let is : c.as_slice-line.result.now ≡ step.0.bytes = c.as_slice-line.ensures.value ∙ step.2.bytes in
     let first = step.1 in
     record {
+      behind = text_behind c.args.settings.now c.loop-line.draft c.add.new.self c.loop-line.at _ c.as_slice-line.result.now known.behind c.in_ok-add.ensures.ok;
       few = omega (arith, ap length first, known.few);
       room = bytes_fewer c.loop-line.at left next step.0 _ _ first is known.room;
       left = bytes_left_more c.loop-line.at left next step.0 section first known.left ∙ ap (λ l. drop (c.loop-line.at + length l) section) (sym is);

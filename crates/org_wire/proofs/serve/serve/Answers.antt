@@ -6,8 +6,8 @@ use Rattle.org_wire.proofs.serve.serve.Goals as goal
 
 pub returns-in-Add : goal.returns-in-Add
 returns-in-Add g c = record {
-  value = rw (c.in-Add.is, c.told.ensures.value) (tells _ _ _ _ (λ i. step.AddFile (c.as_str.ensures.value i) (c.as_slice.ensures.value i)) _ c.add.ensures.ok c.add.ensures.err);
-  counts = rw c.in-Add.is c.add.ensures.counts;
+  value = rw (c.in-Add.is, c.told.ensures.value) (tells _ _ _ _ (ap (λ name. step.AddFile name c.in-Add.text) c.as_str.ensures.value) _ c.add_bytes.ensures.ok c.add_bytes.ensures.err);
+  counts = rw c.in-Add.is c.add_bytes.ensures.counts;
 }
 
 pub returns-in-Drop : goal.returns-in-Drop
@@ -18,7 +18,7 @@ returns-in-Drop g c = record {
 
 pub returns-in-Edit : goal.returns-in-Edit
 returns-in-Edit g c = record {
-  value = rw c.in-Edit.is (rw c.as_slice-in-Edit.ensures.value at c.edit.ensures.value);
+  value = rw c.in-Edit.is (rw c.as_slice.ensures.value at c.edit.ensures.value);
   counts = rw c.in-Edit.is c.edit.ensures.counts;
 }
 
