@@ -1,6 +1,5 @@
 //! Clock lines.
 ghost use Rattle.std.specs.Prelude.{◌≡◌, ◌<◌, ◌≤◌};
-ghost use Rattle.std.specs.Option.{option_map};
 ghost use Rattle.org_cal.specs.Periods.{days_of};
 ghost use Rattle.org_drawer.specs.Clock as spec;
 

@@ -40,11 +40,11 @@ under_heading settings t l (m ∷ ms) e h = elim (cases_Bool (is_planning m)) [
       let kept = same_planning settings (option_map (moved n) (planning_of m)) (n + length m) ms (classes_below ms) (other-below ms) in
       let low : length l ≡ n = omega arith in
       rw (h, p) (
-        ap (λ x. planning_in (l ++ (m ++ x))) none
-        ∙ ap (λ x. planning_in (l ++ x)) (append-nil m)
-        ∙ behind_first t l (m ∷ ms) m e (λ none. absurd cc)
-        ∙ ap (λ k. option_map (moved k) (planning_of m)) low
-        ∙ sym kept
+      ap (λ x. planning_in (l ++ (m ++ x))) none
+      ∙ ap (λ x. planning_in (l ++ x)) (append-nil m)
+      ∙ behind_first t l (m ∷ ms) m e (λ none. absurd cc)
+      ∙ ap (λ k. option_map (moved k) (planning_of m)) low
+      ∙ sym kept
       )
   | inr p ↦
       let n = 0 + length l in
