@@ -144,6 +144,10 @@ pub record AgendaView : Type 0 where
 abbrev pub agenda_of : List Source → ℕ → ℕ → ℕ → AgendaView
 agenda_of sources today first count = record { sources = sources; today = today; first = first; count = count }
 
+-- the rows of the day so many days after an agenda's first
+abbrev pub rows_ahead : AgendaView → ℕ → List Row
+rows_ahead agenda ahead = day_rows agenda.sources agenda.today (agenda.first + ahead)
+
 -- some stamps give the rows that all give, on each day from one to another
 abbrev pub GiveAllRows : List Source → ℕ → ℕ → ℕ → List Source → Type 0
 GiveAllRows all today from to some = (day : ℕ) → from ≤ day → day ≤ to → day_rows some today day ≡ day_rows all today day

@@ -1,5 +1,6 @@
 -- Of which headings of a file an expression holds (Org manual 9.6, Matching tags and properties).
-use Rattle.std.specs.Prelude.{◌≡◌, ℕ, ◌+◌, Bool, false, List, [], ◌∷◌, Option, None, Some, Result, IfOk, slice_get}
+use Rattle.std.specs.Prelude.{◌≡◌, ℕ, ◌+◌, Bool, false, List, [], ◌∷◌, Option, None, Some, Result, slice_get}
+use Rattle.org_base.specs.Results.{Gives}
 use Rattle.org_base.specs.declared.fault.Fault.{Fault}
 use Rattle.org_cal.specs.declared.moment.Moment.{Moment}
 use Rattle.org_entry.specs.declared.entry.Entry.{Entry}
@@ -24,4 +25,4 @@ holds_of expr moment scope = holds_from expr moment scope 0 scope.entries
 
 -- an answer for the entry at a place: whether the expression holds of it, or a refusal
 abbrev pub SaysWhether : Expr → Moment → Scope → ℕ → Result Bool Fault → Type 0
-SaysWhether expr moment scope i answer = (e : Entry) → slice_get scope.entries i ≡ Some e → IfOk answer (λ holds. holds ≡ entry_holds expr moment scope i e e.head)
+SaysWhether expr moment scope i answer = (e : Entry) → slice_get scope.entries i ≡ Some e → Gives answer (entry_holds expr moment scope i e e.head)

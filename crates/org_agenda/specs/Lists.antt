@@ -57,10 +57,14 @@ abbrev pub rows_from : Listing → Scope → ℕ → ℕ → List Entry → List
 rows_from listing scope file i [] = []
 rows_from listing scope file i (e ∷ es) = head_rows listing scope file i e e.head ++ rows_from listing scope file (i + 1) es
 
+-- the rows of a file, which stands at a place
+abbrev pub scope_rows : Listing → Scope → ℕ → List Ranked
+scope_rows listing scope file = rows_from listing scope file 0 scope.entries
+
 -- the rows of files, the first of which stands at a place
 abbrev pub file_rows : Listing → ℕ → List Scope → List Ranked
 file_rows listing file [] = []
-file_rows listing file (scope ∷ scopes) = rows_from listing scope file 0 scope.entries ++ file_rows listing (file + 1) scopes
+file_rows listing file (scope ∷ scopes) = scope_rows listing scope file ++ file_rows listing (file + 1) scopes
 
 -- by priority; of equal ones, files and headings in their order
 abbrev pub in_order : List Ranked → List Row

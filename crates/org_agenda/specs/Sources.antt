@@ -40,10 +40,14 @@ abbrev pub with_planned : Owner → Role → Option (Stamp × Span) → List Sou
 with_planned owner role None sources = sources
 with_planned owner role (Some found) sources = if found.0.active then put (source_at owner role found.1.at found.0) sources else sources
 
--- the scheduled stamp and the deadline of the planning line among others
+-- the scheduled stamp and the deadline of a planning line among others
+abbrev pub with_line : Owner → Planning → List Source → List Source
+with_line owner planning sources = with_planned owner Deadline planning.deadline (with_planned owner Scheduled planning.scheduled sources)
+
+-- the same, if there is a planning line
 abbrev pub with_planning : Owner → Option Planning → List Source → List Source
 with_planning owner None sources = sources
-with_planning owner (Some planning) sources = with_planned owner Deadline planning.deadline (with_planned owner Scheduled planning.scheduled sources)
+with_planning owner (Some planning) sources = with_line owner planning sources
 
 -- the plain stamps
 abbrev pub plain_sources : Owner → List Found → List Source
@@ -59,13 +63,13 @@ head_sources scope file i e None = []
 head_sources scope file i e (Some head) = if is_hidden scope.entries i then [] else entry_sources (owner_of scope file i e head) e
 
 -- the same, by the entry's own head
-abbrev pub heading_sources : Scope → ℕ → ℕ → Entry → List Source
-heading_sources scope file i e = head_sources scope file i e e.head
+abbrev pub sources_at : Scope → ℕ → ℕ → Entry → List Source
+sources_at scope file i e = head_sources scope file i e e.head
 
 -- those of entries, the first of which stands at a place
 abbrev pub sources_from : Scope → ℕ → ℕ → List Entry → List Source
 sources_from scope file i [] = []
-sources_from scope file i (e ∷ es) = head_sources scope file i e e.head ++ sources_from scope file (i + 1) es
+sources_from scope file i (e ∷ es) = sources_at scope file i e ++ sources_from scope file (i + 1) es
 
 -- those of a file
 abbrev pub file_sources : Scope → ℕ → List Source
@@ -74,4 +78,4 @@ file_sources scope file = sources_from scope file 0 scope.entries
 -- those of files, the first of which stands at a place
 abbrev pub sources_of : ℕ → List Scope → List Source
 sources_of file [] = []
-sources_of file (scope ∷ scopes) = sources_from scope file 0 scope.entries ++ sources_of (file + 1) scopes
+sources_of file (scope ∷ scopes) = file_sources scope file ++ sources_of (file + 1) scopes

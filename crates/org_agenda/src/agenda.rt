@@ -1,7 +1,8 @@
 //! The agenda of some days.
-ghost use Rattle.std.specs.Prelude.{◌≡◌, ◌+◌, ◌<◌, ◌≤◌, IfOk, IsOkUnless};
+ghost use Rattle.std.specs.Prelude.{◌≡◌, ◌+◌, ◌<◌, ◌≤◌, IsOkUnless};
 ghost use Rattle.org_base.specs.Codes.{memory_fault};
-ghost use Rattle.org_agenda.specs.Days.{agenda_of, day_rows};
+ghost use Rattle.org_base.specs.Results.{Gives, GivesItems};
+ghost use Rattle.org_agenda.specs.Days.{agenda_of, rows_ahead};
 
 use crate::days::rows_at;
 use crate::places::Places;
@@ -47,7 +48,7 @@ impl Agenda {
         count: u32,
     ) -> Result<Agenda, Fault>
         requires within { first + count ≤ 3_652_060 }
-        ensures value { IfOk result (λ agenda. agenda ≡ agenda_of sources.items today first count) }
+        ensures value { Gives result (agenda_of sources.items today first count) }
         ensures memory { IsOkUnless result memory_fault }
     {
         let places = spread(alloc, sources.as_slice(), today, first, count)?;
@@ -77,7 +78,7 @@ impl Agenda {
     /// The rows of the day so many days after the first, as [`day_rows`](crate::day_rows) has them. Want of memory is the only refusal.
     pub fn rows(&self, alloc: Global, ahead: u32) -> Result<Vec<Row>, Fault>
         requires within { ahead < self.now.count }
-        ensures value { IfOk result (λ rows. rows.items ≡ day_rows self.now.sources self.now.today (self.now.first + ahead)) }
+        ensures value { GivesItems result (rows_ahead self.now ahead) }
         ensures memory { IsOkUnless result memory_fault }
     {
         let places = self.places.get(ahead as usize);

@@ -1,7 +1,7 @@
 //! Which rows a stamp gives on a day.
 ghost use Rattle.std.specs.Prelude.{◌≡◌, ◌<◌, ◌-◌, nat_lt, ◌&&◌, length, OnOk};
 ghost use Rattle.org_agenda.specs.Days.{days_in, delay_or, is_due, is_in_range, is_shown, kind_rows, numbers, occurs_delayed, occurs_later, range_times, source_rows, times};
-ghost use Rattle.org_agenda.specs.Gathered.{gathered};
+ghost use Rattle.org_agenda.specs.Results.{Gathers};
 ghost use Rattle.org_agenda.specs.declared.lists.TheConstants.{PRIORITIES};
 ghost use Rattle.org_repeat.specs.Decided.{occurs};
 
@@ -174,7 +174,7 @@ fn push_kind(
     day: Day,
 ) -> Result<(), AllocError>
     requires room { length rows.old ≡ PRIORITIES }
-    ensures ok { OnOk result (rows.new ≡ gathered rows.old (kind_rows kind source.now today day)) }
+    ensures ok { Gathers result rows.old rows.new (kind_rows kind source.now today day) }
     ensures room { OnOk result (length rows.new ≡ PRIORITIES) }
 {
     if !is_shown(kind, source, today, day) {
@@ -207,7 +207,7 @@ pub(crate) fn push_source(
     day: Day,
 ) -> Result<(), AllocError>
     requires room { length rows.old ≡ PRIORITIES }
-    ensures ok { OnOk result (rows.new ≡ gathered rows.old (source_rows today day source.now)) }
+    ensures ok { Gathers result rows.old rows.new (source_rows today day source.now) }
 {
     match source.role {
         Role::Plain => {

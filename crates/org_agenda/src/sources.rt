@@ -1,10 +1,10 @@
 //! The stamps of files that agendas look at.
-ghost use Rattle.std.specs.Prelude.{◌≡◌, ◌++◌, ◌<◌, ◌≤◌, Some, insert, length, slice_get, IfOk, OnOk, IsOkUnless};
+ghost use Rattle.std.specs.Prelude.{◌≡◌, ◌<◌, ◌≤◌, Some, insert, length, slice_get, OnOk, IsOkUnless};
 ghost use Rattle.org_base.specs.Codes.{memory_fault};
-ghost use Rattle.org_entry.specs.Entry.{heading_line};
-ghost use Rattle.org_head.specs.Head.{head_of};
-ghost use Rattle.org_agenda.specs.Headings.{AllHaveHeads, HaveHeads};
-ghost use Rattle.org_agenda.specs.Sources.{entry_sources, file_sources, head_sources, heading_sources, owner_of, plain_sources, put, source_at, sources_of, with_planned, with_planning};
+ghost use Rattle.org_base.specs.Results.{Adds, GivesItems};
+ghost use Rattle.org_agenda.specs.Headings.{AllHaveHeads, HaveHeads, IsHeadOf};
+ghost use Rattle.org_agenda.specs.Results.{AddsHeading};
+ghost use Rattle.org_agenda.specs.Sources.{entry_sources, file_sources, owner_of, plain_sources, put, source_at, sources_at, sources_of, with_line, with_planned};
 ghost use Rattle.org_agenda.specs.declared.source.Source.{Source as AnySource};
 
 use crate::facts::{HeadingFacts, is_finished};
@@ -22,7 +22,7 @@ use std::alloc::{AllocError, Global};
 /// places. Want of memory is the only refusal.
 pub fn sources_of(alloc: Global, inherits: &Inherits<'_>) -> Result<Vec<Source>, Fault>
     requires heads { AllHaveHeads inherits.now }
-    ensures value { IfOk result (λ sources. sources.items ≡ sources_of 0 inherits.now) }
+    ensures value { GivesItems result (sources_of 0 inherits.now) }
     ensures memory { IsOkUnless result memory_fault }
 {
     let mut sources = Vec::new(alloc);
@@ -40,7 +40,7 @@ fn push_file(
     inherit: &Inherit<'_>,
 ) -> Result<(), AllocError>
     requires heads { HaveHeads inherit.now.settings inherit.now.entries }
-    ensures ok { OnOk result (sources.new.items ≡ sources.old.items ++ file_sources inherit.now file) }
+    ensures ok { Adds result sources.old sources.new (file_sources inherit.now file) }
 {
     let outline = inherit.outline();
     for place in 0..outline.count() {
@@ -59,7 +59,7 @@ fn push_entry(
 ) -> Result<(), AllocError>
     requires heads { HaveHeads inherit.now.settings inherit.now.entries }
     requires is { slice_get inherit.now.entries place ≡ Some entry.now }
-    ensures ok { OnOk result (sources.new.items ≡ sources.old.items ++ heading_sources inherit.now file place entry.now) }
+    ensures ok { Adds result sources.old sources.new (sources_at inherit.now file place entry.now) }
 {
     match &entry.head {
         Some(head) => push_heading(sources, own, file, inherit, place, entry, head),
@@ -77,8 +77,8 @@ fn push_heading(
     head: &Head,
 ) -> Result<(), AllocError>
     requires within { place < length inherit.now.entries }
-    requires head { head.now ≡ head_of inherit.now.settings (heading_line entry.now) }
-    ensures ok { OnOk result (sources.new.items ≡ sources.old.items ++ head_sources inherit.now file place entry.now (Some head.now)) }
+    requires head { IsHeadOf inherit.now.settings entry.now head.now }
+    ensures ok { AddsHeading result sources.old sources.new inherit.now file place entry.now head.now }
 {
     if inherit.hidden(place) {
         return Ok(());
@@ -91,7 +91,7 @@ fn push_heading(
 
 fn owner_of(file: usize, inherit: &Inherit<'_>, place: usize, entry: &Entry, head: &Head) -> Owner
     requires within { place < length inherit.now.entries }
-    requires head { head.now ≡ head_of inherit.now.settings (heading_line entry.now) }
+    requires head { IsHeadOf inherit.now.settings entry.now head.now }
     ensures value { result ≡ owner_of inherit.now file place entry.now head.now }
 {
     let settings = inherit.settings();
@@ -118,7 +118,7 @@ fn write_own(own: &mut Vec<Source>, owner: &Owner, entry: &Entry) -> Result<(), 
 }
 
 fn push_plain(own: &mut Vec<Source>, owner: &Owner, stamps: &[Found]) -> Result<(), AllocError>
-    ensures ok { OnOk result (own.new.items ≡ own.old.items ++ plain_sources owner.now stamps.now) }
+    ensures ok { Adds result own.old own.new (plain_sources owner.now stamps.now) }
 {
     for found in stamps {
         own.push(source_at(owner, Role::Plain, found.at, found.stamp))?;
@@ -127,7 +127,7 @@ fn push_plain(own: &mut Vec<Source>, owner: &Owner, stamps: &[Found]) -> Result<
 }
 
 fn put_planning(own: &mut Vec<Source>, owner: &Owner, planning: &Planning) -> Result<(), AllocError>
-    ensures ok { OnOk result (own.new.items ≡ with_planning owner.now (Some planning.now) own.old.items) }
+    ensures ok { OnOk result (own.new.items ≡ with_line owner.now planning.now own.old.items) }
 {
     put_planned(own, owner, Role::Scheduled, planning.scheduled)?;
     put_planned(own, owner, Role::Deadline, planning.deadline)

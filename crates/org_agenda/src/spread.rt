@@ -2,8 +2,7 @@
 ghost use Rattle.std.specs.Prelude.{◌≡◌, ℕ, ◌+◌, ◌<◌, ◌≤◌, Some, true, false, IfOk, OnOk, length, slice_get};
 ghost use Rattle.org_agenda.specs.Days.{is_due, occurs_delayed, occurs_later};
 ghost use Rattle.org_agenda.specs.declared.spread.TheConstants.{NEVER};
-ghost use Rattle.org_agenda.specs.Spread.{AreSpread, GiveMore, GivesNone};
-ghost use Rattle.org_cal.specs.Days.{IsDay};
+ghost use Rattle.org_agenda.specs.Spread.{AreSpread, GiveMore, GivesNone, NoDayHas};
 ghost use Rattle.org_repeat.specs.Decided.{occurs};
 
 use crate::places::Places;
@@ -93,7 +92,7 @@ fn next_on(stamp: &Stamp, from: u32) -> u32
     requires { (1 ≤ from) × (from ≤ NEVER) }
     ensures late { from ≤ result }
     ensures most { result ≤ NEVER }
-    ensures none { (e : ℕ) → IsDay e → from ≤ e → e < result → occurs stamp.now e ≡ false }
+    ensures none { NoDayHas (occurs stamp.now) from result }
 {
     // For the proof alone: the stamp's own day is a day.
     let _base = stamp.day.number();
@@ -110,7 +109,7 @@ fn next_on(stamp: &Stamp, from: u32) -> u32
 fn next_delayed(stamp: &Stamp, delay: Option<Delay>, from: u32) -> u32
     requires { (1 ≤ from) × (from ≤ NEVER) }
     ensures late { from ≤ result }
-    ensures none { (e : ℕ) → IsDay e → from ≤ e → e < result → occurs_delayed stamp.now delay e ≡ false }
+    ensures none { NoDayHas (occurs_delayed stamp.now delay) from result }
 {
     let Some(delay) = delay else {
         return next_on(stamp, from);
@@ -127,7 +126,7 @@ fn next_but_base(stamp: &Stamp, later: u32, from: u32) -> u32
     requires from { (1 ≤ from) × (from ≤ NEVER) }
     requires small { later < 30_000_000 }
     ensures late { from ≤ result }
-    ensures none { (e : ℕ) → IsDay e → from ≤ e → e < result → occurs_later true stamp.now later e ≡ false }
+    ensures none { NoDayHas (occurs_later true stamp.now later) from result }
 {
     let base = stamp.day.number() + later;
     let next = next_on(stamp, from);
@@ -142,7 +141,7 @@ fn next_later(stamp: &Stamp, later: u32, from: u32) -> u32
     requires from { (1 ≤ from) × (from ≤ NEVER) }
     requires small { later < 30_000_000 }
     ensures late { from ≤ result }
-    ensures none { (e : ℕ) → IsDay e → from ≤ e → e < result → occurs_later false stamp.now later e ≡ false }
+    ensures none { NoDayHas (occurs_later false stamp.now later) from result }
 {
     if from <= later {
         return next_on(stamp, 1) + later;
@@ -154,7 +153,7 @@ fn next_later(stamp: &Stamp, later: u32, from: u32) -> u32
 fn next_due(source: &Source, today: Day, from: u32) -> u32
     requires { from ≤ NEVER }
     ensures late { from ≤ result }
-    ensures none { (e : ℕ) → IsDay e → from ≤ e → e < result → is_due source.now today e ≡ false }
+    ensures none { NoDayHas (is_due source.now today) from result }
 {
     if source.owner.is_open && from <= today.number() {
         today.number()

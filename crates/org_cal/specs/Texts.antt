@@ -1,11 +1,12 @@
 -- Times of day and days as texts, by cases on the bytes (Org manual 9.6, Timestamps).
 -- Characters by their codes: 45 -, 48 0, 58 :.
-use Rattle.std.specs.Prelude.{ℕ, ◌+◌, ◌-◌, ◌*◌, ◌/◌, ◌%◌, ◌++◌, Bool, ◌&&◌, ◌==◌, nat_lt, nat_le, if◌then◌else◌, List, [], ◌∷◌, Option, Some, None, pos, codes}
+use Rattle.std.specs.Prelude.{ℕ, ◌+◌, ◌-◌, ◌*◌, ◌/◌, ◌%◌, ◌++◌, Bool, ◌&&◌, ◌==◌, nat_lt, nat_le, if◌then◌else◌, List, [], ◌∷◌, Option, Some, None, pos, codes, ◌≡◌, ◌⊎◌}
 use Rattle.std.specs.Option.{option_and_then, option_map}
 use Rattle.std.specs.Char.{is_ascii_digit}
 use Rattle.jiff_core.specs.Calendar.{days_in_month}
 use Rattle.org_cal.specs.Days.{day_number}
 use Rattle.org_cal.specs.Parts.{year_of, month_of, month_day_of}
+use Rattle.org_cal.specs.declared.moment.Moment.{Moment}
 
 -- the number that two digits spell
 abbrev pub two_digits : ℕ → ℕ → Option ℕ
@@ -77,3 +78,11 @@ day_name n =
     else (if n == 3 then codes "Thu"
     else (if n == 4 then codes "Fri"
     else (if n == 5 then codes "Sat" else codes "Sun")))))
+
+-- two texts spell the day and the time of a moment
+abbrev pub IsMomentOf : List ℕ → List ℕ → Moment → Type 0
+IsMomentOf date time moment = (date_of date ≡ Some moment.day) × (time_of time ≡ Some moment.minute)
+
+-- one of two texts spells no day or no time
+abbrev pub IsNoMoment : List ℕ → List ℕ → Type 0
+IsNoMoment date time = (date_of date ≡ None) ⊎ (time_of time ≡ None)

@@ -1,9 +1,9 @@
 //! Days of the calendar.
 ghost use Rattle.std.specs.Prelude.{◌≡◌, ◌↔◌, ◌+◌, ◌%◌, ◌≤◌, ℕ, pos, ◌+ℤ◌, ◌≤ℤ◌, IfOk, IfErr, IsSome, IfSome};
 ghost use Rattle.std.specs.Prelude.{◌≢◌, Some, None};
-ghost use Rattle.jiff.specs.Words.{epoch_day, monday_zero, date_add, CanAddToDate};
-ghost use Rattle.org_cal.specs.Added.{IsAdded};
-ghost use Rattle.org_cal.specs.Days.{IsDay, IsYearMonthDay, day_number};
+ghost use Rattle.jiff.specs.Words.{epoch_day, monday_zero, date_add};
+ghost use Rattle.org_cal.specs.Added.{IsAdded, HasDayAfter};
+ghost use Rattle.org_cal.specs.Days.{IsDay, IsYearMonthDay, day_number, IsDayOf};
 ghost use Rattle.org_cal.specs.Faults.{date_fault};
 ghost use Rattle.org_cal.specs.Parts.{month_day_of, month_of, weekday_of, year_of};
 ghost use Rattle.org_cal.specs.Texts.{date_of, day_of};
@@ -41,7 +41,7 @@ impl Model for Day {
 impl Day {
     /// The day with these parts. `Date` where the calendar has no such day of the years 1 to 9999.
     pub fn of(year: u16, month: u8, day: u8) -> Result<Day, Fault>
-        ensures value { IfOk result (λ number. IsYearMonthDay year month day × (number ≡ day_number year month day)) }
+        ensures value { IfOk result (IsDayOf year month day) }
         ensures date { IfErr result (λ fault. (fault ≡ date_fault) × (IsYearMonthDay year month day → ⊥)) }
     {
         if year < 1 || year > 9999 || month > 12 || day > 31 {
@@ -209,8 +209,7 @@ impl Day {
 
     // The day a span after a date, from the year 1 on.
     fn after(date: Date, span: Span) -> Option<Day>
-        ensures succeeds { IsSome result
-            ↔ (CanAddToDate date span × (pos 1 ≤ℤ (date_add date span +ℤ pos 719_163))) }
+        ensures succeeds { IsSome result ↔ HasDayAfter date span }
         ensures value { IfSome result (λ day. pos day ≡ date_add date span +ℤ pos 719_163) }
     {
         match date.checked_add(span) {

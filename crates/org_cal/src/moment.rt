@@ -1,8 +1,8 @@
 //! A day and a time of it.
-ghost use Rattle.std.specs.Prelude.{◌≡◌, ◌⊎◌, Some, None, IfOk, IfErr};
+ghost use Rattle.std.specs.Prelude.{◌≡◌, Some, None, IfOk, IfErr};
 ghost use Rattle.org_cal.specs.Faults.{date_fault};
 ghost use Rattle.org_cal.specs.Minutes.{minute_of};
-ghost use Rattle.org_cal.specs.Texts.{date_of, time_of};
+ghost use Rattle.org_cal.specs.Texts.{IsMomentOf, IsNoMoment};
 
 use crate::day::Day;
 use crate::minute::Minute;
@@ -19,8 +19,8 @@ pub struct Moment {
 impl Moment {
     /// The moment that two texts spell: `YYYY-MM-DD`, and one `H:MM` or `HH:MM`. `Date` where either can't be read.
     pub fn read(date: &[u8], time: &[u8]) -> Result<Moment, Fault>
-        ensures value { IfOk result (λ moment. (date_of date.now ≡ Some moment.day) × (time_of time.now ≡ Some moment.minute)) }
-        ensures date { IfErr result (λ fault. (fault ≡ date_fault) × ((date_of date.now ≡ None) ⊎ (time_of time.now ≡ None))) }
+        ensures value { IfOk result (IsMomentOf date.now time.now) }
+        ensures date { IfErr result (λ fault. (fault ≡ date_fault) × IsNoMoment date.now time.now) }
     {
         let day = Day::read(date)?;
         match TimeOfDay::read(time) {

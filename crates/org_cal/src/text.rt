@@ -1,5 +1,6 @@
 //! Days and times as text.
-ghost use Rattle.std.specs.Prelude.{◌≡◌, ◌+◌, ◌<◌, ◌≤◌, [], ◌∷◌, ◌++◌, OnOk, OnErr, string_bytes, string_capacity, string_len};
+ghost use Rattle.std.specs.Prelude.{◌≡◌, ◌+◌, ◌<◌, ◌≤◌, [], ◌∷◌, ◌++◌, OnErr, string_bytes, string_capacity, string_len};
+ghost use Rattle.org_base.specs.Results.{Writes};
 ghost use Rattle.org_cal.specs.Parts.{weekday_of};
 ghost use Rattle.org_cal.specs.Texts as texts;
 
@@ -10,7 +11,7 @@ use std::alloc::AllocError;
 /// Appends a number below 100 in two digits. Want of memory is the only refusal, and leaves `out` as it was.
 pub fn push_two(out: &mut String, number: u8) -> Result<(), AllocError>
     requires below { number < 100 }
-    ensures ok { OnOk result (string_bytes out.new ≡ string_bytes out.old ++ texts.two number) }
+    ensures ok { Writes result out.old out.new (texts.two number) }
     ensures err { OnErr result (string_bytes out.new ≡ string_bytes out.old) }
 {
     out.reserve(2)?;
@@ -20,7 +21,7 @@ pub fn push_two(out: &mut String, number: u8) -> Result<(), AllocError>
 
 /// Appends `YYYY-MM-DD`. Want of memory is the only refusal, and leaves `out` as it was.
 pub fn push_date(out: &mut String, day: Day) -> Result<(), AllocError>
-    ensures ok { OnOk result (string_bytes out.new ≡ string_bytes out.old ++ texts.date_text day) }
+    ensures ok { Writes result out.old out.new (texts.date_text day) }
     ensures err { OnErr result (string_bytes out.new ≡ string_bytes out.old) }
 {
     let (year, month, date) = day.parts();
@@ -36,7 +37,7 @@ pub fn push_date(out: &mut String, day: Day) -> Result<(), AllocError>
 
 /// Appends `HH:MM`. Want of memory is the only refusal, and leaves `out` as it was.
 pub fn push_time(out: &mut String, time: TimeOfDay) -> Result<(), AllocError>
-    ensures ok { OnOk result (string_bytes out.new ≡ string_bytes out.old ++ texts.time_text time) }
+    ensures ok { Writes result out.old out.new (texts.time_text time) }
     ensures err { OnErr result (string_bytes out.new ≡ string_bytes out.old) }
 {
     let minutes = time.minutes();

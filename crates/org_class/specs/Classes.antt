@@ -1,9 +1,13 @@
 -- The class of each line of a section (Org Syntax, Sections, Planning, Property Drawers; where a drawer may stand before
 -- the first heading: profile). A section that doesn't begin with a heading line is the one before the first heading.
-use Rattle.std.specs.Prelude.{◌≡◌, ◌++◌, ℕ, Bool, true, false, ◌||◌, if◌then◌else◌, List, [], ◌∷◌, map, Option, Some, None}
+use Rattle.std.specs.Cow.{cow_slice_items}
+use Rattle.std.specs.Prelude.{◌≡◌, ◌++◌, ℕ, Bool, true, false, ◌||◌, if◌then◌else◌, List, [], ◌∷◌, map, Option, Some, None, Result, OnOk}
 use Rattle.std.specs.List.{flat_map}
+use Rattle.org_base.specs.Spans.{bytes_in}
 use Rattle.org_base.specs.Words.{is_blank}
-use Rattle.org_lines.specs.Cuts.{lines}
+use Rattle.org_base.specs.declared.span.Span.{Span}
+use Rattle.org_lines.specs.Cuts.{lines, lines_in}
+use Rattle.org_lines.specs.declared.lines.Line.{Line}
 use Rattle.org_stamp.specs.Pair.{is_planning}
 use Rattle.org_class.specs.Drawers.{classes_below}
 use Rattle.org_class.specs.Heading.{begins_heading}
@@ -35,6 +39,10 @@ classes (l ∷ ls) = if begins_heading l then Heading ∷ classes_under_heading 
 abbrev pub section_classes : List ℕ → List Class
 section_classes s = classes (lines s)
 
+-- the classes of the lines of a section of a text
+abbrev pub classes_in : List ℕ → Span → List Class
+classes_in text section = section_classes (bytes_in text section)
+
 -- the class of setting lines
 abbrev pub is_setting_class : Class → Bool
 is_setting_class Setting = true
@@ -50,6 +58,14 @@ abbrev pub lines_of_setting : List (List ℕ) → List Class → List (List ℕ)
 lines_of_setting [] cs = []
 lines_of_setting (l ∷ ls) [] = []
 lines_of_setting (l ∷ ls) (c ∷ cs) = if is_setting_class c then l ∷ lines_of_setting ls cs else lines_of_setting ls cs
+
+-- a line that was read, if it is of class Setting
+abbrev pub setting_line : Option Class → Line → List (List ℕ)
+setting_line class line = setting_of class (cow_slice_items line.bytes)
+
+-- the lines of class Setting of a section of a text stand behind the texts, unless that is refused
+abbrev pub GainsSettings : {T E : Type 0} → Result T E → List (List ℕ) → List (List ℕ) → List ℕ → Span → List Class → Type 0
+GainsSettings result old new text section cs = OnOk result (new ≡ old ++ lines_of_setting (lines_in text section) cs)
 
 -- what stood there stands there still, with more behind it
 abbrev pub StandStill : List (List ℕ) → List (List ℕ) → Type 0

@@ -4,7 +4,9 @@ use Rattle.std.specs.List.{list_any}
 use Rattle.std.specs.Option.{unwrap_or}
 use Rattle.std.specs.Map.{lookup}
 use Rattle.std.specs.Char.{to_ascii_lowercase}
+use Rattle.std.specs.Cow.{cow_slice_items}
 use Rattle.org_class.specs.Blocks.{ends_block}
+use Rattle.org_lines.specs.declared.lines.Line.{Line}
 
 -- the number of the last element that passes the test, from 1; 0 where none does
 abbrev pub last_where : {X : Type 0} → (X → Bool) → List X → ℕ
@@ -26,3 +28,11 @@ AreLastEnds places ls = (name : List ℕ) → place_of places name ≡ last_wher
 -- behind so many lines, a name's end line stands among the lines left just where its number is greater
 abbrev pub KnowsEnds : Places → ℕ → List (List ℕ) → Type 0
 KnowsEnds places number ls = (name : List ℕ) → nat_lt number (place_of places name) ≡ list_any (ends_block name) ls
+
+-- the names that pass a test have this number, and all others what they had
+abbrev pub IsRenumbered : Places → Places → (List ℕ → Bool) → ℕ → Type 0
+IsRenumbered old new test number = (name : List ℕ) → place_of new name ≡ if test name then number else place_of old name
+
+-- a line ends the blocks of a name
+abbrev pub is_ended_by : Line → List ℕ → Bool
+is_ended_by line name = ends_block name (cow_slice_items line.bytes)

@@ -1,5 +1,7 @@
 -- Sections of a text (Org Syntax, Headings and Sections).
-use Rattle.std.specs.Prelude.{ℕ, ◌+◌, Bool, true, false, ◌&&◌, ◌==◌, List, [], ◌∷◌, length}
+use Rattle.std.specs.List.{All}
+use Rattle.std.specs.Prelude.{ℕ, ◌+◌, Bool, true, false, ◌&&◌, ◌==◌, List, [], ◌∷◌, length, ◌≡◌, ◌≤◌, map}
+use Rattle.org_base.specs.Spans.{bytes_in}
 use Rattle.org_base.specs.declared.span.Span.{Span}
 use Rattle.org_settings.specs.Pieces.{put_before}
 use Rattle.org_class.specs.Heading.{begins_heading}
@@ -42,3 +44,11 @@ runs = cut_where (λ l ls. is_headed ls)
 abbrev pub spans_from : ℕ → List (List ℕ) → List Span
 spans_from at [] = []
 spans_from at (t ∷ ts) = record { at = at; len = length t } ∷ spans_from (at + length t) ts
+
+-- these parts of a text are its sections
+abbrev pub AreSections : List ℕ → List Span → Type 0
+AreSections text spans = map (bytes_in text) spans ≡ sections text
+
+-- parts lie within a text
+abbrev pub AreInside : List ℕ → List Span → Type 0
+AreInside text spans = All (λ s. s.at + s.len ≤ length text) spans

@@ -1,6 +1,7 @@
 //! What stands behind a line of a section.
-ghost use Rattle.std.specs.Prelude.{◌≡◌, ◌+◌, ◌≤◌, length, IfOk, IsOkUnless};
+ghost use Rattle.std.specs.Prelude.{◌≡◌, ◌+◌, ◌≤◌, length, IsOkUnless};
 ghost use Rattle.org_base.specs.Codes.{memory_fault};
+ghost use Rattle.org_base.specs.Results.{Gives};
 ghost use Rattle.org_lines.specs.Cuts.{lines};
 ghost use Rattle.org_class.specs.Blocks.{opens_block};
 ghost use Rattle.org_class.specs.Drawers.{closes_drawer};
@@ -61,7 +62,7 @@ impl<'a, T: Text> Ahead<'a, T> {
     // Whether the line before them opens a block.
     #[tactic(auto, using(crate::proofs::MarkLemmas::block_has_hash))]
     pub(crate) fn opens_block(&self, alloc: Global, line: &[u8]) -> Result<bool, AllocError>
-        ensures value { IfOk result (λ opens. opens ≡ opens_block line.now self.now) }
+        ensures value { Gives result (opens_block line.now self.now) }
     {
         if !has_hash(line) {
             return Ok(false);
@@ -76,7 +77,7 @@ impl<'a, T: Text> Ahead<'a, T> {
 
     // Whether node lines, none or more, and then the end of the drawer stand at their front.
     pub(crate) fn closes_drawer(&self, alloc: Global) -> Result<bool, Fault>
-        ensures value { IfOk result (λ closes. closes ≡ closes_drawer self.now) }
+        ensures value { Gives result (closes_drawer self.now) }
         ensures memory { IsOkUnless result memory_fault }
     {
         for line in Lines::new(alloc, self.text, self.rest) {

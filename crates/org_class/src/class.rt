@@ -1,6 +1,7 @@
 //! What a line of a section is.
-ghost use Rattle.std.specs.Prelude.{◌≡◌, ◌++◌, ◌∷◌, [], length, slice_get, IfOk, OnOk};
+ghost use Rattle.std.specs.Prelude.{◌≡◌, ◌++◌, ◌∷◌, [], length, slice_get, OnOk};
 ghost use Rattle.std.specs.List.{list_any};
+ghost use Rattle.org_base.specs.Results.{Gives};
 ghost use Rattle.org_class.specs.Classes.{is_setting_class};
 ghost use Rattle.org_class.specs.declared.class.Class.TheVariants.{Heading};
 
@@ -66,7 +67,7 @@ impl Classes {
 
     // Those of a heading alone.
     pub(crate) fn of_heading(alloc: Global) -> Result<Classes, AllocError>
-        ensures value { IfOk result (λ classes. classes ≡ Heading ∷ []) }
+        ensures value { Gives result (Heading ∷ []) }
     {
         let mut classes = Classes::new(alloc);
         classes.push(Class::Heading)?;

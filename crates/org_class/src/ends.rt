@@ -1,12 +1,12 @@
 //! Where the last end line of each block's name stands.
-ghost use Rattle.std.specs.Prelude.{◌≡◌, ◌+◌, ◌≤◌, [], ℕ, List, false, if◌then◌else◌, length, IfOk, OnOk, IsOkUnless};
+ghost use Rattle.std.specs.Prelude.{◌≡◌, ◌+◌, ◌≤◌, [], false, length, IfOk, OnOk, IsOkUnless};
 ghost use Rattle.std.specs.List.{list_any};
-ghost use Rattle.std.specs.Cow.{cow_slice_items};
 ghost use Rattle.org_base.specs.Codes.{memory_fault};
+ghost use Rattle.org_base.specs.Results.{Gives};
 ghost use Rattle.org_base.specs.Words.{same_word};
-ghost use Rattle.org_lines.specs.Cuts.{lines};
-ghost use Rattle.org_class.specs.Blocks.{ends_block, is_hash};
-ghost use Rattle.org_class.specs.Ends.{place_of, AreLastEnds};
+ghost use Rattle.org_lines.specs.Cuts.{lines_in};
+ghost use Rattle.org_class.specs.Blocks.{is_hash};
+ghost use Rattle.org_class.specs.Ends.{place_of, AreLastEnds, IsRenumbered, is_ended_by};
 ghost use Rattle.org_base.specs.Spans.{bytes_in};
 
 use crate::blocks::begins_with;
@@ -47,7 +47,7 @@ impl EndPlaces {
 
     // Gives the name this number.
     fn note(&mut self, alloc: Global, name: &[u8], place: usize) -> Result<(), AllocError>
-        ensures ok { OnOk result ((q : List ℕ) → place_of self.new q ≡ if same_word name.now q then place else place_of self.old q) }
+        ensures ok { OnOk result (IsRenumbered self.old self.new (same_word name.now) place) }
     {
         let folded = name.to_ascii_lowercase(alloc)?;
         self.by_name.insert(folded, place)?;
@@ -56,7 +56,7 @@ impl EndPlaces {
 
     // Gives the name of the block that the line ends this number, if it ends one.
     fn note_end(&mut self, alloc: Global, line: Line<'_>, place: usize) -> Result<(), AllocError>
-        ensures ok { OnOk result ((q : List ℕ) → place_of self.new q ≡ if ends_block q (cow_slice_items line.entry.bytes) then place else place_of self.old q) }
+        ensures ok { OnOk result (IsRenumbered self.old self.new (is_ended_by line.entry) place) }
     {
         let text = trimmed(line.bytes.as_slice());
         if begins_with(text, b"#+END_") && text.len() >= 6 {
@@ -68,7 +68,7 @@ impl EndPlaces {
     // The number of the last end line of each name, in a part of the text.
     pub(crate) fn of_lines<T: Text>(alloc: Global, text: &T, part: Span) -> Result<EndPlaces, Fault>
         requires within { part.at + part.len ≤ length (T.content text.now) }
-        ensures value { IfOk result (λ places. AreLastEnds places (lines (bytes_in (T.content text.now) part))) }
+        ensures value { IfOk result (λ places. AreLastEnds places (lines_in (T.content text.now) part)) }
         ensures memory { IsOkUnless result memory_fault }
     {
         if !has_hash(text, part) {
@@ -80,7 +80,7 @@ impl EndPlaces {
     // The same, line by line.
     fn noted<T: Text>(alloc: Global, text: &T, part: Span) -> Result<EndPlaces, Fault>
         requires within { part.at + part.len ≤ length (T.content text.now) }
-        ensures value { IfOk result (λ places. AreLastEnds places (lines (bytes_in (T.content text.now) part))) }
+        ensures value { IfOk result (λ places. AreLastEnds places (lines_in (T.content text.now) part)) }
         ensures memory { IsOkUnless result memory_fault }
     {
         let mut places = EndPlaces::new(alloc);
@@ -94,7 +94,7 @@ impl EndPlaces {
 
     // The name's number.
     pub(crate) fn place(&self, alloc: Global, name: &[u8]) -> Result<usize, AllocError>
-        ensures value { IfOk result (λ n. n ≡ place_of self.now name.now) }
+        ensures value { Gives result (place_of self.now name.now) }
     {
         let folded = name.to_ascii_lowercase(alloc)?;
         Ok(self.by_name.get(folded.as_slice()).copied().unwrap_or(0))

@@ -1,13 +1,12 @@
 //! The settings of a whole text.
-ghost use Rattle.std.specs.Prelude.{◌≡◌, ◌++◌, ◌+◌, ◌≤◌, ℕ, length, IfOk, OnOk, OnErr, IsOkUnless};
-ghost use Rattle.std.specs.Cow.{cow_slice_items};
+ghost use Rattle.std.specs.Prelude.{◌≡◌, ◌++◌, ◌+◌, ◌≤◌, length, OnOk, OnErr, IsOkUnless};
 ghost use Rattle.org_base.specs.Codes.{memory_fault};
+ghost use Rattle.org_base.specs.Results.{Gives};
 ghost use Rattle.org_lines.specs.Cuts.{lines};
-ghost use Rattle.org_class.specs.Classes.{StandStill, lines_of_setting, setting_of, setting_lines};
-ghost use Rattle.org_base.specs.Spans.{bytes_in};
+ghost use Rattle.org_class.specs.Classes.{StandStill, setting_lines, GainsSettings, setting_line};
 ghost use Rattle.org_class.specs.Sections.{sections};
 ghost use Rattle.org_settings.specs.Settings.{settings_of};
-ghost use Rattle.org_class.specs.Ticks.{classified};
+ghost use Rattle.org_class.specs.Ticks.{AllClassified, SomeClassified};
 
 use crate::class::{Class, Classes};
 use crate::section::classify;
@@ -20,7 +19,7 @@ use std::alloc::Global;
 
 // Puts the line at the end, if it is of the class Setting.
 fn push_setting(texts: &mut Texts, class: Option<Class>, line: Line<'_>) -> Result<(), Fault>
-    ensures ok { OnOk result (texts.new ≡ texts.old ++ setting_of class (cow_slice_items line.entry.bytes)) }
+    ensures ok { OnOk result (texts.new ≡ texts.old ++ setting_line class line.entry) }
     ensures err { OnErr result (texts.new ≡ texts.old) }
     ensures memory { IsOkUnless result memory_fault }
 {
@@ -40,7 +39,7 @@ pub fn push_setting_lines<T: Text>(
     classes: &Classes,
 ) -> Result<(), Fault>
     requires within { section.at + section.len ≤ length (T.content text.now) }
-    ensures ok { OnOk result (texts.new ≡ texts.old ++ lines_of_setting (lines (bytes_in (T.content text.now) section)) classes.now) }
+    ensures ok { GainsSettings result texts.old texts.new (T.content text.now) section classes.now }
     ensures err { OnErr result (StandStill texts.old texts.new) }
     ensures memory { IsOkUnless result memory_fault }
 {
@@ -58,7 +57,7 @@ fn push_lines<T: Text>(
     classes: &Classes,
 ) -> Result<(), Fault>
     requires within { section.at + section.len ≤ length (T.content text.now) }
-    ensures ok { OnOk result (texts.new ≡ texts.old ++ lines_of_setting (lines (bytes_in (T.content text.now) section)) classes.now) }
+    ensures ok { GainsSettings result texts.old texts.new (T.content text.now) section classes.now }
     ensures err { OnErr result (StandStill texts.old texts.new) }
     ensures memory { IsOkUnless result memory_fault }
 {
@@ -74,9 +73,9 @@ fn push_lines<T: Text>(
 /// only refusal. The meter counts one classified section for each section of the text, where memory is refused for
 /// some of them alone.
 pub fn read_settings<T: Text>(alloc: Global, meter: &mut Meter, text: &T) -> Result<Settings, Fault>
-    ensures value { IfOk result (λ settings. settings ≡ settings_of (setting_lines (T.content text.now))) }
-    ensures counts { OnOk result (meter.new ≡ classified (length (sections (T.content text.now))) meter.old) }
-    ensures few { OnErr result ((n : ℕ) × (n ≤ length (sections (T.content text.now))) × (meter.new ≡ classified n meter.old)) }
+    ensures value { Gives result (settings_of (setting_lines (T.content text.now))) }
+    ensures counts { OnOk result (AllClassified (T.content text.now) meter.old meter.new) }
+    ensures few { OnErr result (SomeClassified (T.content text.now) meter.old meter.new) }
     ensures memory { IsOkUnless result memory_fault }
 {
     let spans = sections(alloc, text)?;

@@ -1,11 +1,11 @@
 //! The classes of a section's lines.
-ghost use Rattle.std.specs.Prelude.{◌≡◌, ◌+◌, ◌≤◌, ◌∷◌, [], true, length, IfOk, IsOkUnless};
+ghost use Rattle.std.specs.Prelude.{◌≡◌, ◌+◌, ◌≤◌, ◌∷◌, [], true, length, IsOkUnless};
 ghost use Rattle.org_base.specs.Codes.{memory_fault};
 ghost use Rattle.org_base.specs.Counts.{ticked};
+ghost use Rattle.org_base.specs.Results.{Gives};
 ghost use Rattle.org_base.specs.declared.meter.Tick.TheVariants.{Classify};
-ghost use Rattle.org_class.specs.Classes.{section_classes};
+ghost use Rattle.org_class.specs.Classes.{classes_in};
 ghost use Rattle.org_class.specs.declared.class.Class.TheVariants.{Heading};
-ghost use Rattle.org_base.specs.Spans.{bytes_in};
 
 use crate::ahead::Ahead;
 use crate::class::Classes;
@@ -27,7 +27,7 @@ pub fn classify<T: Text>(
     section: Span,
 ) -> Result<Classes, Fault>
     requires within { section.at + section.len ≤ length (T.content text.now) }
-    ensures value { IfOk result (λ classes. classes ≡ section_classes (bytes_in (T.content text.now) section)) }
+    ensures value { Gives result (classes_in (T.content text.now) section) }
     ensures counts { meter.new ≡ ticked Classify meter.old }
     ensures memory { IsOkUnless result memory_fault }
 {
@@ -41,7 +41,7 @@ pub fn classify<T: Text>(
 // Whether a section is lent in one piece and is its heading alone, as most are in an outline of headings.
 fn is_heading_alone<T: Text>(text: &T, section: Span) -> bool
     requires within { section.at + section.len ≤ length (T.content text.now) }
-    ensures alone { result ≡ true → section_classes (bytes_in (T.content text.now) section) ≡ Heading ∷ [] }
+    ensures alone { result ≡ true → classes_in (T.content text.now) section ≡ Heading ∷ [] }
 {
     match lent(text, section) {
         Some(bytes) => heading::is_heading_alone(bytes),
@@ -51,7 +51,7 @@ fn is_heading_alone<T: Text>(text: &T, section: Span) -> bool
 
 fn classes<T: Text>(alloc: Global, text: &T, section: Span) -> Result<Classes, Fault>
     requires within { section.at + section.len ≤ length (T.content text.now) }
-    ensures value { IfOk result (λ classes. classes ≡ section_classes (bytes_in (T.content text.now) section)) }
+    ensures value { Gives result (classes_in (T.content text.now) section) }
     ensures memory { IsOkUnless result memory_fault }
 {
     let _len = text.len();

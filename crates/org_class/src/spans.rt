@@ -1,9 +1,8 @@
 //! The sections of a text.
-ghost use Rattle.std.specs.Prelude.{◌≡◌, ◌++◌, ◌∷◌, [], ◌+◌, ◌≤◌, ◌<◌, ◌^◌, map, length, slice_get, IfOk, OnOk, IsOkUnless};
-ghost use Rattle.std.specs.List.{All};
+ghost use Rattle.std.specs.Prelude.{◌≡◌, ◌++◌, [], ◌+◌, ◌<◌, ◌^◌, length, slice_get, IfOk, OnOk, IsOkUnless};
 ghost use Rattle.org_base.specs.Codes.{memory_fault};
-ghost use Rattle.org_base.specs.Spans.{bytes_in};
-ghost use Rattle.org_class.specs.Sections.{sections, spans_from};
+ghost use Rattle.org_base.specs.Results.{Gives};
+ghost use Rattle.org_class.specs.Sections.{sections, spans_from, AreInside, AreSections};
 ghost use Rattle.org_class.specs.Open.{ended, opened, whole};
 
 use crate::heading::begins_heading;
@@ -43,7 +42,7 @@ impl SectionSpans {
     fn pass(&mut self, part: Span, line: &[u8]) -> Result<Span, AllocError>
         requires fits { part.at + part.len + length line.now < 2 ^ 32 }
         ensures ok { OnOk result (self.new ≡ self.old ++ ended part line.now) }
-        ensures next { IfOk result (λ next. next ≡ opened part line.now) }
+        ensures next { Gives result (opened part line.now) }
     {
         let len = line.len() as u32;
         if part.len == 0 || !begins_heading(line) {
@@ -95,16 +94,16 @@ impl SectionSpans {
 /// order (Org Syntax, "Headings and Sections"). A text without lines has none. Want of memory is the only refusal.
 #[tactic(auto, using(crate::proofs::SpanLemmas::section_bytes, crate::proofs::SpanLemmas::section_inside))]
 pub fn sections<T: Text>(alloc: Global, text: &T) -> Result<SectionSpans, Fault>
-    ensures value { IfOk result (λ spans. spans ≡ spans_from 0 (sections (T.content text.now))) }
-    ensures bytes { IfOk result (λ spans. map (bytes_in (T.content text.now)) spans ≡ sections (T.content text.now)) }
-    ensures inside { IfOk result (λ spans. All (λ s. s.at + s.len ≤ length (T.content text.now)) spans) }
+    ensures value { Gives result (spans_from 0 (sections (T.content text.now))) }
+    ensures bytes { IfOk result (AreSections (T.content text.now)) }
+    ensures inside { IfOk result (AreInside (T.content text.now)) }
     ensures memory { IsOkUnless result memory_fault }
 {
     section_spans(alloc, text)
 }
 
 fn section_spans<T: Text>(alloc: Global, text: &T) -> Result<SectionSpans, Fault>
-    ensures value { IfOk result (λ spans. spans ≡ spans_from 0 (sections (T.content text.now))) }
+    ensures value { Gives result (spans_from 0 (sections (T.content text.now))) }
     ensures memory { IsOkUnless result memory_fault }
 {
     let whole = Span {

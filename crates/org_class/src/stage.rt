@@ -1,10 +1,10 @@
 //! How far a section was classified.
-ghost use Rattle.std.specs.Prelude.{◌≡◌, ◌∷◌, ℕ, List, Some, None, IfOk, IsOkUnless};
+ghost use Rattle.std.specs.Prelude.{◌≡◌, ℕ, List, None, IfOk, IsOkUnless};
 ghost use Rattle.org_base.specs.Codes.{memory_fault};
 ghost use Rattle.org_class.specs.Blocks.{body_classes};
 ghost use Rattle.org_class.specs.Classes.{is_leading, classes, front_classes, classes_under_heading};
 ghost use Rattle.org_class.specs.Drawers.{classes_below, drawer_classes};
-ghost use Rattle.org_class.specs.Stages.{classes_at};
+ghost use Rattle.org_class.specs.Stages.{classes_at, IsPassed};
 
 use crate::ahead::Ahead;
 use crate::blocks::{block_name, ends_block};
@@ -46,7 +46,7 @@ impl Stage {
         line: &[u8],
         ahead: &Ahead<'_, T>,
     ) -> Result<Class, Fault>
-        ensures value { IfOk result (λ class. classes_at self.old (line.now ∷ ahead.now) ≡ class ∷ classes_at self.new ahead.now) }
+        ensures value { IfOk result (IsPassed (classes_at self.old) line.now ahead.now self.new) }
         ensures memory { IsOkUnless result memory_fault }
     {
         match self {
@@ -73,7 +73,7 @@ impl Stage {
         line: &[u8],
         ahead: &Ahead<'_, T>,
     ) -> Result<Class, Fault>
-        ensures value { IfOk result (λ class. classes (line.now ∷ ahead.now) ≡ class ∷ classes_at self.new ahead.now) }
+        ensures value { IfOk result (IsPassed classes line.now ahead.now self.new) }
         ensures memory { IsOkUnless result memory_fault }
     {
         if begins_heading(line) {
@@ -90,7 +90,7 @@ impl Stage {
         line: &[u8],
         ahead: &Ahead<'_, T>,
     ) -> Result<Class, Fault>
-        ensures value { IfOk result (λ class. front_classes (line.now ∷ ahead.now) ≡ class ∷ classes_at self.new ahead.now) }
+        ensures value { IfOk result (IsPassed front_classes line.now ahead.now self.new) }
         ensures memory { IsOkUnless result memory_fault }
     {
         if is_leading(line) {
@@ -107,7 +107,7 @@ impl Stage {
         line: &[u8],
         ahead: &Ahead<'_, T>,
     ) -> Result<Class, Fault>
-        ensures value { IfOk result (λ class. classes_under_heading (line.now ∷ ahead.now) ≡ class ∷ classes_at self.new ahead.now) }
+        ensures value { IfOk result (IsPassed classes_under_heading line.now ahead.now self.new) }
         ensures memory { IsOkUnless result memory_fault }
     {
         if is_planning(line) {
@@ -124,7 +124,7 @@ impl Stage {
         line: &[u8],
         ahead: &Ahead<'_, T>,
     ) -> Result<Class, Fault>
-        ensures value { IfOk result (λ class. classes_below (line.now ∷ ahead.now) ≡ class ∷ classes_at self.new ahead.now) }
+        ensures value { IfOk result (IsPassed classes_below line.now ahead.now self.new) }
         ensures memory { IsOkUnless result memory_fault }
     {
         if is_drawer_open(line) && ahead.closes_drawer(alloc)? {
@@ -136,7 +136,7 @@ impl Stage {
     }
 
     fn drawer(&mut self, line: &[u8]) -> Class
-        ensures value { (ls : List (List ℕ)) → drawer_classes (line.now ∷ ls) ≡ result ∷ classes_at self.new ls }
+        ensures value { (ls : List (List ℕ)) → IsPassed drawer_classes line.now ls self.new result }
     {
         if is_drawer_end(line) {
             *self = Stage::Body;
@@ -153,7 +153,7 @@ impl Stage {
         line: &[u8],
         ahead: &Ahead<'_, T>,
     ) -> Result<Class, AllocError>
-        ensures value { IfOk result (λ class. body_classes None (line.now ∷ ahead.now) ≡ class ∷ classes_at self.new ahead.now) }
+        ensures value { IfOk result (IsPassed (body_classes None) line.now ahead.now self.new) }
     {
         if ahead.opens_block(alloc, line)? {
             let name = Vec::from_slice(alloc, block_name(line))?;

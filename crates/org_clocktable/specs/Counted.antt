@@ -1,6 +1,8 @@
 -- Files with the headings that count in a clock table (Org manual 9.6, The clock table; that clocks and efforts of headings
 -- of which `match=` doesn't hold count 0, and that hidden headings count: profile).
-use Rattle.std.specs.Prelude.{◌≡◌, ◌<◌, ◌^◌, ℕ, ◌+◌, Bool, true, ◌&&◌, if◌then◌else◌, is_some, List, [], ◌∷◌, ◌++◌, Option, None, Some, length, map, replicate}
+use Rattle.std.specs.Prelude.{◌≡◌, ◌<◌, ◌^◌, ℕ, ◌+◌, Bool, true, ◌&&◌, if◌then◌else◌, is_some, List, [], ◌∷◌, ◌++◌, Option, None, Some, length, map, option_copied, replicate}
+use Rattle.std.specs.Borrow.{Bor}
+use Rattle.std.specs.List.{range_with_len}
 use Rattle.org_agenda.specs.Holding.{holds_of}
 use Rattle.org_cal.specs.declared.moment.Moment.{Moment}
 use Rattle.org_clocktable.specs.declared.marks.PlacedClock.{PlacedClock}
@@ -11,7 +13,7 @@ use Rattle.org_inherit.specs.Scope.{Scope}
 use Rattle.org_outline.specs.Levels.{level_of, levels}
 use Rattle.org_outline.specs.Tree.{all_ends}
 use Rattle.org_sum.specs.Measures.{clock_minutes, effort_minutes}
-use Rattle.org_sum.specs.Sums.{own_at, subtree_sum, subtree_sums, sum_below, whole_sum}
+use Rattle.org_sum.specs.Sums.{effort_sums, own_at, subtree_sum, sum_below, whole_sum}
 use Rattle.org_sum.specs.Texts.{AreOfText}
 
 -- a file's entries, and which of them count
@@ -43,7 +45,7 @@ pub record IsPrepared (entries : List Entry) (counted : List Bool) (ends : List 
   pub is : IsCounted entries counted
   pub ends_are : ends ≡ all_ends (levels entries)
   pub clocks : placed ≡ clocks_from 0 entries counted
-  pub efforts : sums ≡ subtree_sums effort_minutes entries counted
+  pub efforts : sums ≡ effort_sums entries counted
   pub effort : sum ≡ whole_sum effort_minutes entries counted
   pub below : sum < 2 ^ 55
 
@@ -60,6 +62,10 @@ abbrev pub counted_of : Option Expr → Moment → Scope → Counted
 counted_of None moment scope = whole_of scope
 counted_of (Some expr) moment scope = matching_of expr moment scope
 
+-- files with the headings that count
+abbrev pub counted_files : Option (Bor Expr) → Moment → List Scope → List Counted
+counted_files expression moment scopes = map (counted_of (option_copied expression) moment) scopes
+
 -- what a whole file has of what is measured
 abbrev pub file_sum : (Entry → ℕ) → Counted → ℕ
 file_sum f file = whole_sum f file.entries file.counted
@@ -67,6 +73,10 @@ file_sum f file = whole_sum f file.entries file.counted
 -- what a heading has with what is below it
 abbrev pub heading_sum : (Entry → ℕ) → Counted → ℕ → ℕ
 heading_sum f file i = subtree_sum f file.entries file.counted i
+
+-- that of each heading
+abbrev pub heading_sums : (Entry → ℕ) → Counted → List ℕ
+heading_sums f file = map (heading_sum f file) (range_with_len 0 (length file.entries))
 
 -- what the clocks of headings before a place have in some days
 abbrev pub clocks_before : ℕ × ℕ → Counted → ℕ → ℕ

@@ -81,6 +81,10 @@ with_read asked expression = record {
   expression = expression;
 }
 
+-- the table is what is asked for, with its expression read
+abbrev pub IsReadFrom : TableRequest (List ℕ) → TableRequest Expr → Type 0
+IsReadFrom asked table = IsRead asked.expression table.expression × (table ≡ with_read asked table.expression)
+
 -- the text asks for this on the day
 pub record AsksFor (text : List ℕ) (today : ℕ) (table : TableRequest Expr) : Type 0 where
   pub asked : TableRequest (List ℕ)

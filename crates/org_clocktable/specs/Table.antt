@@ -14,6 +14,10 @@ level_rows most file i clock effort None = []
 level_rows most file i clock effort (Some level) =
     if nat_le level most && nat_lt 0 clock then record { of = Heading file i level; clock = clock; effort = effort } ∷ [] else []
 
+-- the same by the entry
+abbrev pub entry_rows : ℕ → ℕ → ℕ → ℕ → ℕ → Entry → List TableRow
+entry_rows most file i clock effort e = level_rows most file i clock effort (level_of e)
+
 -- that of the entry at a place of a file
 abbrev pub rows_at : ℕ × ℕ → ℕ → ℕ → Counted → ℕ → List TableRow
 rows_at days most file counted i = level_rows most file i (heading_sum (clock_minutes days) counted i) (heading_sum effort_minutes counted i) (level_at (levels counted.entries) i)
@@ -22,13 +26,17 @@ rows_at days most file counted i = level_rows most file i (heading_sum (clock_mi
 abbrev pub rows_from : ℕ × ℕ → ℕ → ℕ → Counted → ℕ → List Entry → List TableRow
 rows_from days most file counted i [] = []
 rows_from days most file counted i (e ∷ es) =
-    level_rows most file i (heading_sum (clock_minutes days) counted i) (heading_sum effort_minutes counted i) (level_of e) ++ rows_from days most file counted (i + 1) es
+    entry_rows most file i (heading_sum (clock_minutes days) counted i) (heading_sum effort_minutes counted i) e ++ rows_from days most file counted (i + 1) es
+
+-- those of all entries of a file
+abbrev pub heading_rows : ℕ × ℕ → ℕ → ℕ → Counted → List TableRow
+heading_rows days most file counted = rows_from days most file counted 0 counted.entries
 
 -- the lines of a file, if it has clocks in the days
 abbrev pub file_rows : ℕ × ℕ → ℕ → ℕ → Counted → List TableRow
 file_rows days most file counted =
     if nat_lt 0 (file_sum (clock_minutes days) counted)
-    then record { of = File file; clock = file_sum (clock_minutes days) counted; effort = file_sum effort_minutes counted } ∷ rows_from days most file counted 0 counted.entries else []
+    then record { of = File file; clock = file_sum (clock_minutes days) counted; effort = file_sum effort_minutes counted } ∷ heading_rows days most file counted else []
 
 -- those of files, the first of which stands at a place
 abbrev pub files_rows : ℕ × ℕ → ℕ → ℕ → List Counted → List TableRow

@@ -1,11 +1,11 @@
 //! Files with the headings that count.
-ghost use Rattle.std.specs.Prelude.{◌≡◌, ◌<◌, ◌^◌, ◌++◌, length, map, IfOk, IsOkUnless, OnOk};
-ghost use Rattle.std.specs.List.{All, range_with_len};
-ghost use Rattle.std.specs.Option.{option_map};
+ghost use Rattle.std.specs.Prelude.{◌≡◌, ◌<◌, ◌^◌, length, map, IfOk, IsOkUnless};
+ghost use Rattle.std.specs.List.{All};
 ghost use Rattle.org_base.specs.Codes.{memory_fault};
+ghost use Rattle.org_base.specs.Results.{Adds, Gives, GivesItems};
 ghost use Rattle.org_cal.specs.Periods.{days_of};
 ghost use Rattle.org_clocktable.specs.Clocked.{AreOf};
-ghost use Rattle.org_clocktable.specs.Counted.{clocks_at, clocks_from, counted_of, file_sum, heading_sum, matching_of, whole_of, placed, IsCounted};
+ghost use Rattle.org_clocktable.specs.Counted.{clocks_at, clocks_from, counted_files, file_sum, heading_sums, matching_of, whole_of, placed, IsCounted};
 ghost use Rattle.org_clocktable.specs.Marks.{before};
 ghost use Rattle.org_inherit.specs.Scope.{Scope};
 ghost use Rattle.org_outline.specs.Levels.{levels};
@@ -56,7 +56,7 @@ impl<'a> CountedFile<'a> {
         counted: Vec<bool>,
     ) -> Result<CountedFile<'a>, Fault>
         requires counted { IsCounted outline.now counted.items }
-        ensures value { IfOk result (λ file. file ≡ record { entries = outline.now; counted = counted.items }) }
+        ensures value { Gives result (record { entries = outline.now; counted = counted.items }) }
         ensures memory { IsOkUnless result memory_fault }
     {
         let ends = outline.ends(alloc)?;
@@ -108,7 +108,7 @@ impl<'a> CountedFile<'a> {
 
     // The effort sum of each heading.
     pub(crate) fn efforts(&self) -> &[u64]
-        ensures value { result.now ≡ map (heading_sum effort_minutes self.now) (range_with_len 0 (length self.now.entries)) }
+        ensures value { result.now ≡ heading_sums effort_minutes self.now }
     {
         self.efforts.as_slice()
     }
@@ -121,7 +121,7 @@ fn clocks_of(
     counted: &[bool],
 ) -> Result<Vec<PlacedClock>, AllocError>
     requires count { length counted.now ≡ length outline.now }
-    ensures { IfOk result (λ clocks. clocks.items ≡ clocks_from 0 outline.now counted.now) }
+    ensures { GivesItems result (clocks_from 0 outline.now counted.now) }
 {
     let mut clocks = Vec::new(alloc);
     for place in 0..outline.count() {
@@ -136,7 +136,7 @@ fn push_clocks(
     counts: bool,
     entry: &Entry,
 ) -> Result<(), AllocError>
-    ensures { OnOk result (clocks.new.items ≡ clocks.old.items ++ clocks_at place counts entry.now) }
+    ensures { Adds result clocks.old clocks.new (clocks_at place counts entry.now) }
 {
     if !counts || entry.head.is_none() {
         return Ok(());
@@ -149,7 +149,7 @@ fn push_all(
     place: usize,
     own: &[ClockLine],
 ) -> Result<(), AllocError>
-    ensures { OnOk result (clocks.new.items ≡ clocks.old.items ++ placed place own.now) }
+    ensures { Adds result clocks.old clocks.new (placed place own.now) }
 {
     for clock in own {
         clocks.push(PlacedClock {
@@ -169,7 +169,7 @@ pub fn counted_files<'a>(
     moment: &Moment,
 ) -> Result<Vec<CountedFile<'a>>, Fault>
     requires texts { All (λ (scope : Scope). AreOfText scope.entries) inherits.now }
-    ensures value { IfOk result (λ files. files.items ≡ map (counted_of (option_map (λ m. m.now) expression.entry) moment.now) inherits.now) }
+    ensures value { GivesItems result (counted_files expression.entry moment.now inherits.now) }
     ensures memory { IsOkUnless result memory_fault }
 {
     match expression {
@@ -181,7 +181,7 @@ pub fn counted_files<'a>(
 // Each file with all its headings.
 fn all_counted<'a>(alloc: Global, inherits: &'a Inherits<'_>) -> Result<Vec<CountedFile<'a>>, Fault>
     requires texts { All (λ (scope : Scope). AreOfText scope.entries) inherits.now }
-    ensures value { IfOk result (λ files. files.items ≡ map whole_of inherits.now) }
+    ensures value { GivesItems result (map whole_of inherits.now) }
     ensures memory { IsOkUnless result memory_fault }
 {
     let mut files = Vec::new(alloc);
@@ -194,7 +194,7 @@ fn all_counted<'a>(alloc: Global, inherits: &'a Inherits<'_>) -> Result<Vec<Coun
 
 fn whole_file<'a>(alloc: Global, inherit: &'a Inherit<'_>) -> Result<CountedFile<'a>, Fault>
     requires text { AreOfText inherit.now.entries }
-    ensures value { IfOk result (λ file. file ≡ whole_of inherit.now) }
+    ensures value { Gives result (whole_of inherit.now) }
     ensures memory { IsOkUnless result memory_fault }
 {
     let outline = inherit.outline();
@@ -210,7 +210,7 @@ fn matching_files<'a>(
     moment: &Moment,
 ) -> Result<Vec<CountedFile<'a>>, Fault>
     requires texts { All (λ (scope : Scope). AreOfText scope.entries) inherits.now }
-    ensures value { IfOk result (λ files. files.items ≡ map (matching_of expression.now moment.now) inherits.now) }
+    ensures value { GivesItems result (map (matching_of expression.now moment.now) inherits.now) }
     ensures memory { IsOkUnless result memory_fault }
 {
     let mut matcher = Matcher::new(alloc, expression)?;
@@ -224,7 +224,7 @@ fn tested_files<'a>(
     moment: &Moment,
 ) -> Result<Vec<CountedFile<'a>>, Fault>
     requires texts { All (λ (scope : Scope). AreOfText scope.entries) inherits.now }
-    ensures value { IfOk result (λ files. files.items ≡ map (matching_of matcher.old moment.now) inherits.now) }
+    ensures value { GivesItems result (map (matching_of matcher.old moment.now) inherits.now) }
     ensures memory { IsOkUnless result memory_fault }
 {
     let mut files = Vec::new(alloc);
@@ -242,8 +242,8 @@ fn matching_file<'a>(
     moment: &Moment,
 ) -> Result<CountedFile<'a>, Fault>
     requires text { AreOfText inherit.now.entries }
-    ensures value { IfOk result (λ file. file ≡ matching_of matcher.old moment.now inherit.now) }
-    ensures same { matcher.new ≡ matcher.old }
+    ensures value { Gives result (matching_of matcher.old moment.now inherit.now) }
+    ensures unchanged { matcher.new ≡ matcher.old }
     ensures memory { IsOkUnless result memory_fault }
 {
     let counted = holds_of(alloc, matcher, moment, inherit)?;

@@ -1,5 +1,5 @@
 //! What the text of options asks for.
-ghost use Rattle.std.specs.Prelude.{◌≡◌, ◌<◌, ◌^◌, drop, length};
+ghost use Rattle.std.specs.Prelude.{◌≡◌, ◌<◌, ◌^◌, drop, length, option_copied};
 ghost use Rattle.std.specs.Option.{option_map};
 ghost use Rattle.org_cal.specs.Blocks.{block_of};
 ghost use Rattle.org_cal.specs.Periods.{days_of};
@@ -21,13 +21,12 @@ pub(crate) struct TableRequest<'a> {
 }
 
 impl<'a> Model for TableRequest<'a> {
-    ghost use Rattle.std.specs.Prelude.{ℕ, List};
-    ghost use Rattle.std.specs.Option.{option_map};
+    ghost use Rattle.std.specs.Prelude.{ℕ, List, option_copied};
     ghost use Rattle.org_clocktable.specs.Request.{TableRequest as RequestView};
 
     ghost Value = { RequestView (List ℕ) };
 
-    ghost view = { λ a. record { days = (a.period.first, a.period.last); most = a.most; file = option_map (λ file. file.now) a.file; step = a.step; with_effort = a.with_effort; expression = option_map (λ text. text.now) a.expression } };
+    ghost view = { λ a. record { days = (a.period.first, a.period.last); most = a.most; file = option_copied a.file; step = a.step; with_effort = a.with_effort; expression = option_copied a.expression } };
 }
 
 impl<'a> TableRequest<'a> {
@@ -89,7 +88,7 @@ fn period_at(text: &[u8], at: usize, today: Day) -> Option<Period>
 
 // The name of a file that stands at a place, if there is one.
 fn file_at(text: &[u8], at: Option<usize>) -> Option<&[u8]>
-    ensures value { option_map (λ file. file.now) result ≡ option_map (word_at text.now) at }
+    ensures value { option_copied result ≡ option_map (word_at text.now) at }
 {
     let at = at?;
     Some(word_at(text, at))
@@ -97,7 +96,7 @@ fn file_at(text: &[u8], at: Option<usize>) -> Option<&[u8]>
 
 // The expression from a place on, if there is one; None where it is no text.
 fn expression_at(text: &[u8], at: Option<usize>) -> Option<Option<&str>>
-    ensures value { option_map (λ e. option_map (λ text. text.now) e) result ≡ expression_from text.now at }
+    ensures value { option_map (λ e. option_copied e) result ≡ expression_from text.now at }
 {
     match at {
         Some(at) => {
@@ -109,7 +108,7 @@ fn expression_at(text: &[u8], at: Option<usize>) -> Option<Option<&str>>
 }
 
 fn as_text(bytes: &[u8]) -> Option<&str>
-    ensures value { option_map (λ text. text.now) result ≡ as_text bytes.now }
+    ensures value { option_copied result ≡ as_text bytes.now }
 {
     match str::from_utf8(bytes) {
         Ok(text) => Some(text),

@@ -1,12 +1,12 @@
 //! The rows of a clock table.
-ghost use Rattle.std.specs.Prelude.{◌≡◌, ◌<◌, ◌≤◌, ◌^◌, ◌++◌, length, reverse, IfOk, OnOk, IsOkUnless};
+ghost use Rattle.std.specs.Prelude.{◌≡◌, ◌<◌, ◌≤◌, ◌^◌, length, reverse, IfOk, IsOkUnless};
 ghost use Rattle.org_base.specs.Codes.{memory_fault};
+ghost use Rattle.org_base.specs.Results.{Adds, Gives, GivesItems};
 ghost use Rattle.org_cal.specs.Periods.{days_of};
 ghost use Rattle.org_clocktable.specs.Clocked.{AreOf, IsHeadingOrEnd, IsLastClocked};
 ghost use Rattle.org_clocktable.specs.Counted.{file_sum, total};
 ghost use Rattle.org_clocktable.specs.Marks.{IsLater};
-ghost use Rattle.org_clocktable.specs.Table.{file_rows, files_rows, level_rows, rows_at, rows_from, step_rows};
-ghost use Rattle.org_outline.specs.Levels.{level_of};
+ghost use Rattle.org_clocktable.specs.Table.{entry_rows, file_rows, files_rows, heading_rows, rows_at, step_rows};
 ghost use Rattle.org_sum.specs.Measures.{clock_minutes, effort_minutes};
 
 use crate::counted::CountedFile;
@@ -27,7 +27,7 @@ pub fn step_rows(
     files: &[CountedFile<'_>],
 ) -> Result<Vec<TableRow>, Fault>
     requires few { length files.now ≤ 256 }
-    ensures value { IfOk result (λ rows. rows.items ≡ step_rows (days_of period.now) most files.now) }
+    ensures value { GivesItems result (step_rows (days_of period.now) most files.now) }
     ensures memory { IsOkUnless result memory_fault }
 {
     let rows = rows_of(alloc, period, most, files)?;
@@ -43,7 +43,7 @@ fn rows_of(
     files: &[CountedFile<'_>],
 ) -> Result<Vec<TableRow>, AllocError>
     requires few { length files.now ≤ 256 }
-    ensures { IfOk result (λ rows. rows.items ≡ step_rows (days_of period.now) most files.now) }
+    ensures { GivesItems result (step_rows (days_of period.now) most files.now) }
 {
     let effort = total_effort(files);
     let mut rows = Vec::new(alloc);
@@ -81,8 +81,8 @@ fn push_files(
     files: &[CountedFile<'_>],
 ) -> Result<u64, AllocError>
     requires few { length files.now ≤ 256 }
-    ensures sum { IfOk result (λ sum. sum ≡ total (clock_minutes (days_of period.now)) files.now) }
-    ensures rows { OnOk result (rows.new.items ≡ rows.old.items ++ files_rows (days_of period.now) most 0 files.now) }
+    ensures sum { Gives result (total (clock_minutes (days_of period.now)) files.now) }
+    ensures rows { Adds result rows.old rows.new (files_rows (days_of period.now) most 0 files.now) }
 {
     let mut sum = 0;
     for (place, file) in files.iter().enumerate() {
@@ -101,9 +101,9 @@ fn push_file(
     place: usize,
     file: &CountedFile<'_>,
 ) -> Result<u64, AllocError>
-    ensures sum { IfOk result (λ sum. sum ≡ file_sum (clock_minutes (days_of period.now)) file.now) }
+    ensures sum { Gives result (file_sum (clock_minutes (days_of period.now)) file.now) }
     ensures below { IfOk result (λ sum. sum < 2 ^ 55) }
-    ensures rows { OnOk result (rows.new.items ≡ rows.old.items ++ file_rows (days_of period.now) most place file.now) }
+    ensures rows { Adds result rows.old rows.new (file_rows (days_of period.now) most place file.now) }
 {
     let marks = file.marks(alloc, period)?;
     let clock = marks.before(file.outline().count());
@@ -128,7 +128,7 @@ fn push_headings(
     marks: &Marks,
 ) -> Result<(), AllocError>
     requires { AreOf marks.now file.now }
-    ensures { OnOk result (rows.new.items ≡ rows.old.items ++ rows_from marks.now.days most at file.now 0 file.now.entries) }
+    ensures { Adds result rows.old rows.new (heading_rows marks.now.days most at file.now) }
 {
     let mut found = headings_up(alloc, most, at, file, marks)?;
     found.reverse();
@@ -145,7 +145,7 @@ fn headings_up(
     marks: &Marks,
 ) -> Result<Vec<TableRow>, AllocError>
     requires { AreOf marks.now file.now }
-    ensures { IfOk result (λ rows. reverse rows.items ≡ rows_from marks.now.days most at file.now 0 file.now.entries) }
+    ensures { IfOk result (λ rows. reverse rows.items ≡ heading_rows marks.now.days most at file.now) }
 {
     let mut rows = Vec::new(alloc);
     let mut below = file.outline().count();
@@ -192,7 +192,7 @@ fn push_heading(
 ) -> Result<(), AllocError>
     requires marks { AreOf marks.now file.now }
     requires within { place < length file.now.entries }
-    ensures { OnOk result (rows.new.items ≡ rows.old.items ++ rows_at marks.now.days most at file.now place) }
+    ensures { Adds result rows.old rows.new (rows_at marks.now.days most at file.now place) }
 {
     let outline = file.outline();
     let end = file.ends()[place];
@@ -217,7 +217,7 @@ fn push_row(
     clock: u64,
     effort: u64,
 ) -> Result<(), AllocError>
-    ensures { OnOk result (rows.new.items ≡ rows.old.items ++ level_rows most file place clock effort (level_of entry.now)) }
+    ensures { Adds result rows.old rows.new (entry_rows most file place clock effort entry.now) }
 {
     let Some(head) = &entry.head else {
         return Ok(());

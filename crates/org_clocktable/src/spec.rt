@@ -1,8 +1,7 @@
 //! What a clock table is asked for.
-ghost use Rattle.std.specs.Prelude.{◌≡◌, ◌<◌, ◌^◌, length, IfErr, IfOk};
-ghost use Rattle.std.specs.Option.{option_map};
+ghost use Rattle.std.specs.Prelude.{◌≡◌, ◌<◌, ◌^◌, length, option_copied, IfErr, IfOk};
 ghost use Rattle.org_cal.specs.Periods.{days_of};
-ghost use Rattle.org_clocktable.specs.Request.{with_read, AsksFor, IfShort, IsRead, IsTableRefusal, IsUnread};
+ghost use Rattle.org_clocktable.specs.Request.{AsksFor, IfShort, IsRead, IsReadFrom, IsTableRefusal, IsUnread};
 
 use crate::request::TableRequest;
 use org_base::{Code, Fault};
@@ -24,13 +23,13 @@ pub struct TableSpec<'a> {
 }
 
 impl<'a> Model for TableSpec<'a> {
-    ghost use Rattle.std.specs.Option.{option_map};
+    ghost use Rattle.std.specs.Prelude.{option_copied};
     ghost use Rattle.org_clocktable.specs.Request.{TableRequest as RequestView};
     ghost use Rattle.org_expression.specs.Grammar.{Expr};
 
     ghost Value = { RequestView Expr };
 
-    ghost view = { λ t. record { days = (t.period.first, t.period.last); most = t.most; file = option_map (λ file. file.now) t.file; step = t.step; with_effort = t.with_effort; expression = t.expression } };
+    ghost view = { λ t. record { days = (t.period.first, t.period.last); most = t.most; file = option_copied t.file; step = t.step; with_effort = t.with_effort; expression = t.expression } };
 }
 
 impl<'a> TableSpec<'a> {
@@ -52,7 +51,7 @@ impl<'a> TableSpec<'a> {
     // What is asked for, with its expression read.
     fn of(alloc: Global, asked: TableRequest<'a>) -> Result<TableSpec<'a>, Fault>
         requires short { IfShort asked.expression }
-        ensures value { IfOk result (λ spec. IsRead asked.entry.expression spec.expression × (spec ≡ with_read asked.entry spec.expression)) }
+        ensures value { IfOk result (IsReadFrom asked.entry) }
         ensures refused { IfErr result (IsUnread asked.entry.expression) }
     {
         let expression = read_expression(alloc, asked.expression)?;
@@ -82,7 +81,7 @@ impl<'a> TableSpec<'a> {
 
     /// The name of the file, if the table is over one file alone.
     pub fn file(&self) -> Option<&[u8]>
-        ensures value { option_map (λ file. file.now) result ≡ self.now.file }
+        ensures value { option_copied result ≡ self.now.file }
     {
         self.file
     }
@@ -103,7 +102,7 @@ impl<'a> TableSpec<'a> {
 
     /// The expression that headings must meet to count, if there is one.
     pub fn expression(&self) -> Option<&Match>
-        ensures value { option_map (λ expression. expression.now) result ≡ self.now.expression }
+        ensures value { option_copied result ≡ self.now.expression }
     {
         self.expression.as_ref()
     }
@@ -111,9 +110,9 @@ impl<'a> TableSpec<'a> {
 
 // An expression, read if there is one.
 fn read_expression(alloc: Global, text: Option<&str>) -> Result<Option<Match>, Fault>
-    requires short { IfShort (option_map (λ text. text.now) text) }
-    ensures value { IfOk result (IsRead (option_map (λ text. text.now) text.entry)) }
-    ensures refused { IfErr result (IsUnread (option_map (λ text. text.now) text.entry)) }
+    requires short { IfShort (option_copied text) }
+    ensures value { IfOk result (IsRead (option_copied text.entry)) }
+    ensures refused { IfErr result (IsUnread (option_copied text.entry)) }
 {
     match text {
         Some(text) => Ok(Some(Match::read(alloc, text)?)),

@@ -3,8 +3,10 @@
 -- Characters by their codes: 43 +, 58 :.
 use Rattle.std.specs.Prelude.{ℕ, ◌-◌, Bool, true, false, ◌&&◌, not, ◌==◌, nat_lt, nat_le, if◌then◌else◌, List, [], ◌∷◌, ◌++◌, length, take, drop, slice_index, Option, Some, None}
 use Rattle.std.specs.List.{filter_map}
-use Rattle.org_base.specs.Properties.{Given, Property, with_all}
+use Rattle.std.specs.Option.{option_to_list}
+use Rattle.org_base.specs.Properties.{Given, Property, with_all, given_as}
 use Rattle.org_base.specs.Words.{trim_start, trimmed, first_word}
+use Rattle.org_drawer.specs.declared.node.Node.{Node}
 
 -- a plus stands before the last byte
 abbrev pub has_plus : List ℕ → Bool
@@ -32,6 +34,14 @@ given w rest = record { name = take (name_len w) (drop 1 w); appends = has_plus 
 -- what the line gives, if it is a node line
 abbrev pub given_of : List ℕ → Option Given
 given_of line = if is_node line then Some (given (first_word line) (trim_start line)) else None
+
+-- what a node line that was read gives
+abbrev pub given_by : Node → Given
+given_by node = given_as node.name.now node.appends node.value.now
+
+-- properties with what a line gives, if it is a node line
+abbrev pub with_line : List Property → List ℕ → List Property
+with_line ps line = with_all ps (option_to_list (given_of line))
 
 -- the properties that the node lines among lines give
 abbrev pub drawer_of : List (List ℕ) → List Property

@@ -1,8 +1,7 @@
 //! Property drawers.
-ghost use Rattle.std.specs.Prelude.{◌≡◌, IfOk, OnOk, IsOkUnless};
-ghost use Rattle.std.specs.Option.{option_to_list};
+ghost use Rattle.std.specs.Prelude.{◌≡◌, OnOk, IsOkUnless};
 ghost use Rattle.org_base.specs.Codes.{memory_fault};
-ghost use Rattle.org_base.specs.Properties.{with_all};
+ghost use Rattle.org_base.specs.Results.{Gives};
 ghost use Rattle.org_drawer.specs.Node as spec;
 
 use crate::node::node_of;
@@ -17,7 +16,7 @@ pub use org_base::Properties as Drawer;
 /// gives nothing. `:PROPERTIES:` and `:END:` are such words too, so a drawer's first and last line are to be left out.
 /// Want of memory is its only refusal.
 pub fn read_drawer(alloc: Global, lines: &Texts) -> Result<Drawer, Fault>
-    ensures value { IfOk result (λ drawer. drawer ≡ spec.drawer_of lines.now) }
+    ensures value { Gives result (spec.drawer_of lines.now) }
     ensures memory { IsOkUnless result memory_fault }
 {
     let mut drawer = Drawer::new(alloc);
@@ -29,7 +28,7 @@ pub fn read_drawer(alloc: Global, lines: &Texts) -> Result<Drawer, Fault>
 
 // Adds what a line gives.
 fn add_line(drawer: &mut Drawer, line: &[u8]) -> Result<(), AllocError>
-    ensures ok { OnOk result (drawer.new ≡ with_all drawer.old (option_to_list (spec.given_of line.now))) }
+    ensures ok { OnOk result (drawer.new ≡ spec.with_line drawer.old line.now) }
 {
     match node_of(line) {
         Some(node) => drawer.add(node.name, node.appends, node.value),

@@ -18,7 +18,7 @@ pub(crate) struct Node<'a> {
 
 // What the line gives; None exactly where it is no node line.
 pub(crate) fn node_of(line: &[u8]) -> Option<Node<'_>>
-    ensures value { option_map (λ n. record { name = n.name.now; appends = n.appends; value = n.value.now }) result ≡ spec.given_of line.now }
+    ensures value { option_map spec.given_by result ≡ spec.given_of line.now }
 {
     let word = first_word(line);
     if is_node_word(word) {
@@ -70,7 +70,7 @@ fn name_len(word: &[u8]) -> usize
 fn node_from<'a>(word: &'a [u8], rest: &'a [u8]) -> Node<'a>
     requires is_node { spec.is_node_word word.now ≡ true }
     requires within { length word.now ≤ length rest.now }
-    ensures value { record { name = result.name.now; appends = result.appends; value = result.value.now } ≡ spec.given word.now rest.now }
+    ensures value { spec.given_by result ≡ spec.given word.now rest.now }
 {
     let len = name_len(word);
     Node {

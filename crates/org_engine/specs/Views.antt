@@ -1,17 +1,23 @@
 -- Views of a world (Org manual 9.6, Weekly/daily agenda; The Global TODO List; Matching tags and properties; The clock
 -- table).
-use Rattle.std.specs.Prelude.{ℕ, List, Bool, true, if◌then◌else◌, [], ◌∷◌, map, Option, None, Some, filter, bytes_eq}
+use Rattle.std.specs.Prelude.{◌≡◌, ℕ, List, Bool, true, if◌then◌else◌, [], ◌∷◌, map, Option, None, Some, filter, bytes_eq}
+use Rattle.std.specs.Borrow.{Bor}
+use Rattle.std.specs.Option.{option_copied}
+use Rattle.org_agenda.specs.Days.{AgendaView}
 use Rattle.org_agenda.specs.Sources.{sources_of}
 use Rattle.org_agenda.specs.Lists.{Listing, list_rows}
 use Rattle.org_inherit.specs.Scope.{Scope}
 use Rattle.org_layout.specs.Days.{agenda_lines}
 use Rattle.std.specs.List.{concat}
+use Rattle.org_cal.specs.Periods.{days_of}
 use Rattle.org_cal.specs.Pieces.{pieces}
 use Rattle.org_cal.specs.declared.moment.Moment.{Moment}
+use Rattle.org_cal.specs.declared.period.Period.{Period}
 use Rattle.org_clocktable.specs.Request.{TableRequest}
 use Rattle.org_clocktable.specs.Counted.{Counted, counted_of}
 use Rattle.org_clocktable.specs.Table.{step_rows}
 use Rattle.org_expression.specs.Grammar.{Expr}
+use Rattle.org_file.specs.Outline.{OutlineView, scope_in}
 use Rattle.org_layout.specs.Lines.{list_lines}
 use Rattle.org_layout.specs.Tables.{step_lines}
 use Rattle.org_engine.specs.Outlines.{scopes_of}
@@ -24,6 +30,10 @@ list_view listing world = list_lines (scopes_of world) (list_rows listing (scope
 -- the text of so many days from a first one on, over all stamps
 abbrev pub days_over : List Scope → ℕ → ℕ → ℕ → List ℕ
 days_over scopes today first count = agenda_lines scopes (record { sources = sources_of 0 scopes; today = today; first = first; count = count })
+
+-- an agenda shows so many days from a first one on, over all stamps
+abbrev pub ShowsDays : List Scope → ℕ → ℕ → ℕ → AgendaView → Type 0
+ShowsDays scopes today first count agenda = agenda_lines scopes agenda ≡ days_over scopes today first count
 
 -- the text of an agenda at the world's moment
 unfoldable pub agenda_view : ℕ → ℕ → WorldView → List ℕ
@@ -38,6 +48,10 @@ is_wanted (Some wanted) name = bytes_eq wanted name
 abbrev pub wanted_scope : Option (List ℕ) → Scope → List Scope
 wanted_scope file scope = if is_wanted file scope.file then scope ∷ [] else []
 
+-- a file of a world by what it says and its name, if a table is over it
+abbrev pub wanted_in : Option (Bor (List ℕ)) → OutlineView → List ℕ → WorldView → List Scope
+wanted_in file outline name world = wanted_scope (option_copied file) (scope_in outline name world.inherited)
+
 -- the files that a table is over
 abbrev pub scopes_named : Option (List ℕ) → List Scope → List Scope
 scopes_named file scopes = filter (λ (scope : Scope). is_wanted file scope.file) scopes
@@ -45,6 +59,10 @@ scopes_named file scopes = filter (λ (scope : Scope). is_wanted file scope.file
 -- the text of a step: its line, and those of its rows
 unfoldable pub step_text : TableRequest Expr → List Scope → List Counted → ℕ × ℕ → List ℕ
 step_text table scopes files days = step_lines table.with_effort scopes days (step_rows days table.most files)
+
+-- the text of the step over a period
+abbrev pub step_over : TableRequest Expr → List Scope → List Counted → Period → List ℕ
+step_over table scopes files period = step_text table scopes files (days_of period)
 
 -- the text of steps
 abbrev pub steps_text : TableRequest Expr → List Scope → List Counted → List (ℕ × ℕ) → List ℕ

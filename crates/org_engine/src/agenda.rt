@@ -1,13 +1,13 @@
 //! Agendas over the files of a world.
-ghost use Rattle.std.specs.Prelude.{◌≡◌, ◌≢◌, ◌+◌, ◌≤◌, string_bytes, IfErr, IfOk, OnOk, OnErr, IsOkUnless};
+ghost use Rattle.std.specs.Prelude.{◌≡◌, ◌+◌, ◌≤◌, string_bytes, IfErr, IfOk, OnOk, OnErr, IsOkUnless};
 ghost use Rattle.org_base.specs.Codes.{memory_fault};
+ghost use Rattle.org_base.specs.Results.{GivesText, IfRefused};
 ghost use Rattle.org_agenda.specs.Headings.{AllHaveHeads};
-ghost use Rattle.org_layout.specs.Days.{agenda_lines};
 ghost use Rattle.org_engine.specs.Outlines.{outlines_of};
 ghost use Rattle.org_engine.specs.Questions.{IsAgendaText, asked_agenda};
 ghost use Rattle.org_engine.specs.Sections.{ReadsEach, ReadsSome};
 ghost use Rattle.org_engine.specs.Step.{DayAgenda, Unread};
-ghost use Rattle.org_engine.specs.Views.{agenda_view, days_over};
+ghost use Rattle.org_engine.specs.Views.{agenda_view, ShowsDays};
 
 use crate::outlines::{inherits_of, read_world};
 use crate::world::World;
@@ -34,7 +34,7 @@ pub(crate) fn dated_text<T: Text>(
     days: u64,
 ) -> Result<String, Fault>
     ensures value { IfOk result (λ text. IsAgendaText date.now days world.now (string_bytes text)) }
-    ensures refused { IfErr result (λ fault. fault ≢ memory_fault → asked_agenda date.now days ≡ Unread fault) }
+    ensures refused { IfRefused result (λ fault. asked_agenda date.now days ≡ Unread fault) }
     ensures counts { OnOk result (ReadsEach world.now.files meter.old meter.new) }
     ensures few { OnErr result (ReadsSome world.now.files meter.old meter.new) }
 {
@@ -69,7 +69,7 @@ fn days_text<T: Text>(
     count: u32,
 ) -> Result<String, Fault>
     requires within { (1 ≤ count) × (first + count ≤ 3_652_060) }
-    ensures value { IfOk result (λ text. string_bytes text ≡ agenda_view first count world.now) }
+    ensures value { GivesText result (agenda_view first count world.now) }
     ensures counts { OnOk result (ReadsEach world.now.files meter.old meter.new) }
     ensures few { OnErr result (ReadsSome world.now.files meter.old meter.new) }
     ensures memory { IsOkUnless result memory_fault }
@@ -87,7 +87,7 @@ fn days_of<T: Text>(
 ) -> Result<String, Fault>
     requires read { outlines.now ≡ outlines_of world.now }
     requires within { (1 ≤ count) × (first + count ≤ 3_652_060) }
-    ensures value { IfOk result (λ text. string_bytes text ≡ agenda_view first count world.now) }
+    ensures value { GivesText result (agenda_view first count world.now) }
     ensures memory { IsOkUnless result memory_fault }
 {
     let inherits = inherits_of(alloc, world, outlines)?;
@@ -107,7 +107,7 @@ fn agenda_of(
 ) -> Result<Agenda, Fault>
     requires heads { AllHaveHeads inherits.now }
     requires within { (1 ≤ count) × (first + count ≤ 3_652_060) }
-    ensures value { IfOk result (λ agenda. agenda_lines inherits.now agenda ≡ days_over inherits.now today first count) }
+    ensures value { IfOk result (ShowsDays inherits.now today first count) }
     ensures memory { IsOkUnless result memory_fault }
 {
     let sources = sources_of(alloc, inherits)?;

@@ -1,6 +1,7 @@
 //! Lists over the files of a world.
-ghost use Rattle.std.specs.Prelude.{◌≡◌, ◌≢◌, ◌<◌, ◌^◌, length, string_bytes, IfErr, IfOk, OnOk, OnErr, IsOkUnless};
+ghost use Rattle.std.specs.Prelude.{◌≡◌, ◌<◌, ◌^◌, length, string_bytes, IfOk, OnOk, OnErr, IsOkUnless};
 ghost use Rattle.org_base.specs.Codes.{memory_fault};
+ghost use Rattle.org_base.specs.Results.{GivesText, IfRefused};
 ghost use Rattle.org_agenda.specs.Lists.{todo_listing, Matching};
 ghost use Rattle.org_layout.specs.Lines.{list_lines};
 ghost use Rattle.org_engine.specs.Outlines.{outlines_of};
@@ -28,7 +29,7 @@ pub(crate) fn todo_text<T: Text>(
     world: &World<T>,
     words: &Texts,
 ) -> Result<String, Fault>
-    ensures value { IfOk result (λ text. string_bytes text ≡ list_view (todo_listing words.now) world.now) }
+    ensures value { GivesText result (list_view (todo_listing words.now) world.now) }
     ensures counts { OnOk result (ReadsEach world.now.files meter.old meter.new) }
     ensures few { OnErr result (ReadsSome world.now.files meter.old meter.new) }
     ensures memory { IsOkUnless result memory_fault }
@@ -44,7 +45,7 @@ fn todo_of<T: Text>(
     words: &Texts,
 ) -> Result<String, Fault>
     requires read { outlines.now ≡ outlines_of world.now }
-    ensures value { IfOk result (λ text. string_bytes text ≡ list_view (todo_listing words.now) world.now) }
+    ensures value { GivesText result (list_view (todo_listing words.now) world.now) }
     ensures memory { IsOkUnless result memory_fault }
 {
     let inherits = inherits_of(alloc, world, outlines)?;
@@ -63,7 +64,7 @@ pub(crate) fn match_text<T: Text>(
 ) -> Result<String, Fault>
     requires short { length text.now < 2 ^ 32 }
     ensures value { IfOk result (λ list. IsMatchText text.now world.now (string_bytes list)) }
-    ensures refused { IfErr result (λ fault. fault ≢ memory_fault → IsUnread text.now fault) }
+    ensures refused { IfRefused result (λ fault. IsUnread text.now fault) }
     ensures counts { OnOk result (ReadsEach world.now.files meter.old meter.new) }
     ensures few { OnErr result (ReadsSome world.now.files meter.old meter.new) }
 {
@@ -77,7 +78,7 @@ fn matching_text<T: Text>(
     world: &World<T>,
     expression: &Match,
 ) -> Result<String, Fault>
-    ensures value { IfOk result (λ text. string_bytes text ≡ list_view (Matching expression.now world.now.moment) world.now) }
+    ensures value { GivesText result (list_view (Matching expression.now world.now.moment) world.now) }
     ensures counts { OnOk result (ReadsEach world.now.files meter.old meter.new) }
     ensures few { OnErr result (ReadsSome world.now.files meter.old meter.new) }
     ensures memory { IsOkUnless result memory_fault }
@@ -93,7 +94,7 @@ fn matching_of<T: Text>(
     expression: &Match,
 ) -> Result<String, Fault>
     requires read { outlines.now ≡ outlines_of world.now }
-    ensures value { IfOk result (λ text. string_bytes text ≡ list_view (Matching expression.now world.now.moment) world.now) }
+    ensures value { GivesText result (list_view (Matching expression.now world.now.moment) world.now) }
     ensures memory { IsOkUnless result memory_fault }
 {
     let inherits = inherits_of(alloc, world, outlines)?;
@@ -103,7 +104,7 @@ fn matching_of<T: Text>(
 
 // The text of rows over the files that they are of.
 fn text_of(alloc: Global, inherits: &Inherits<'_>, rows: &[Row]) -> Result<String, Fault>
-    ensures value { IfOk result (λ text. string_bytes text ≡ list_lines inherits.now rows.now) }
+    ensures value { GivesText result (list_lines inherits.now rows.now) }
     ensures memory { IsOkUnless result memory_fault }
 {
     let mut text = String::new(alloc);

@@ -1,6 +1,7 @@
 //! The worlds that sessions keep.
-ghost use Rattle.std.specs.Prelude.{◌≡◌, ◌++◌, ◌∷◌, [], IfErr, IfNone, IfOk, IfSome, OnErr, OnOk, Err, None, Ok};
+ghost use Rattle.std.specs.Prelude.{◌≡◌, ◌++◌, ◌∷◌, [], IfNone, IfOk, IfSome, OnErr, OnOk, None, Ok};
 ghost use Rattle.std.specs.Option.{option_copied};
+ghost use Rattle.org_engine.specs.Computed.{FailsAs};
 ghost use Rattle.org_engine.specs.Pins.{IsPlaceOf};
 ghost use Rattle.org_engine.specs.Step.{is_session, released, world_asked, world_of};
 
@@ -118,7 +119,7 @@ pub(crate) fn world_asked<'a, T: Text>(
     session: Option<u64>,
 ) -> Result<&'a World<T>, Fault>
     ensures ok { IfOk result (λ asked. world_asked session world.now pins.now ≡ Ok asked.now) }
-    ensures err { IfErr result (λ fault. world_asked session world.now pins.now ≡ Err fault) }
+    ensures err { FailsAs result (world_asked session world.now pins.now) }
 {
     let Some(session) = session else {
         return Ok(world);

@@ -1,13 +1,18 @@
 -- What the lines of a section so far say.
-use Rattle.std.specs.Prelude.{ℕ, Bool, true, false, List, [], ◌∷◌, ◌++◌, Option, None}
+use Rattle.std.specs.List.{list_any}
+use Rattle.std.specs.Option.{option_to_list}
+use Rattle.std.specs.Prelude.{ℕ, Bool, true, false, List, [], ◌∷◌, ◌++◌, Option, None, Some, drop}
 use Rattle.org_settings.specs.Settings.{FileSettings}
 use Rattle.org_class.specs.declared.class.Class.{Class}
 use Rattle.org_class.specs.declared.class.Class.TheVariants.{Heading, Planning as PlanningLine, Node, Clock}
+use Rattle.org_drawer.specs.Clock.{clock_of}
 use Rattle.org_drawer.specs.Node.{drawer_of}
 use Rattle.org_drawer.specs.declared.clock.ClockLine.{ClockLine}
-use Rattle.org_entry.specs.Entry.{PlacedLine, text_of, nodes_of, clocks_of, stamps_of, head_after}
+use Rattle.org_entry.specs.Entry.{PlacedLine, text_of, nodes_of, clocks_of, stamps_of, head_after, title_stamps}
 use Rattle.org_entry.specs.declared.entry.Entry.{Entry}
+use Rattle.org_head.specs.Head.{head_of}
 use Rattle.org_head.specs.declared.head.Head.{Head}
+use Rattle.org_stamp.specs.Stamp.{is_close}
 use Rattle.org_stamp.specs.declared.stamp.Found.{Found}
 
 -- the parts of an entry so far, and the lines of its drawer
@@ -29,6 +34,22 @@ is_quiet PlanningLine = false
 is_quiet Node = false
 is_quiet Clock = false
 is_quiet _ = true
+
+-- a line of this class at a place of the section
+abbrev pub line_at : ℕ → Class → List ℕ → PlacedLine
+line_at at class bytes = record { at = at; class = class; bytes = bytes }
+
+-- a heading line more
+abbrev pub with_heading : FileSettings → EntrySoFar → ℕ → List ℕ → EntrySoFar
+with_heading settings so_far at line = record so_far {
+  text = so_far.text ++ line;
+  head = Some (head_of settings line);
+  stamps = so_far.stamps ++ title_stamps settings at line;
+}
+
+-- a clock line more
+abbrev pub with_clock : EntrySoFar → List ℕ → EntrySoFar
+with_clock so_far line = record so_far { clocks = so_far.clocks ++ option_to_list (clock_of line) }
 
 -- one line more
 abbrev pub with_line : FileSettings → EntrySoFar → PlacedLine → EntrySoFar
@@ -52,3 +73,11 @@ ended so_far = record {
   head = so_far.head;
   details = record { drawer = drawer_of so_far.nodes; stamps = so_far.stamps; clocks = so_far.clocks };
 }
+
+-- the entry of a section that is its heading line alone
+abbrev pub heading_alone : FileSettings → List ℕ → Entry
+heading_alone settings line = ended (with_line settings nothing_said (line_at 0 Heading line))
+
+-- a bracket closes from a place of a text on
+abbrev pub has_close : ℕ → List ℕ → Bool
+has_close at text = list_any is_close (drop at text)

@@ -1,11 +1,12 @@
 //! Sections that are their heading line alone, as most are in an outline of headings: no line behind it is looked for.
-ghost use Rattle.std.specs.Prelude.{◌≡◌, ◌+◌, ◌≤◌, ◌<◌, ◌^◌, ◌∷◌, [], true, length, IfOk, IfSome, IsOkUnless};
+ghost use Rattle.std.specs.Prelude.{◌≡◌, ◌+◌, ◌≤◌, ◌<◌, ◌^◌, ◌∷◌, [], true, length, IfSome, IsOkUnless};
 ghost use Rattle.org_base.specs.Codes.{memory_fault};
+ghost use Rattle.org_base.specs.Results.{Gives};
 ghost use Rattle.org_base.specs.Spans.{bytes_in};
 ghost use Rattle.org_class.specs.Classes.{section_classes};
 ghost use Rattle.org_class.specs.declared.class.Class.TheVariants.{Heading};
 ghost use Rattle.org_entry.specs.Alone.{IsHeadingAlone};
-ghost use Rattle.org_entry.specs.Draft.{ended, nothing_said, with_line};
+ghost use Rattle.org_entry.specs.Draft.{heading_alone};
 
 use crate::details::Details;
 use crate::entry::Entry;
@@ -48,7 +49,7 @@ fn is_heading_class_alone(classes: &[Class]) -> bool
 // The entry of a heading line that is a section.
 pub(crate) fn heading_entry(alloc: Global, settings: &Settings, line: &[u8]) -> Result<Entry, Fault>
     requires fits { length line.now < 2 ^ 32 }
-    ensures value { IfOk result (λ entry. entry ≡ ended (with_line settings.now nothing_said (record { at = 0; class = Heading; bytes = line.now }))) }
+    ensures value { Gives result (heading_alone settings.now line.now) }
     ensures memory { IsOkUnless result memory_fault }
 {
     let head = read_head(alloc, line, settings)?;

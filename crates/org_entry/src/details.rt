@@ -1,7 +1,8 @@
 //! What few headings have: properties, stamps and clocks.
-ghost use Rattle.std.specs.Prelude.{◌≡◌, true, IfOk};
-ghost use Rattle.std.specs.Option.{option_map};
+ghost use Rattle.std.specs.Prelude.{◌≡◌, true};
+ghost use Rattle.std.specs.Option.{option_map, option_copied};
 ghost use Rattle.org_base.specs.Properties.{value_in};
+ghost use Rattle.org_base.specs.Results.{Gives};
 ghost use Rattle.org_entry.specs.Details.{nothing};
 
 use crate::own::OwnProperties;
@@ -68,7 +69,7 @@ impl Model for Details {
 impl Details {
     // These parts.
     pub(crate) fn new(alloc: Global, parts: Parts) -> Result<Details, AllocError>
-        ensures value { IfOk result (λ details. details ≡ parts) }
+        ensures value { Gives result parts }
     {
         if parts.are_none() {
             return Ok(Details { parts: None });
@@ -80,7 +81,7 @@ impl Details {
 
     // These stamps, and nothing else. A heading alone has no more, and mostly none.
     pub(crate) fn of_stamps(alloc: Global, stamps: Sparse<Found>) -> Result<Details, AllocError>
-        ensures value { IfOk result (λ details. details ≡ record nothing { stamps = stamps }) }
+        ensures value { Gives result (record nothing { stamps = stamps }) }
     {
         if stamps.is_empty() {
             return Ok(Details { parts: None });
@@ -98,7 +99,7 @@ impl Details {
     /// What the heading's own property of a name has, lent; None where its drawer doesn't name it. Letter case doesn't
     /// count. It is never refused, and takes time as the logarithm of the number of names.
     pub fn property(&self, name: &[u8]) -> Option<&[u8]>
-        ensures value { option_map (λ text. text.now) result ≡ value_in self.now.drawer name.now }
+        ensures value { option_copied result ≡ value_in self.now.drawer name.now }
     {
         let parts = self.parts.as_ref()?;
         parts.drawer.get(name)

@@ -1,11 +1,8 @@
 //! An entry while the lines of its section are read.
-ghost use Rattle.std.specs.Prelude.{◌≡◌, ◌+◌, ◌++◌, ◌<◌, ◌≤◌, ◌^◌, length, Some, IfOk, OnOk, IsOkUnless};
-ghost use Rattle.std.specs.Option.{option_to_list};
+ghost use Rattle.std.specs.Prelude.{◌≡◌, ◌+◌, ◌<◌, ◌≤◌, ◌^◌, length, Some, OnOk, IsOkUnless};
 ghost use Rattle.org_base.specs.Codes.{memory_fault};
-ghost use Rattle.org_drawer.specs.Clock.{clock_of};
-ghost use Rattle.org_entry.specs.Draft.{nothing_said, with_line, ended};
-ghost use Rattle.org_entry.specs.Entry.{title_stamps};
-ghost use Rattle.org_head.specs.Head.{head_of};
+ghost use Rattle.org_base.specs.Results.{Gives};
+ghost use Rattle.org_entry.specs.Draft.{nothing_said, with_line, ended, line_at, with_clock, with_heading};
 
 use crate::details::{Details, Parts};
 use crate::entry::Entry;
@@ -62,7 +59,7 @@ impl Draft {
     ) -> Result<(), Fault>
         requires behind { length self.old.text ≤ at }
         requires fits { at + length line.now < 2 ^ 32 }
-        ensures ok { OnOk result (self.new ≡ with_line settings.now self.old (record { at = at; class = class; bytes = line.now })) }
+        ensures ok { OnOk result (self.new ≡ with_line settings.now self.old (line_at at class line.now)) }
         ensures memory { IsOkUnless result memory_fault }
     {
         match class {
@@ -80,11 +77,7 @@ impl Draft {
     fn add_heading(&mut self, settings: &Settings, at: usize, line: &[u8]) -> Result<(), Fault>
         requires behind { length self.old.text ≤ at }
         requires fits { at + length line.now < 2 ^ 32 }
-        ensures ok { OnOk result (self.new ≡ record self.old {
-          text = self.old.text ++ line.now;
-          head = Some (head_of settings.now line.now);
-          stamps = self.old.stamps ++ title_stamps settings.now at line.now;
-        }) }
+        ensures ok { OnOk result (self.new ≡ with_heading settings.now self.old at line.now) }
         ensures memory { IsOkUnless result memory_fault }
     {
         let head = read_head(self.alloc, line, settings)?;
@@ -101,7 +94,7 @@ impl Draft {
 
     // Adds a clock line.
     fn add_clock(&mut self, line: &[u8]) -> Result<(), AllocError>
-        ensures ok { OnOk result (self.new ≡ record self.old { clocks = self.old.clocks ++ option_to_list (clock_of line.now) }) }
+        ensures ok { OnOk result (self.new ≡ with_clock self.old line.now) }
     {
         // Taken apart and put together for the prover, which has to see what a clock holds.
         if let Some(ClockLine { from, to }) = read_clock(line) {
@@ -112,7 +105,7 @@ impl Draft {
 
     // The entry where no line is left.
     pub(crate) fn ended(self) -> Result<Entry, Fault>
-        ensures value { IfOk result (λ entry. entry ≡ ended self) }
+        ensures value { Gives result (ended self) }
         ensures memory { IsOkUnless result memory_fault }
     {
         let Draft {

@@ -1,8 +1,9 @@
 //! The properties of a section.
-ghost use Rattle.std.specs.Prelude.{◌≡◌, [], true, IfOk, IsOkUnless};
-ghost use Rattle.std.specs.Option.{option_map};
+ghost use Rattle.std.specs.Prelude.{◌≡◌, [], true, IsOkUnless};
+ghost use Rattle.std.specs.Option.{option_map, option_copied};
 ghost use Rattle.org_base.specs.Codes.{memory_fault};
 ghost use Rattle.org_base.specs.Properties.{value_in};
+ghost use Rattle.org_base.specs.Results.{Gives};
 ghost use Rattle.org_drawer.specs.Node.{drawer_of};
 
 use org_base::{Fault, Texts};
@@ -36,7 +37,7 @@ impl OwnProperties {
 
     // What the lines of a drawer give.
     pub(crate) fn of_lines(alloc: Global, lines: &Texts) -> Result<OwnProperties, Fault>
-        ensures value { IfOk result (λ own. own ≡ drawer_of lines.now) }
+        ensures value { Gives result (drawer_of lines.now) }
         ensures memory { IsOkUnless result memory_fault }
     {
         if lines.count() == 0 {
@@ -57,7 +58,7 @@ impl OwnProperties {
 
     // What a name has, lent; None where the drawer doesn't name it. Letter case doesn't count.
     pub(crate) fn get(&self, name: &[u8]) -> Option<&[u8]>
-        ensures value { option_map (λ text. text.now) result ≡ value_in self.now name.now }
+        ensures value { option_copied result ≡ value_in self.now name.now }
     {
         let drawer = self.drawer.as_ref()?;
         drawer.get(name)

@@ -1,14 +1,14 @@
 //! Reading a section.
-ghost use Rattle.std.specs.Prelude.{◌≡◌, ◌+◌, ◌≤◌, false, length, drop, IfOk, IsOkUnless};
-ghost use Rattle.std.specs.List.{list_any, suffix_len};
+ghost use Rattle.std.specs.Prelude.{◌≡◌, ◌+◌, ◌≤◌, false, length, IsOkUnless};
+ghost use Rattle.std.specs.List.{suffix_len};
 ghost use Rattle.org_base.specs.Codes.{memory_fault};
 ghost use Rattle.org_base.specs.Counts.{ticked};
+ghost use Rattle.org_base.specs.Results.{Gives};
 ghost use Rattle.org_base.specs.declared.meter.Tick.TheVariants.{Read};
 ghost use Rattle.org_class.specs.Classes.{section_classes};
 ghost use Rattle.org_base.specs.Spans.{bytes_in};
-ghost use Rattle.org_entry.specs.Draft.{is_quiet};
+ghost use Rattle.org_entry.specs.Draft.{is_quiet, has_close};
 ghost use Rattle.org_entry.specs.Entry.{entry_of};
-ghost use Rattle.org_stamp.specs.Stamp.{is_close};
 
 use crate::alone::{heading_alone, heading_entry};
 use crate::draft::Draft;
@@ -36,7 +36,7 @@ pub fn read_entry<T: Text>(
 ) -> Result<Entry, Fault>
     requires within { section.at + section.len ≤ length (T.content text.now) }
     requires belongs { classes.now ≡ section_classes (bytes_in (T.content text.now) section) }
-    ensures value { IfOk result (λ entry. entry ≡ entry_of settings.now (bytes_in (T.content text.now) section)) }
+    ensures value { Gives result (entry_of settings.now (bytes_in (T.content text.now) section)) }
     ensures counts { meter.new ≡ ticked Read meter.old }
     ensures memory { IsOkUnless result memory_fault }
 {
@@ -74,7 +74,7 @@ fn quiet_lines(classes: &[Class]) -> usize
 fn may_close<T: Text>(text: &T, section: Span, at: usize) -> bool
     requires within { section.at + section.len ≤ length (T.content text.now) }
     requires place { at ≤ section.len }
-    ensures none { result ≡ false → list_any is_close (drop at (bytes_in (T.content text.now) section)) ≡ false }
+    ensures none { result ≡ false → has_close at (bytes_in (T.content text.now) section) ≡ false }
 {
     let _len = text.len();
     let rest = Span {
@@ -97,7 +97,7 @@ fn entry_in<T: Text>(
 ) -> Result<Entry, Fault>
     requires within { section.at + section.len ≤ length (T.content text.now) }
     requires belongs { classes.now ≡ section_classes (bytes_in (T.content text.now) section) }
-    ensures value { IfOk result (λ entry. entry ≡ entry_of settings.now (bytes_in (T.content text.now) section)) }
+    ensures value { Gives result (entry_of settings.now (bytes_in (T.content text.now) section)) }
     ensures memory { IsOkUnless result memory_fault }
 {
     let _len = text.len();

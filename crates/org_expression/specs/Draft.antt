@@ -88,6 +88,10 @@ parts_of d = extend (open_parts d) (item d.link d.sign (term_of d) ∷ [])
 abbrev pub with_parts : Draft → Parts → Link → Sign → Draft
 with_parts d (kind, tags, todo) link sign = record d { kind = kind; tags = tags; todo = todo; link = link; sign = sign }
 
+-- the term that is being read among the parts, and what stands before the next term
+abbrev pub with_term : Draft → Link → Sign → Draft
+with_term d link sign = with_parts d (parts_of d) link sign
+
 -- the expression of the parts
 abbrev pub expr_of : Parts → Expr
 expr_of (JustTags, tags, todo) = Tags tags
@@ -109,8 +113,8 @@ with_todo (kind, tags, todo) = (WithTodo, tags, todo)
 -- behind a whole term
 abbrev pub follow : ℕ → Draft → Draft
 follow c d =
-    if c == 43 then with_parts d (parts_of d) Direct Plus else if c == 45 then with_parts d (parts_of d) Direct Minus
-    else if c == 38 then with_parts d (parts_of d) And Unsigned else if c == 124 then with_parts d (parts_of d) Or Unsigned
+    if c == 43 then with_term d Direct Plus else if c == 45 then with_term d Direct Minus
+    else if c == 38 then with_term d And Unsigned else if c == 124 then with_term d Or Unsigned
     else with_parts d (with_todo (parts_of d)) Direct Unsigned
 
 -- where a value begins

@@ -1,6 +1,6 @@
 -- Times that an expression compares with (Org manual 9.6, Matching tags and properties; their bounds are the profile's).
 -- Characters by their codes: 43 +, 45 -, 60 <, 62 >.
-use Rattle.std.specs.Prelude.{ℕ, ◌+◌, ◌-◌, ◌*◌, Bool, true, false, ◌&&◌, ◌==◌, nat_le, if◌then◌else◌, List, [], ◌∷◌, length, drop, slice_index, Option, Some, None, unwrap_or, bytes_eq, codes}
+use Rattle.std.specs.Prelude.{ℕ, ◌+◌, ◌-◌, ◌*◌, Bool, true, false, ◌&&◌, ◌==◌, nat_le, if◌then◌else◌, List, [], ◌∷◌, length, drop, slice_index, Option, Some, None, bytes_eq, codes}
 use Rattle.std.specs.Option.{option_map, option_or}
 use Rattle.org_cal.specs.Added.{day_of_month}
 use Rattle.org_cal.specs.Blocks.{this_month}

@@ -1,6 +1,6 @@
 //! Numbers, in billionths and counted from -10^18.
 ghost use Rattle.std.specs.Char.{is_ascii_digit};
-ghost use Rattle.std.specs.Prelude.{◌≡◌, ◌+◌, ◌*◌, ◌^◌, ◌≤◌, ◌<◌, length, true};
+ghost use Rattle.std.specs.Prelude.{◌≡◌, ◌^◌, ◌≤◌, ◌<◌, length, true};
 ghost use Rattle.std.specs.List.{list_all};
 ghost use Rattle.org_expression.specs.Decimal as spec;
 
@@ -11,7 +11,7 @@ pub(crate) fn read_whole(digits: &[u8]) -> u128
     requires digits { list_all is_ascii_digit digits.now ≡ true }
     requires room { length digits.now ≤ 18 }
     ensures value { result ≡ spec.read_on 0 digits.now }
-    ensures bound { result < 10 ^ 18 }
+    ensures below { result < 10 ^ 18 }
 {
     let mut n: u128 = 0;
     for digit in digits {
@@ -24,7 +24,7 @@ pub(crate) fn read_whole(digits: &[u8]) -> u128
 fn read_decimals(whole: u128, fraction: &[u8]) -> u128
     requires room { whole < 10 ^ 18 }
     ensures value { result ≡ spec.read_decimals whole 9 fraction.now }
-    ensures bound { result < 10 ^ 27 }
+    ensures below { result < 10 ^ 27 }
 {
     let mut n = whole;
     let mut rest = fraction;

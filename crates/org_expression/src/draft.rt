@@ -1,6 +1,6 @@
 //! What is read of an expression so far, and what each character adds to it.
 ghost use Rattle.std.specs.Prelude.{◌≡◌, IfOk, OnOk, Some};
-ghost use Rattle.std.specs.Option.{option_map};
+ghost use Rattle.org_base.specs.Results.{Gives};
 ghost use Rattle.org_expression.specs.Tree.{term_of as tree_term, link_of, op_of, sign_of};
 ghost use Rattle.org_expression.specs.Draft as spec;
 
@@ -111,7 +111,7 @@ impl Draft {
 
     // Ends the term that was read last.
     fn close(&mut self, link: Link, sign: Sign) -> Result<(), AllocError>
-        ensures value { OnOk result (self.new ≡ spec.with_parts self.old (spec.parts_of self.old) (link_of link) (sign_of sign)) }
+        ensures value { OnOk result (self.new ≡ spec.with_term self.old (link_of link) (sign_of sign)) }
     {
         let term = self.term()?;
         let item = Item {
@@ -258,7 +258,7 @@ impl Draft {
 
     // The expression, where it may end in this state.
     pub(crate) fn finish(mut self, state: State) -> Result<Option<Expression>, AllocError>
-        ensures value { IfOk result (λ r. r ≡ spec.finished (Some state) self) }
+        ensures value { Gives result (spec.finished (Some state) self) }
     {
         if !is_final(state) {
             return Ok(None);

@@ -1,5 +1,6 @@
 //! Reads an expression.
-ghost use Rattle.std.specs.Prelude.{◌≡◌, ◌<◌, ◌^◌, length, chars, IfErr, IfOk};
+ghost use Rattle.std.specs.Prelude.{◌<◌, ◌^◌, length, chars, IfErr, IfOk};
+ghost use Rattle.org_base.specs.Results.{Gives};
 ghost use Rattle.org_expression.specs.Draft.{read_all};
 ghost use Rattle.org_expression.specs.Grammar.{Reads};
 ghost use Rattle.org_expression.specs.Refusal.{IsUnread};
@@ -35,7 +36,7 @@ impl Expression {
 
 // The expression that the text is, with its patterns as they are written.
 fn parse(alloc: Global, text: &str) -> Result<Option<Expression>, AllocError>
-    ensures value { IfOk result (λ found. found ≡ read_all (chars text.now)) }
+    ensures value { Gives result (read_all (chars text.now)) }
 {
     let mut draft = Draft::new(alloc);
     let mut state = State::Start;

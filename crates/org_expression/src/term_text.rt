@@ -17,7 +17,8 @@ impl Model for TermText {
 }
 
 impl TermText {
-    ghost use Rattle.std.specs.Prelude.{◌≡◌, ◌++◌, ◌∷◌, [], OnOk, OnErr, IfOk, chars, encode_utf8_all, string_bytes};
+    ghost use Rattle.std.specs.Prelude.{◌≡◌, ◌++◌, ◌∷◌, [], OnOk, OnErr, chars, encode_utf8_all};
+    ghost use Rattle.org_base.specs.Results.{Gives};
 
     // No characters.
     pub(crate) fn new(alloc: Global) -> TermText
@@ -54,7 +55,7 @@ impl TermText {
 
     /// The same characters.
     pub fn copy(&self, alloc: Global) -> Result<TermText, AllocError>
-        ensures value { IfOk result (λ w. w ≡ self.now) }
+        ensures value { Gives result self.now }
     {
         let text = String::from_str(alloc, self.text.as_str())?;
         Ok(TermText { text })

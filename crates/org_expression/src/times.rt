@@ -1,6 +1,5 @@
 //! Times that an expression compares with, in minutes since 0001-01-01 00:00.
 ghost use Rattle.std.specs.Prelude.{◌≡◌, ◌<◌, ◌^◌};
-ghost use Rattle.std.specs.Option.{option_map};
 ghost use Rattle.org_cal.specs.Minutes.{minute_at};
 ghost use Rattle.org_expression.specs.Times as spec;
 ghost use Rattle.org_stamp.specs.Read.{stamp_of};

@@ -1,8 +1,7 @@
 -- The text completed is that of the section that begins with the line.
-use Rattle.std.proofs.Common.{◌≡◌, ◌≢◌, ◌∙◌, ℕ, ◌<◌, false, inl, inr, List, refl, sym, ap, arith}
-use Rattle.std.specs.Prelude.{Result, Ok, Err, IfOk, IfErr}
+use Rattle.std.proofs.Common.{◌≡◌, ◌∙◌, ℕ, ◌<◌, false, inl, inr, List, refl, sym, subst, ap, arith}
+use Rattle.std.specs.Prelude.{Result, Err}
 use Rattle.std.proofs.lemmas.Bool.{cases_Bool}
-use Rattle.org_base.specs.Codes.{memory_fault}
 use Rattle.org_base.specs.Counts.{Counts, ticked}
 use Rattle.org_base.specs.declared.code.Code.TheVariants as code
 use Rattle.org_base.specs.declared.fault.Fault.{Fault}
@@ -12,7 +11,7 @@ use Rattle.org_cal.specs.declared.moment.Moment.{Moment}
 use Rattle.org_class.specs.Ticks.{classified}
 use Rattle.org_entry.specs.Entry.{entry_of}
 use Rattle.org_file.specs.Begun.{IsBegunBy, section_of, section_start}
-use Rattle.org_file.specs.Completion.{completed, completed_by, entry_parts, section_parts, has_heading, section_at}
+use Rattle.org_file.specs.Completion.{completed, completed_by, entry_parts, section_completed, section_parts, has_heading, section_at}
 use Rattle.org_file.specs.Counts.{AtMost, AtMostOneRead}
 use Rattle.org_file.specs.Outline.{file_settings}
 use Rattle.org_file.specs.Written.{AnswersAs}
@@ -22,10 +21,6 @@ use Rattle.org_file.proofs.StartLemmas.{heading_there, section_there, start_ther
 pub no_heading : (t : List ℕ) (line : ℕ) (keyword : List ℕ) (now : Moment) → has_heading t line ≡ false → completed t line keyword now ≡ Err (Plain code.Heading)
 unfolding completed
 no_heading t line keyword now h = rw h refl
-
--- what completes the section at a place
-abbrev pub section_completed : List ℕ → ℕ → List ℕ → Moment → Result (List ℕ) Fault
-section_completed t place keyword now = completed_by t (section_parts (section_start t place) now (file_settings t) keyword (entry_of (file_settings t) (section_of t place)))
 
 pub completed_there : (t : List ℕ) (line place : ℕ) (keyword : List ℕ) (now : Moment) → IsBegunBy t line place → completed t line keyword now ≡ section_completed t place keyword now
 unfolding completed
@@ -41,13 +36,8 @@ completed_there t line place keyword now b =
     ]
 
 -- an answer, seen so, that is the one wanted
-pub answers_ok : {T : Type 0} (seen : T → List ℕ) (r : Result T Fault) (wanted all : Result (List ℕ) Fault) → AnswersAs seen r wanted → all ≡ wanted → IfOk r (λ new. all ≡ Ok (seen new))
-answers_ok seen (Ok new) wanted all h e = e ∙ h
-answers_ok seen (Err f) wanted all h e = tt
-
-pub answers_err : {T : Type 0} (seen : T → List ℕ) (r : Result T Fault) (wanted all : Result (List ℕ) Fault) → AnswersAs seen r wanted → all ≡ wanted → IfErr r (λ refused. refused ≢ memory_fault → all ≡ Err refused)
-answers_err seen (Ok new) wanted all h e = tt
-answers_err seen (Err f) wanted all h e = λ n. e ∙ h n
+pub answers_same : {T : Type 0} (seen : T → List ℕ) (r : Result T Fault) (wanted all : Result (List ℕ) Fault) → AnswersAs seen r wanted → all ≡ wanted → AnswersAs seen r all
+answers_same seen r wanted all h e = subst (λ (w : Result (List ℕ) Fault). AnswersAs seen r w) (sym e) h
 
 -- all sections classified, and none or one read
 pub none_read : (most : ℕ) (old new : Counts) → new ≡ classified most old → AtMostOneRead most old new

@@ -14,6 +14,7 @@ use Rattle.org_drawer.specs.declared.planning.Planning.{Planning}
 use Rattle.org_entry.specs.Entry.{entry_of, heading_line}
 use Rattle.org_entry.specs.declared.entry.Entry.{Entry}
 use Rattle.org_entry.specs.Planning.{entry_planning}
+use Rattle.org_file.specs.Begun.{entry_there, section_start}
 use Rattle.org_file.specs.Outline.{file_settings}
 use Rattle.org_file.specs.Parts.{Part, with_parts}
 use Rattle.org_file.specs.declared.plan.Plan.{Plan}
@@ -84,6 +85,10 @@ abbrev pub plan_of : Moment → FileSettings → Option Planning → Option ℕ 
 plan_of now settings planning None = Err (Plain code.Keyword)
 plan_of now settings planning (Some place) = keyword_plan now settings place planning
 
+-- what a keyword does, by its name
+abbrev pub plan_for : Moment → FileSettings → Option Planning → List ℕ → Result Plan Fault
+plan_for now settings planning keyword = plan_of now settings planning (keyword_place settings.keywords keyword)
+
 -- where the keyword of a heading line stands, or goes: behind the stars and the white space that follows them
 abbrev pub keyword_span : List ℕ → Option Span → Span
 keyword_span line None = record { at = stars line + prefix_len is_space (drop (stars line) line); len = 0 }
@@ -118,7 +123,7 @@ planned_parts at line old settings (Ok plan) = Ok (plan_parts at line old settin
 abbrev pub entry_parts : ℕ → Moment → FileSettings → List ℕ → Entry → Option Head → Result (List Part) Fault
 entry_parts at now settings keyword entry None = Err (Plain code.Heading)
 entry_parts at now settings keyword entry (Some head) =
-    planned_parts at (heading_line entry) head.keyword settings (plan_of now settings (entry_planning entry) (keyword_place settings.keywords keyword))
+    planned_parts at (heading_line entry) head.keyword settings (plan_for now settings (entry_planning entry) keyword)
 
 -- the same, by the entry's own head
 abbrev pub section_parts : ℕ → Moment → FileSettings → List ℕ → Entry → Result (List Part) Fault
@@ -160,3 +165,13 @@ completed_by text (Ok parts) = sized (with_parts text parts)
 -- the text with the heading on a line completed by a keyword at a moment, or what this is refused for
 unfoldable pub completed : List ℕ → ℕ → List ℕ → Moment → Result (List ℕ) Fault
 completed text line keyword now = completed_by text (completion_parts text line keyword now)
+
+-- the text with the heading of the section at a place completed, unless that is refused
+abbrev pub section_completed : List ℕ → ℕ → List ℕ → Moment → Result (List ℕ) Fault
+section_completed text place keyword now =
+    completed_by text (section_parts (section_start text place) now (file_settings text) keyword (entry_there text place))
+
+-- the text with a plan written into the entry of the section at a place, unless that is too long
+abbrev pub plan_written : List ℕ → ℕ → Entry → Option Span → Plan → Result (List ℕ) Fault
+plan_written text place entry old plan =
+    sized (with_parts text (plan_parts (section_start text place) (heading_line entry) old (file_settings text) plan))

@@ -1,19 +1,18 @@
 //! Completing a heading.
-ghost use Rattle.std.specs.Prelude.{◌≡◌, ◌≢◌, ◌+◌, ◌-◌, ◌++◌, ◌<◌, ◌≤◌, ◌^◌, Ok, Err, Some, length, IfOk, IfErr, OnOk, IsSome, IsOkUnless, string_bytes};
+ghost use Rattle.std.specs.Prelude.{◌≡◌, ◌+◌, ◌-◌, ◌++◌, ◌<◌, ◌≤◌, ◌^◌, Ok, Err, Some, length, IfOk, IsSome, IsOkUnless};
 ghost use Rattle.std.specs.List.{prefix_len};
 ghost use Rattle.std.specs.Str.{IsUtf8, IsCharBoundary};
 ghost use Rattle.org_base.specs.Codes.{memory_fault};
 ghost use Rattle.org_base.specs.Counts.{ticked};
+ghost use Rattle.org_base.specs.Results.{Gives, Writes};
 ghost use Rattle.org_base.specs.Words.{is_space};
 ghost use Rattle.org_base.specs.declared.meter.Tick.TheVariants.{Read};
 ghost use Rattle.org_class.specs.Sections.{sections};
 ghost use Rattle.org_entry.specs.Entry.{heading_line};
-ghost use Rattle.org_file.specs.Begun.{entry_there, section_start};
+ghost use Rattle.org_file.specs.Begun.{entry_there};
 ghost use Rattle.org_file.specs.Completion as spec;
-ghost use Rattle.org_file.specs.Completion.{completed, completed_by, plan_parts, section_parts, sized};
+ghost use Rattle.org_file.specs.Completion.{completed, sized, plan_written, section_completed};
 ghost use Rattle.org_file.specs.Counts.{AtMost, AtMostOneRead};
-ghost use Rattle.org_file.specs.Outline.{file_settings};
-ghost use Rattle.org_file.specs.Parts.{with_parts};
 ghost use Rattle.org_file.specs.Written.{AnswersAs, CanWrite, IsBehind, plan_end, plan_text, shift_end, shift_text};
 ghost use Rattle.org_text.specs.Replace.{replace};
 ghost use Rattle.org_utf8.specs.Laws.{IsTextPart};
@@ -50,10 +49,7 @@ pub fn complete<T: Text>(
     keyword: &str,
     moment: Moment,
 ) -> Result<T, Fault>
-    ensures ok { IfOk result (λ new.
-        completed (T.content text.now) line keyword.now moment ≡ Ok (T.content new)) }
-    ensures err { IfErr result (λ fault.
-        fault ≢ memory_fault → completed (T.content text.now) line keyword.now moment ≡ Err fault) }
+    ensures value { AnswersAs T.content result (completed (T.content text.now) line keyword.now moment) }
     ensures few { AtMost (length (sections (T.content text.now))) meter.old meter.new }
     ensures reads { AtMostOneRead (length (sections (T.content text.now))) meter.old meter.new }
 {
@@ -74,9 +70,7 @@ fn complete_section<T: Text>(
     moment: Moment,
 ) -> Result<T, Fault>
     requires within { place < length (sections file.now) }
-    ensures value { AnswersAs T.content result (completed_by file.now
-        (section_parts (section_start file.now place) moment (file_settings file.now) keyword.now
-        (entry_there file.now place))) }
+    ensures value { AnswersAs T.content result (section_completed file.now place keyword.now moment) }
     ensures counts { meter.new ≡ ticked Read meter.old }
 {
     let entry = file.entry(alloc, meter, place)?;
@@ -102,8 +96,7 @@ fn complete_entry<T: Text>(
     requires entry { entry.now ≡ entry_there file.now place }
     requires headed { IsSome entry.now.head }
     requires plan { CanWrite entry.now.text (spec.keyword_span (heading_line entry.now) old) plan }
-    ensures value { AnswersAs T.content result (sized (with_parts file.now
-        (plan_parts (section_start file.now place) (heading_line entry.now) old (file_settings file.now) plan))) }
+    ensures value { AnswersAs T.content result (plan_written file.now place entry.now old plan) }
 {
     let text = file.text();
     let span = keyword_span(entry.line(), old);
@@ -152,7 +145,7 @@ fn keyword_span(line: &[u8], old: Option<Span>) -> Span
 // Puts bytes that are text at the end.
 fn push_bytes(out: &mut String, bytes: &[u8]) -> Result<(), AllocError>
     requires utf8 { IsUtf8 bytes.now }
-    ensures ok { OnOk result (string_bytes out.new ≡ string_bytes out.old ++ bytes.now) }
+    ensures ok { Writes result out.old out.new bytes.now }
 {
     match str::from_utf8(bytes) {
         Ok(text) => {
@@ -166,8 +159,7 @@ fn push_bytes(out: &mut String, bytes: &[u8]) -> Result<(), AllocError>
 // Puts a keyword at the end, and a space behind it where the heading has none so far.
 fn push_keyword(out: &mut String, word: &[u8], old: Option<Span>) -> Result<(), AllocError>
     requires utf8 { IsUtf8 word.now }
-    ensures ok { OnOk result (string_bytes out.new
-        ≡ string_bytes out.old ++ (word.now ++ spec.gap_behind old)) }
+    ensures ok { Writes result out.old out.new (word.now ++ spec.gap_behind old) }
 {
     push_bytes(out, word)?;
     match old {
@@ -190,9 +182,8 @@ fn push_shifts(
 ) -> Result<u32, Fault>
     requires plan { CanWrite entry.now.text keyword plan }
     requires fits { length entry.now.text < 2 ^ 32 }
-    ensures ok { OnOk result (string_bytes out.new
-        ≡ string_bytes out.old ++ plan_text entry.now.text keyword plan) }
-    ensures end { IfOk result (λ end. end ≡ plan_end keyword plan) }
+    ensures ok { Writes result out.old out.new (plan_text entry.now.text keyword plan) }
+    ensures end { Gives result (plan_end keyword plan) }
     ensures memory { IsOkUnless result memory_fault }
 {
     let (first, second) = plan.shifts;
@@ -212,9 +203,8 @@ fn push_shift(
     requires fits { length entry.now.text < 2 ^ 32 }
     requires from { IsCharBoundary entry.now.text from }
     requires behind { IsBehind entry.now.text from shift }
-    ensures ok { OnOk result (string_bytes out.new
-        ≡ string_bytes out.old ++ shift_text entry.now.text from shift) }
-    ensures end { IfOk result (λ end. end ≡ shift_end from shift) }
+    ensures ok { Writes result out.old out.new (shift_text entry.now.text from shift) }
+    ensures end { Gives result (shift_end from shift) }
     ensures cut { IfOk result (λ end. IsCharBoundary entry.now.text end) }
     ensures memory { IsOkUnless result memory_fault }
 {

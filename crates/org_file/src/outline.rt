@@ -1,8 +1,9 @@
 //! What a file says.
-ghost use Rattle.std.specs.Prelude.{◌≡◌, length, IfOk, OnOk, OnErr, IsOkUnless};
+ghost use Rattle.std.specs.Prelude.{length, OnOk, OnErr, IsOkUnless};
 ghost use Rattle.org_base.specs.Codes.{memory_fault};
+ghost use Rattle.org_base.specs.Results.{Gives};
 ghost use Rattle.org_class.specs.Sections.{sections};
-ghost use Rattle.org_file.specs.Counts.{AtMost, worked};
+ghost use Rattle.org_file.specs.Counts.{AtMost, AllWorked};
 ghost use Rattle.org_file.specs.Outline.{outline_of, scope_in};
 
 use crate::sections::Sections;
@@ -33,8 +34,8 @@ impl FileOutline {
     /// What a text says. Each section is classified once and read once, as the meter counts. Want of memory is the only
     /// refusal; then some of the sections may have been counted.
     pub fn read<T: Text>(alloc: Global, meter: &mut Meter, text: &T) -> Result<FileOutline, Fault>
-        ensures value { IfOk result (λ file. file ≡ outline_of (T.content text.now)) }
-        ensures counts { OnOk result (meter.new ≡ worked (length (sections (T.content text.now))) (length (sections (T.content text.now))) meter.old) }
+        ensures value { Gives result (outline_of (T.content text.now)) }
+        ensures counts { OnOk result (AllWorked (T.content text.now) meter.old meter.new) }
         ensures few { OnErr result (AtMost (length (sections (T.content text.now))) meter.old meter.new) }
         ensures memory { IsOkUnless result memory_fault }
     {
@@ -55,7 +56,7 @@ impl FileOutline {
         name: &'a str,
         inherited: &'a Texts,
     ) -> Result<Inherit<'a>, Fault>
-        ensures value { IfOk result (λ inherit. inherit ≡ scope_in self.now name.now inherited.now) }
+        ensures value { Gives result (scope_in self.now name.now inherited.now) }
         ensures memory { IsOkUnless result memory_fault }
     {
         Inherit::new(alloc, &self.outline, &self.settings, name, inherited)
@@ -63,7 +64,7 @@ impl FileOutline {
 }
 
 fn outline_of(alloc: Global, entries: Entries) -> Result<Outline, AllocError>
-    ensures value { IfOk result (λ outline. outline ≡ entries) }
+    ensures value { Gives result entries }
 {
     let mut outline = Outline::new(alloc);
     match outline.replace(0..0, entries) {

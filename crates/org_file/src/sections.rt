@@ -1,17 +1,18 @@
 //! The sections of a text.
-ghost use Rattle.std.specs.Prelude.{◌≡◌, ◌+◌, ◌++◌, ◌<◌, ◌≤◌, ℕ, false, None, map, length, IfSome, IfOk, OnOk, OnErr, IsOkUnless};
+ghost use Rattle.std.specs.Prelude.{◌≡◌, ◌+◌, ◌++◌, ◌<◌, ◌≤◌, ℕ, false, None, map, length, IfSome, OnOk, OnErr, IsOkUnless};
 ghost use Rattle.std.specs.List.{All};
 ghost use Rattle.std.specs.Str.{IsUtf8};
 ghost use Rattle.org_base.specs.Codes.{memory_fault};
 ghost use Rattle.org_base.specs.Counts.{ticked};
+ghost use Rattle.org_base.specs.Results.{Gives};
 ghost use Rattle.org_base.specs.declared.meter.Tick.TheVariants.{Read};
 ghost use Rattle.org_class.specs.Classes.{setting_lines, text_classes};
 ghost use Rattle.org_base.specs.Spans.{bytes_in};
 ghost use Rattle.org_class.specs.Sections.{sections};
-ghost use Rattle.org_class.specs.Ticks.{classified};
+ghost use Rattle.org_class.specs.Ticks.{AllClassified, SomeClassified};
 ghost use Rattle.org_file.specs.Begun.{IsBegunBy, entry_there, section_start};
 ghost use Rattle.org_file.specs.Completion.{has_heading};
-ghost use Rattle.org_file.specs.Counts.{have_read};
+ghost use Rattle.org_file.specs.Counts.{AllRead, SomeRead};
 ghost use Rattle.org_file.specs.Outline.{file_entries, file_settings};
 ghost use Rattle.org_text.specs.Replace.{max_bytes};
 
@@ -53,9 +54,9 @@ impl<'a, T: Text> Sections<'a, T> {
         meter: &mut Meter,
         text: &'a T,
     ) -> Result<Sections<'a, T>, Fault>
-        ensures value { IfOk result (λ own. own ≡ T.content text.now) }
-        ensures counts { OnOk result (meter.new ≡ classified (length (sections (T.content text.now))) meter.old) }
-        ensures few { OnErr result ((n : ℕ) × (n ≤ length (sections (T.content text.now))) × (meter.new ≡ classified n meter.old)) }
+        ensures value { Gives result (T.content text.now) }
+        ensures counts { OnOk result (AllClassified (T.content text.now) meter.old meter.new) }
+        ensures few { OnErr result (SomeClassified (T.content text.now) meter.old meter.new) }
         ensures memory { IsOkUnless result memory_fault }
     {
         let spans = sections(alloc, text)?;
@@ -73,9 +74,9 @@ impl<'a, T: Text> Sections<'a, T> {
     // The entries of the sections, each read once as the meter counts. Want of memory is the only refusal; then some of the
     // sections may have been counted.
     pub(crate) fn entries(&self, alloc: Global, meter: &mut Meter) -> Result<Entries, Fault>
-        ensures value { IfOk result (λ entries. entries ≡ file_entries self.now) }
-        ensures counts { OnOk result (meter.new ≡ have_read (length (sections self.now)) meter.old) }
-        ensures few { OnErr result ((n : ℕ) × (n ≤ length (sections self.now)) × (meter.new ≡ have_read n meter.old)) }
+        ensures value { Gives result (file_entries self.now) }
+        ensures counts { OnOk result (AllRead self.now meter.old meter.new) }
+        ensures few { OnErr result (SomeRead self.now meter.old meter.new) }
         ensures memory { IsOkUnless result memory_fault }
     {
         let mut entries = Entries::with_room(alloc, self.spans.count())?;
@@ -116,7 +117,7 @@ impl<'a, T: Text> Sections<'a, T> {
         place: usize,
     ) -> Result<Entry, Fault>
         requires within { place < length (sections self.now) }
-        ensures value { IfOk result (λ entry. entry ≡ entry_there self.now place) }
+        ensures value { Gives result (entry_there self.now place) }
         ensures counts { meter.new ≡ ticked Read meter.old }
         ensures memory { IsOkUnless result memory_fault }
     {
@@ -173,10 +174,10 @@ fn classify_sections<T: Text>(
 ) -> Result<Runs<Class>, Fault>
     requires bytes { map (bytes_in (T.content text.now)) spans.now ≡ sections (T.content text.now) }
     requires inside { All (λ s. s.at + s.len ≤ length (T.content text.now)) spans.now }
-    ensures value { IfOk result (λ classes. classes ≡ text_classes (T.content text.now)) }
+    ensures value { Gives result (text_classes (T.content text.now)) }
     ensures lines { OnOk result (lines.new ≡ lines.old ++ setting_lines (T.content text.now)) }
-    ensures counts { OnOk result (meter.new ≡ classified (length (sections (T.content text.now))) meter.old) }
-    ensures few { OnErr result ((n : ℕ) × (n ≤ length (sections (T.content text.now))) × (meter.new ≡ classified n meter.old)) }
+    ensures counts { OnOk result (AllClassified (T.content text.now) meter.old meter.new) }
+    ensures few { OnErr result (SomeClassified (T.content text.now) meter.old meter.new) }
     ensures memory { IsOkUnless result memory_fault }
 {
     let mut classes = Runs::with_room(alloc, spans.count())?;

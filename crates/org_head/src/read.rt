@@ -1,6 +1,7 @@
 //! Reading a heading line.
 ghost use Rattle.std.specs.Prelude.{◌≡◌, ◌≤◌, ◌+◌, ◌<◌, ◌^◌, length, IfOk, IsOkUnless, IsTrue};
 ghost use Rattle.org_base.specs.Codes.{memory_fault};
+ghost use Rattle.org_base.specs.Results.{Gives};
 ghost use Rattle.org_base.specs.Words.{first_word};
 ghost use Rattle.org_class.specs.Heading.{begins_heading};
 ghost use Rattle.org_head.specs.HeadParts.{HasParts};
@@ -111,7 +112,7 @@ fn title_and_tags(alloc: Global, at: usize, text: &[u8]) -> Result<(usize, Spans
 // The parts, read from the left.
 fn read_parts(alloc: Global, line: &[u8], settings: &Settings) -> Result<Head, AllocError>
     requires size { length line.now < 2 ^ 32 }
-    ensures value { IfOk result (λ head. head ≡ head_of settings.now line.now) }
+    ensures value { Gives result (head_of settings.now line.now) }
 {
     let n = line.len();
     let level = leading_stars(line);
@@ -145,8 +146,8 @@ fn read_parts(alloc: Global, line: &[u8], settings: &Settings) -> Result<Head, A
 #[tactic(auto, using(crate::proofs::PartsHold::parts_hold))]
 pub fn read_head(alloc: Global, line: &[u8], settings: &Settings) -> Result<Head, Fault>
     requires size { length line.now < 2 ^ 32 }
-    ensures value { IfOk result (λ head. head ≡ head_of settings.now line.now) }
-    ensures parts { IsTrue (begins_heading line.now) → IfOk result (λ head. HasParts settings.now line.now head) }
+    ensures value { Gives result (head_of settings.now line.now) }
+    ensures parts { IsTrue (begins_heading line.now) → IfOk result (HasParts settings.now line.now) }
     ensures within { IfOk result (λ head. AreInside line.now head) }
     ensures memory { IsOkUnless result memory_fault }
 {

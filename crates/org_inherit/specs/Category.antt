@@ -1,7 +1,7 @@
 -- Categories (Org manual 9.6, Categories; which part of a file's name, and the order in a file: profile).
 -- Characters by their codes: 46 ., 47 /.
-use Rattle.std.specs.Prelude.{ℕ, ◌==◌, if◌then◌else◌, List, length, codes}
-use Rattle.std.specs.List.{after_last, before_last}
+use Rattle.std.specs.Prelude.{ℕ, ◌==◌, if◌then◌else◌, List, length, codes, map}
+use Rattle.std.specs.List.{after_last, before_last, range_with_len}
 use Rattle.std.specs.Option.{option_or, unwrap_or}
 use Rattle.org_entry.specs.declared.entry.Entry.{Entry}
 use Rattle.org_inherit.specs.Scope.{Scope}
@@ -26,6 +26,10 @@ file_category scope = unwrap_or (option_or (file_value scope (codes "CATEGORY"))
 -- the own CATEGORY, else that of the nearest ancestor that has one, else the file's category, which is given
 abbrev pub category_under : List Entry → List ℕ → ℕ → List ℕ
 category_under es file i = unwrap_or (nearest_value es (codes "CATEGORY") i) file
+
+-- the categories of so many first entries
+abbrev pub first_categories : List Entry → List ℕ → ℕ → List (List ℕ)
+first_categories es file count = map (category_under es file) (range_with_len 0 count)
 
 -- the category of the entry at a place
 abbrev pub category : Scope → ℕ → List ℕ

@@ -9,3 +9,7 @@ pub record Scope : Type 0 where
   pub settings : FileSettings
   pub file : List ℕ
   pub inherited : List (List ℕ)
+
+-- the same of these parts
+abbrev pub scope_with : List Entry → FileSettings → List ℕ → List (List ℕ) → Scope
+scope_with entries settings file inherited = record { entries = entries; settings = settings; file = file; inherited = inherited }

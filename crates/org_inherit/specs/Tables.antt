@@ -4,7 +4,7 @@ use Rattle.std.specs.List.{list_any, range_with_len}
 use Rattle.std.specs.Option.{is_some}
 use Rattle.org_base.specs.Properties.{value_in}
 use Rattle.org_entry.specs.declared.entry.Entry.{Entry}
-use Rattle.org_inherit.specs.Category.{category_under, file_category}
+use Rattle.org_inherit.specs.Category.{category_under, file_category, first_categories}
 use Rattle.org_inherit.specs.Hidden.{hides}
 use Rattle.org_inherit.specs.Scope.{Scope}
 use Rattle.org_inherit.specs.Tags.{own_tags}
@@ -19,6 +19,10 @@ has_tags e = nat_lt 0 (length (own_tags e))
 abbrev pub has_category : Entry → Bool
 has_category e = is_some (value_in e.details.drawer (codes "CATEGORY"))
 
+-- one of the entries has its own category
+abbrev pub has_categories : List Entry → Bool
+has_categories es = list_any has_category es
+
 -- the entry at a place or an ancestor of it passes the test
 abbrev pub one_passes : (Entry → Bool) → List Entry → ℕ → Bool
 one_passes test es i = list_any (λ j. get_or (map test es) j false) (i ∷ ancestors (levels es) i)
@@ -30,7 +34,7 @@ all_passing test es = map (one_passes test es) (range_with_len 0 (length es))
 -- the categories of all entries, or nothing where all have the file's
 abbrev pub AreCategories : List Entry → List ℕ → Option (List (List ℕ)) → Type 0
 AreCategories es file None = (i : ℕ) → category_under es file i ≡ file
-AreCategories es file (Some categories) = categories ≡ map (category_under es file) (range_with_len 0 (length es))
+AreCategories es file (Some categories) = categories ≡ first_categories es file (length es)
 
 -- what is kept: of each entry whether it is hidden and whether it has tags, own or inherited, the file's category, and
 -- the categories

@@ -4,6 +4,7 @@ use Rattle.std.specs.Prelude.{ℕ, ◌==◌, if◌then◌else◌, List, [], ◌�
 use Rattle.std.specs.List.{list_any, flat_map}
 use Rattle.org_entry.specs.declared.entry.Entry.{Entry}
 use Rattle.org_base.specs.Spans.{bytes_in}
+use Rattle.org_base.specs.declared.span.Span.{Span}
 use Rattle.org_head.specs.declared.head.Head.{Head}
 use Rattle.org_inherit.specs.Scope.{Scope}
 use Rattle.org_outline.specs.Levels.{levels}
@@ -30,13 +31,26 @@ lineage es i = reverse (ancestors (levels es) i) ++ i ∷ []
 abbrev pub with_tag : List (List ℕ) → List ℕ → List (List ℕ)
 with_tag tags tag = if list_any (bytes_eq tag) tags then tags else tags ++ tag ∷ []
 
+-- tags at the end, those that aren't there
+abbrev pub with_tags : List (List ℕ) → List (List ℕ) → List (List ℕ)
+with_tags tags more = fold with_tag tags more
+
 -- of equal tags the first
 abbrev pub firsts : List (List ℕ) → List (List ℕ)
-firsts tags = fold with_tag [] tags
+firsts tags = with_tags [] tags
 
--- the file's tags, the ancestors' own tags from the outermost, and the own tags; of equal ones the first stays
+-- the tags in parts of a text
+abbrev pub tags_in : List ℕ → List Span → List (List ℕ)
+tags_in text spans = map (bytes_in text) spans
+
+-- a file's tags, the ancestors' own tags from the outermost, and the own tags of the entry at a place; of equal ones the
+-- first stays
+abbrev pub tags_at : List (List ℕ) → List Entry → ℕ → List (List ℕ)
+tags_at file_tags es i = firsts (file_tags ++ flat_map (own_tags_at es) (lineage es i))
+
+-- all tags of the entry at a place: the file's, the inherited and its own
 abbrev pub all_tags : Scope → ℕ → List (List ℕ)
-all_tags scope i = firsts (scope.settings.file_tags ++ flat_map (own_tags_at scope.entries) (lineage scope.entries i))
+all_tags scope i = tags_at scope.settings.file_tags scope.entries i
 
 -- each tag with a colon behind it
 abbrev pub closed_tags : List (List ℕ) → List ℕ

@@ -10,6 +10,7 @@ use Rattle.org_head.specs.declared.head.Head.{Head}
 use Rattle.org_inherit.specs.Scope.{Scope}
 use Rattle.org_outline.specs.Levels.{levels}
 use Rattle.org_outline.specs.Tree.{ancestors}
+use Rattle.org_settings.specs.Settings.{FileSettings}
 
 -- what the first of the places has that has one
 abbrev pub first_of : {X : Type 0} → (ℕ → Option X) → List ℕ → Option X
@@ -34,9 +35,13 @@ abbrev pub front_value : List Entry → List ℕ → Option (List ℕ)
 front_value [] name = None
 front_value (e ∷ es) name = value_without_head e.head e.details.drawer name
 
--- the file's value: that of the drawer of the lines before the first heading, else that of the settings
+-- what a file gives: the drawer of the lines before the first heading, else its settings
+abbrev pub value_of_file : List Entry → FileSettings → List ℕ → Option (List ℕ)
+value_of_file es settings name = option_or (front_value es name) (value_in settings.properties name)
+
+-- the file's value
 abbrev pub file_value : Scope → List ℕ → Option (List ℕ)
-file_value scope name = option_or (front_value scope.entries name) (value_in scope.settings.properties name)
+file_value scope name = value_of_file scope.entries scope.settings name
 
 -- the name is among those whose values are inherited
 abbrev pub is_inherited : List (List ℕ) → List ℕ → Bool

@@ -1,8 +1,8 @@
 //! The categories of entries.
-ghost use Rattle.std.specs.Prelude.{◌≡◌, ◌<◌, [], ◌++◌, ◌∷◌, Some, length, map, slice_get, IfOk, OnOk};
-ghost use Rattle.std.specs.List.{list_any, range_with_len};
-ghost use Rattle.org_inherit.specs.Category.{category_under};
-ghost use Rattle.org_inherit.specs.Tables.{has_category, AreCategories};
+ghost use Rattle.std.specs.Prelude.{◌≡◌, ◌<◌, [], ◌++◌, ◌∷◌, Some, length, slice_get, IfOk, OnOk};
+ghost use Rattle.org_base.specs.Results.{Gives};
+ghost use Rattle.org_inherit.specs.Category.{category_under, first_categories};
+ghost use Rattle.org_inherit.specs.Tables.{AreCategories, has_categories};
 
 use org_outline::Outline;
 use std::alloc::{AllocError, Global};
@@ -15,17 +15,18 @@ pub(crate) struct Categories<'a> {
 }
 
 impl<'a> Model for Categories<'a> {
-    ghost use Rattle.std.specs.Prelude.{ℕ, List, map};
+    ghost use Rattle.std.specs.Prelude.{ℕ, List};
+    ghost use Rattle.org_base.specs.Results.{lent_in};
 
     ghost Value = { List (List ℕ) };
 
-    ghost view = { λ c. map (λ category. category.now) c.list.items };
+    ghost view = { λ c. lent_in c.list.items };
 }
 
 impl<'a> Categories<'a> {
     // No categories, with room for so many. Want of memory is its only refusal.
     fn with_room(alloc: Global, count: usize) -> Result<Categories<'a>, AllocError>
-        ensures value { IfOk result (λ categories. categories ≡ []) }
+        ensures value { Gives result [] }
     {
         let list = Vec::with_capacity(alloc, count)?;
         Ok(Categories { list })
@@ -35,7 +36,7 @@ impl<'a> Categories<'a> {
     // where it has no parent.
     fn next(&self, outline: &'a Outline, file_category: &'a [u8], place: usize) -> &'a [u8]
         requires within { place < length outline.now }
-        requires before { self.now ≡ map (category_under outline.now file_category.now) (range_with_len 0 place) }
+        requires before { self.now ≡ first_categories outline.now file_category.now place }
         ensures value { result.now ≡ category_under outline.now file_category.now place }
     {
         if let Some(own) = outline.entry(place).details.property(b"CATEGORY") {
@@ -72,7 +73,7 @@ pub(crate) fn own_categories<'a>(
     file_category: &'a [u8],
     some_own: bool,
 ) -> Result<Option<Categories<'a>>, AllocError>
-    requires some { some_own ≡ list_any has_category outline.now }
+    requires some { some_own ≡ has_categories outline.now }
     ensures value { IfOk result (AreCategories outline.now file_category.now) }
 {
     if !some_own {

@@ -2,6 +2,7 @@
 ghost use Rattle.std.specs.Prelude.{◌≡◌, ◌≤◌, ◌==◌, [], not, length};
 ghost use Rattle.std.specs.List.{suffix_len};
 ghost use Rattle.org_inherit.specs.Category.{base_name, stem, category_of, file_category};
+ghost use Rattle.org_inherit.specs.Scope.{scope_with};
 
 use crate::values::file_value;
 use org_outline::Outline;
@@ -45,7 +46,7 @@ pub(crate) fn file_category<'a>(
     settings: &'a Settings,
     file: &'a str,
 ) -> &'a [u8]
-    ensures value { result.now ≡ file_category (record { entries = outline.now; settings = settings.now; file = file.now; inherited = [] }) }
+    ensures value { result.now ≡ file_category (scope_with outline.now settings.now file.now []) }
 {
     if let Some(category) = file_value(outline, settings, b"CATEGORY") {
         return category;

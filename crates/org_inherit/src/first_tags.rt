@@ -1,10 +1,10 @@
 //! Tags, of equal ones the first.
-ghost use Rattle.std.specs.Prelude.{◌≡◌, ◌||◌, ℕ, List, [], Some, not, fold, map, bytes_eq, IfOk, OnOk, IsOkUnless};
+ghost use Rattle.std.specs.Prelude.{◌≡◌, ℕ, List, [], Some, not, bytes_eq, IfOk, OnOk, IsOkUnless};
 ghost use Rattle.std.specs.List.{list_any};
 ghost use Rattle.org_base.specs.Codes.{memory_fault};
-ghost use Rattle.org_base.specs.Spans.{bytes_in};
-ghost use Rattle.org_inherit.specs.Seen.{is_seen, AreSeen};
-ghost use Rattle.org_inherit.specs.Tags.{with_tag};
+ghost use Rattle.org_base.specs.Results.{Gives};
+ghost use Rattle.org_inherit.specs.Seen.{is_seen, AreSeen, IsSeenToo};
+ghost use Rattle.org_inherit.specs.Tags.{with_tag, with_tags, tags_in};
 
 use org_base::{Fault, Span, Texts};
 use org_entry::Entry;
@@ -79,7 +79,7 @@ impl FirstTags {
 
     // Adds those tags that aren't there.
     pub(crate) fn add_all(&mut self, tags: &Texts) -> Result<(), Fault>
-        ensures ok { OnOk result (self.new ≡ fold with_tag self.old tags.now) }
+        ensures ok { OnOk result (self.new ≡ with_tags self.old tags.now) }
         ensures memory { IsOkUnless result memory_fault }
     {
         for place in 0..tags.count() {
@@ -90,7 +90,7 @@ impl FirstTags {
 
     // Adds those tags that aren't there, each a part of an entry's text.
     pub(crate) fn add_parts(&mut self, entry: &Entry, parts: &[Span]) -> Result<(), Fault>
-        ensures ok { OnOk result (self.new ≡ fold with_tag self.old (map (bytes_in entry.now.text) parts.now)) }
+        ensures ok { OnOk result (self.new ≡ with_tags self.old (tags_in entry.now.text parts.now)) }
         ensures memory { IsOkUnless result memory_fault }
     {
         for span in parts {
@@ -120,8 +120,8 @@ fn add_seen(
 
 // Whether the tag comes for the first time. From then on it was seen.
 fn is_new(alloc: Global, seen: &mut BTreeSet<Vec<u8>>, tag: &[u8]) -> Result<bool, AllocError>
-    ensures value { IfOk result (λ yes. yes ≡ not (is_seen seen.old.keys tag.now)) }
-    ensures seen { OnOk result ((other : List ℕ) → is_seen seen.new.keys other ≡ (bytes_eq other tag.now || is_seen seen.old.keys other)) }
+    ensures value { Gives result (not (is_seen seen.old.keys tag.now)) }
+    ensures seen { OnOk result (IsSeenToo seen.old.keys seen.new.keys tag.now) }
 {
     let tag = Vec::from_slice(alloc, tag)?;
     let is_new = seen.insert(tag)?;

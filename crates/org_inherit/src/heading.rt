@@ -2,6 +2,7 @@
 ghost use Rattle.std.specs.Prelude.{◌≡◌, decimal, IfOk, IsOkUnless};
 ghost use Rattle.std.specs.Option.{option_map};
 ghost use Rattle.org_base.specs.Codes.{memory_fault};
+ghost use Rattle.org_base.specs.Results.{Gives};
 ghost use Rattle.org_entry.specs.Planning.{entry_planning};
 ghost use Rattle.org_head.specs.Cookie.{cookie_value};
 ghost use Rattle.org_base.specs.Spans.{bytes_in};
@@ -18,14 +19,14 @@ use std::alloc::{AllocError, Global};
 
 // A copy of bytes.
 pub(crate) fn copied(alloc: Global, bytes: &[u8]) -> Result<Bytes, AllocError>
-    ensures value { IfOk result (λ copy. copy ≡ bytes.now) }
+    ensures value { Gives result bytes.now }
 {
     let bytes = Vec::from_slice(alloc, bytes)?;
     Ok(Bytes::new(bytes))
 }
 
 fn decimal(alloc: Global, number: u32) -> Result<Bytes, AllocError>
-    ensures value { IfOk result (λ text. text ≡ decimal number) }
+    ensures value { Gives result (decimal number) }
 {
     let text = format!(in alloc; "{number}")?;
     Ok(Bytes::new(text.into_bytes()))
@@ -41,7 +42,7 @@ fn cookie_value(cookie: &[u8]) -> &[u8]
 
 // A letter by its ASCII code, a number in decimal.
 fn priority_text(alloc: Global, number: u8) -> Result<Bytes, AllocError>
-    ensures value { IfOk result (λ text. text ≡ priority_text number) }
+    ensures value { Gives result (priority_text number) }
 {
     if number > 64 {
         copied(alloc, &[number])
@@ -66,7 +67,7 @@ fn priority_value(
 
 // A part of an entry's text, if it is there.
 fn part_value(alloc: Global, entry: &Entry, part: Option<Span>) -> Result<Option<Bytes>, AllocError>
-    ensures value { IfOk result (λ value. value ≡ option_map (bytes_in entry.now.text) part) }
+    ensures value { Gives result (option_map (bytes_in entry.now.text) part) }
 {
     match part {
         Some(span) => Ok(Some(copied(alloc, entry.part(span))?)),
@@ -93,7 +94,7 @@ pub(crate) fn heading_value(
     head: &Head,
     value: HeadingValue,
 ) -> Result<Option<Bytes>, Fault>
-    ensures value { IfOk result (λ found. found ≡ heading_value settings.now entry.now head.now value) }
+    ensures value { Gives result (heading_value settings.now entry.now head.now value) }
     ensures memory { IsOkUnless result memory_fault }
 {
     let value = match value {

@@ -1,9 +1,11 @@
 //! What the outline of a file says of a heading.
-ghost use Rattle.std.specs.Prelude.{◌≡◌, ◌<◌, length, IfOk, IsOkUnless};
-ghost use Rattle.std.specs.Option.{option_map};
+ghost use Rattle.std.specs.Prelude.{◌≡◌, ◌<◌, length, IsOkUnless};
+ghost use Rattle.std.specs.Option.{option_copied};
 ghost use Rattle.org_base.specs.Codes.{memory_fault};
+ghost use Rattle.org_base.specs.Results.{Gives};
 ghost use Rattle.org_inherit.specs.Category.{category};
 ghost use Rattle.org_inherit.specs.Hidden.{is_hidden};
+ghost use Rattle.org_inherit.specs.Scope.{scope_with};
 ghost use Rattle.org_inherit.specs.Special.{special_value, value_of};
 ghost use Rattle.org_inherit.specs.declared.special.Special.TheVariants.{AllTags, Own};
 ghost use Rattle.org_inherit.specs.Tags.{all_tags};
@@ -39,14 +41,14 @@ pub struct Inherit<'a> {
 }
 
 impl<'a> Model for Inherit<'a> {
-    ghost use Rattle.org_inherit.specs.Scope.{Scope};
+    ghost use Rattle.org_inherit.specs.Scope.{Scope, scope_with};
     ghost use Rattle.org_inherit.specs.Tables.{HasTables};
 
     ghost Value = { Scope };
 
-    ghost view = { λ i. record { entries = i.outline.now; settings = i.settings.now; file = i.file.now; inherited = i.inherited.now } };
+    ghost view = { λ i. scope_with i.outline.now i.settings.now i.file.now i.inherited.now };
 
-    ghost invariant = { λ i. HasTables (record { entries = i.outline.now; settings = i.settings.now; file = i.file.now; inherited = i.inherited.now }) i.tables.hidden.items i.tables.tagged.items i.file_category.now i.categories };
+    ghost invariant = { λ i. HasTables (scope_with i.outline.now i.settings.now i.file.now i.inherited.now) i.tables.hidden.items i.tables.tagged.items i.file_category.now i.categories };
 }
 
 impl<'a> Inherit<'a> {
@@ -59,7 +61,7 @@ impl<'a> Inherit<'a> {
         file: &'a str,
         inherited: &'a Texts,
     ) -> Result<Inherit<'a>, Fault>
-        ensures value { IfOk result (λ inherit. inherit ≡ record { entries = outline.now; settings = settings.now; file = file.now; inherited = inherited.now }) }
+        ensures value { Gives result (scope_with outline.now settings.now file.now inherited.now) }
         ensures memory { IsOkUnless result memory_fault }
     {
         let file_category = file_category(outline, settings, file);
@@ -111,7 +113,7 @@ impl<'a> Inherit<'a> {
     /// manual 9.6, "Tag Inheritance"). Want of memory is its only refusal.
     pub fn all_tags(&self, place: usize) -> Result<Texts, Fault>
         requires { place < length self.now.entries }
-        ensures value { IfOk result (λ tags. tags ≡ all_tags self.now place) }
+        ensures value { Gives result (all_tags self.now place) }
         ensures memory { IsOkUnless result memory_fault }
     {
         let file_tags = self.settings.file_tags();
@@ -150,7 +152,7 @@ impl<'a> Inherit<'a> {
     /// Want of memory is its only refusal.
     pub fn value(&self, place: usize, name: &[u8]) -> Result<Option<Bytes>, Fault>
         requires { place < length self.now.entries }
-        ensures value { IfOk result (λ value. value ≡ value_of self.now place name.now) }
+        ensures value { Gives result (value_of self.now place name.now) }
         ensures memory { IsOkUnless result memory_fault }
     {
         if let Some(special) = Special::named(name) {
@@ -165,7 +167,7 @@ impl<'a> Inherit<'a> {
     // The value of a name that isn't special.
     fn plain_value(&self, place: usize, name: &[u8]) -> Option<&[u8]>
         requires { place < length self.now.entries }
-        ensures value { option_map (λ value. value.now) result ≡ plain_value self.now place name.now }
+        ensures value { option_copied result ≡ plain_value self.now place name.now }
     {
         if !is_inherited(self.inherited, name) {
             return self.outline.entry(place).details.property(name);
@@ -179,7 +181,7 @@ impl<'a> Inherit<'a> {
     // The value of a special name.
     fn special_value(&self, place: usize, special: Special) -> Result<Option<Bytes>, Fault>
         requires { place < length self.now.entries }
-        ensures value { IfOk result (λ value. value ≡ special_value self.now place special) }
+        ensures value { Gives result (special_value self.now place special) }
         ensures memory { IsOkUnless result memory_fault }
     {
         match special {
@@ -193,7 +195,7 @@ impl<'a> Inherit<'a> {
     // All tags of a heading as they are written.
     fn all_tags_value(&self, place: usize) -> Result<Option<Bytes>, Fault>
         requires { place < length self.now.entries }
-        ensures value { IfOk result (λ value. value ≡ special_value self.now place AllTags) }
+        ensures value { Gives result (special_value self.now place AllTags) }
         ensures memory { IsOkUnless result memory_fault }
     {
         if self.outline.entry(place).head.is_none() {
@@ -205,7 +207,7 @@ impl<'a> Inherit<'a> {
     // What a heading's own lines say.
     fn own_value(&self, place: usize, value: HeadingValue) -> Result<Option<Bytes>, Fault>
         requires { place < length self.now.entries }
-        ensures value { IfOk result (λ found. found ≡ special_value self.now place (Own value)) }
+        ensures value { Gives result (special_value self.now place (Own value)) }
         ensures memory { IsOkUnless result memory_fault }
     {
         let entry = self.outline.entry(place);

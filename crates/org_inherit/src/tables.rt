@@ -1,8 +1,7 @@
 //! What the outline says of each entry, by its place.
 ghost use Rattle.std.specs.Prelude.{◌≡◌, ◌≤◌, ◌||◌, length, IfOk};
-ghost use Rattle.std.specs.List.{list_any};
 ghost use Rattle.org_inherit.specs.Hidden.{hides, of_parent};
-ghost use Rattle.org_inherit.specs.Tables.{all_passing, has_category, has_tags};
+ghost use Rattle.org_inherit.specs.Tables.{all_passing, has_category, has_tags, has_categories};
 ghost use Rattle.org_outline.specs.Places.{behind};
 
 use crate::hidden::hides;
@@ -23,7 +22,7 @@ impl Tables {
     pub(crate) fn of(alloc: Global, outline: &Outline) -> Result<Tables, AllocError>
         ensures hidden { IfOk result (λ tables. tables.hidden.items ≡ all_passing hides outline.now) }
         ensures tagged { IfOk result (λ tables. tables.tagged.items ≡ all_passing has_tags outline.now) }
-        ensures categories { IfOk result (λ tables. tables.has_categories ≡ list_any has_category outline.now) }
+        ensures categories { IfOk result (λ tables. tables.has_categories ≡ has_categories outline.now) }
     {
         let count = outline.count();
         let mut hidden = Vec::with_capacity(alloc, count)?;

@@ -1,10 +1,10 @@
 //! Tags of a heading.
-ghost use Rattle.std.specs.Prelude.{◌≡◌, ◌<◌, ◌++◌, length, fold, map, IfOk, OnOk, IsOkUnless};
-ghost use Rattle.std.specs.List.{flat_map};
+ghost use Rattle.std.specs.Prelude.{◌≡◌, ◌<◌, length, fold, map, OnOk, IsOkUnless, IfOk};
 ghost use Rattle.org_base.specs.Codes.{memory_fault};
+ghost use Rattle.org_base.specs.Results.{Gives};
 ghost use Rattle.org_base.specs.Spans.{bytes_in};
 ghost use Rattle.org_inherit.specs.Tables.{has_tags, one_passes};
-ghost use Rattle.org_inherit.specs.Tags.{own_tags, own_tags_at, lineage, with_tag, firsts, tags_text, tags_value, with_shown};
+ghost use Rattle.org_inherit.specs.Tags.{own_tags, lineage, with_tag, tags_text, tags_value, with_shown, tags_at};
 
 use crate::first_tags::FirstTags;
 use org_base::{Bytes, Fault, Span, Texts};
@@ -51,7 +51,7 @@ pub(crate) fn all_tags(
 ) -> Result<Texts, Fault>
     requires within { place < length outline.now }
     requires tagged { tagged ≡ one_passes has_tags outline.now place }
-    ensures value { IfOk result (λ tags. tags ≡ firsts (file_tags.now ++ flat_map (own_tags_at outline.now) (lineage outline.now place))) }
+    ensures value { Gives result (tags_at file_tags.now outline.now place) }
     ensures memory { IsOkUnless result memory_fault }
 {
     let mut tags = FirstTags::new(alloc);
@@ -68,7 +68,7 @@ pub(crate) fn all_tags(
 
 // Parts of an entry's text, copied.
 pub(crate) fn parts(alloc: Global, entry: &Entry, spans: &[Span]) -> Result<Texts, Fault>
-    ensures value { IfOk result (λ parts. parts ≡ map (bytes_in entry.now.text) spans.now) }
+    ensures value { Gives result (map (bytes_in entry.now.text) spans.now) }
     ensures memory { IsOkUnless result memory_fault }
 {
     let mut parts = Texts::new(alloc);
@@ -80,7 +80,7 @@ pub(crate) fn parts(alloc: Global, entry: &Entry, spans: &[Span]) -> Result<Text
 
 /// Tags as they are written, `:a:b:`; no tags have no text. Want of memory is its only refusal.
 pub fn tags_text(alloc: Global, tags: &Texts) -> Result<Bytes, AllocError>
-    ensures value { IfOk result (λ text. text ≡ tags_text tags.now) }
+    ensures value { Gives result (tags_text tags.now) }
 {
     let mut text = Vec::new(alloc);
     for place in 0..tags.count() {
@@ -103,7 +103,7 @@ fn push_tag(text: &mut Vec<u8>, tag: &[u8]) -> Result<(), AllocError>
 
 // The text of tags; None where there are none.
 pub(crate) fn tags_value(alloc: Global, tags: &Texts) -> Result<Option<Bytes>, AllocError>
-    ensures value { IfOk result (λ value. value ≡ tags_value tags.now) }
+    ensures value { Gives result (tags_value tags.now) }
 {
     if tags.count() == 0 {
         return Ok(None);

@@ -1,8 +1,7 @@
 //! Values of names in drawers.
 ghost use Rattle.std.specs.Prelude.{◌≡◌, ◌<◌, length};
-ghost use Rattle.std.specs.Option.{option_map, option_or};
-ghost use Rattle.org_base.specs.Properties.{value_in};
-ghost use Rattle.org_inherit.specs.Values.{nearest_value, front_value, is_inherited};
+ghost use Rattle.std.specs.Option.{option_copied};
+ghost use Rattle.org_inherit.specs.Values.{nearest_value, front_value, is_inherited, value_of_file};
 
 use org_base::Texts;
 use org_base::words::same_word;
@@ -12,7 +11,7 @@ use org_settings::Settings;
 // The own value of a name, else that of the nearest ancestor that has one, lent.
 pub(crate) fn nearest_value<'a>(outline: &'a Outline, place: usize, name: &[u8]) -> Option<&'a [u8]>
     requires { place < length outline.now }
-    ensures value { option_map (λ value. value.now) result ≡ nearest_value outline.now name.now place }
+    ensures value { option_copied result ≡ nearest_value outline.now name.now place }
 {
     let mut next = Some(place);
     while let Some(place) = next {
@@ -26,7 +25,7 @@ pub(crate) fn nearest_value<'a>(outline: &'a Outline, place: usize, name: &[u8])
 
 // What the drawer of the lines before the first heading gives, lent.
 pub(crate) fn front_value<'a>(outline: &'a Outline, name: &[u8]) -> Option<&'a [u8]>
-    ensures value { option_map (λ value. value.now) result ≡ front_value outline.now name.now }
+    ensures value { option_copied result ≡ front_value outline.now name.now }
 {
     if outline.count() == 0 {
         return None;
@@ -44,7 +43,7 @@ pub(crate) fn file_value<'a>(
     settings: &'a Settings,
     name: &[u8],
 ) -> Option<&'a [u8]>
-    ensures value { option_map (λ value. value.now) result ≡ option_or (front_value outline.now name.now) (value_in settings.now.properties name.now) }
+    ensures value { option_copied result ≡ value_of_file outline.now settings.now name.now }
 {
     match front_value(outline, name) {
         Some(value) => Some(value),

@@ -1,5 +1,5 @@
 -- The lines of an agenda (profile).
-use Rattle.std.specs.Prelude.{ℕ, ◌++◌, List, [], Option, None, Some, codes, decimal, map}
+use Rattle.std.specs.Prelude.{ℕ, ◌+◌, ◌++◌, List, [], Option, None, Some, codes, decimal, map}
 use Rattle.std.specs.List.{concat, range_with_len}
 use Rattle.org_agenda.specs.Days.{AgendaView, day_rows}
 use Rattle.org_agenda.specs.declared.row.Row.{Row}
@@ -45,6 +45,10 @@ abbrev pub columns_text : Columns → List ℕ
 columns_text Nothing = []
 columns_text (OfDay row) = day_columns row.now
 
+-- the line of a heading of a file, by their places, with these columns
+abbrev pub line_with : Columns → List Scope → ℕ → ℕ → List ℕ
+line_with columns scopes file i = row_line (columns_text columns) scopes file i
+
 -- the lines of a day's rows
 abbrev pub row_lines : List Scope → List Row → List ℕ
 row_lines scopes rows = concat (map (λ row. row_line (day_columns row) scopes row.file row.heading) rows)
@@ -56,6 +60,10 @@ day_line day = date_text day ++ codes " " ++ day_name (weekday_of day) ++ codes 
 -- a day's line and its rows
 unfoldable pub day_lines : List Scope → List Source → ℕ → ℕ → List ℕ
 day_lines scopes sources today day = day_line day ++ row_lines scopes (day_rows sources today day)
+
+-- those of the day so many days after an agenda's first
+abbrev pub lines_ahead : List Scope → AgendaView → ℕ → List ℕ
+lines_ahead scopes agenda ahead = day_lines scopes agenda.sources agenda.today (agenda.first + ahead)
 
 -- those of an agenda's days
 abbrev pub agenda_lines : List Scope → AgendaView → List ℕ

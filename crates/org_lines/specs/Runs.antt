@@ -1,5 +1,8 @@
 -- What a text lends of the lines that are still to come.
-use Rattle.std.specs.Prelude.{◌≡◌, ◌≢◌, ℕ, ◌+◌, ◌-◌, ◌<◌, ◌≤◌, List, length, take, drop, min, slice_index}
+use Rattle.std.specs.Cow.{cow_slice_items, IsBorrowedSlice}
+use Rattle.std.specs.declared.borrow.CowSlice.{CowSlice}
+use Rattle.std.specs.Global.{Global}
+use Rattle.std.specs.Prelude.{◌≡◌, ◌≢◌, ℕ, ◌+◌, ◌-◌, ◌<◌, ◌≤◌, List, length, take, drop, min, slice_index, ◌↔◌}
 use Rattle.std.specs.List.{slice_range}
 use Rattle.org_base.specs.declared.span.Span.{Span}
 
@@ -37,3 +40,7 @@ pub record EndsIn (run : List ℕ) (left len : ℕ) : Type 0 where
   pub within : len ≤ length run
   pub one : (k : ℕ) → k + 1 < len → slice_index run k ≢ 10
   pub ends : len < left → slice_index run (len - 1) ≡ 10
+
+-- bytes are lent if and only if they are no more than a run
+abbrev pub IsLentWithin : ℕ → CowSlice ℕ Global → Type 0
+IsLentWithin run bytes = IsBorrowedSlice bytes ↔ (length (cow_slice_items bytes) ≤ run)

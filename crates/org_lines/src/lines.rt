@@ -1,13 +1,15 @@
 //! An iterator over the lines of a part of a text.
-ghost use Rattle.std.specs.Prelude.{map, ◌≡◌, ◌≢◌, ◌+◌, ◌-◌, ◌^◌, ◌<◌, ◌≤◌, ◌↔◌, ℕ, [], ◌∷◌, length, slice_index, IfOk, IfErr, IfSome, IsTrue, None, MatchOption, MatchResult, IsOk, IsOkUnless};
+ghost use Rattle.std.specs.Prelude.{map, ◌≡◌, ◌≢◌, ◌+◌, ◌-◌, ◌^◌, ◌<◌, ◌≤◌, ◌↔◌, ℕ, [], length, slice_index, IfOk, IfErr, IfSome, None, IsOk, IsOkUnless};
 ghost use Rattle.std.specs.List.{slice_range, concat, All};
-ghost use Rattle.std.specs.Str.{IsUtf8, IsCharBoundary};
+ghost use Rattle.std.specs.Str.{IsUtf8};
 ghost use Rattle.std.specs.Cow.{cow_slice_items, IsBorrowedSlice};
 ghost use Rattle.std.specs.Iterator.{at_most};
+ghost use Rattle.org_base.specs.Results.{GivesItems};
+ghost use Rattle.org_base.specs.Spans.{bytes_in};
 ghost use Rattle.org_base.specs.declared.code.Code.TheVariants.{Memory};
 ghost use Rattle.org_base.specs.declared.fault.Fault.TheVariants.{Plain};
-ghost use Rattle.org_lines.specs.Cuts.{lines, cuts, starts};
-ghost use Rattle.org_lines.specs.Runs.{EndsIn, HasLongLine, IsFirstLine, IsRun, behind};
+ghost use Rattle.org_lines.specs.Cuts.{lines, cuts, starts, cuts_in, lines_in, IfUncut};
+ghost use Rattle.org_lines.specs.Runs.{EndsIn, HasLongLine, IsFirstLine, IsRun, behind, IsLentWithin};
 
 use memchr::memchr;
 use org_base::{Fault, Span};
@@ -38,13 +40,12 @@ pub struct Lines<'a, T: Text> {
 
 impl<'a, T: Text> Model for Lines<'a, T> {
     ghost use Rattle.std.specs.Prelude.{List, ◌+◌, ◌≤◌, ◌<◌, ◌^◌, length};
-    ghost use Rattle.std.specs.List.{slice_range};
-    ghost use Rattle.org_lines.specs.Cuts.{Cut, cuts, lines};
+    ghost use Rattle.org_lines.specs.Cuts.{Cut, cuts_in};
     ghost use Rattle.org_lines.specs.Runs.{IsRun};
 
     ghost Value = { List Cut };
 
-    ghost view = { λ s. cuts (T.run_len s.text.now) s.left.at (lines (slice_range (T.content s.text.now) s.left.at (s.left.at + s.left.len))) };
+    ghost view = { λ s. cuts_in (T.run_len s.text.now) (T.content s.text.now) s.left };
 
     ghost invariant = { λ s. record {
       within : s.left.at + s.left.len ≤ length (T.content s.text.now);
@@ -57,10 +58,10 @@ impl<'a, T: Text> Lines<'a, T> {
     /// The lines of the span: its bytes cut behind each line feed.
     pub fn new(alloc: Global, text: &'a T, span: Span) -> Lines<'a, T>
         requires { span.at + span.len ≤ length (T.content text.now) }
-        ensures cuts { result ≡ cuts (T.run_len text.now) span.at (lines (slice_range (T.content text.now) span.at (span.at + span.len))) }
-        ensures lines { map (λ c. c.bytes) result ≡ lines (slice_range (T.content text.now) span.at (span.at + span.len)) }
-        ensures joined { concat (map (λ c. c.bytes) result) ≡ slice_range (T.content text.now) span.at (span.at + span.len) }
-        ensures utf8 { IsCharBoundary (T.content text.now) span.at → IsCharBoundary (T.content text.now) (span.at + span.len) → All IsUtf8 (map (λ c. c.bytes) result) }
+        ensures cuts { result ≡ cuts_in (T.run_len text.now) (T.content text.now) span }
+        ensures lines { map (λ c. c.bytes) result ≡ lines_in (T.content text.now) span }
+        ensures joined { concat (map (λ c. c.bytes) result) ≡ bytes_in (T.content text.now) span }
+        ensures utf8 { IfUncut (T.content text.now) span (All IsUtf8 (map (λ c. c.bytes) result)) }
         ensures few { length result ≤ span.len }
     {
         let _len = text.len();
@@ -157,7 +158,7 @@ fn first_line<'a, T: Text>(
     requires fits { left.at + left.len < 2 ^ 32 }
     requires run { IsRun (T.run_len text.now) (T.content text.now) left run.now }
     ensures line { IfOk result (λ line. IsFirstLine (T.content text.now) left (cow_slice_items line)) }
-    ensures lent { IfOk result (λ line. IsBorrowedSlice line ↔ (length (cow_slice_items line) ≤ T.run_len text.now left.at)) }
+    ensures lent { IfOk result (IsLentWithin (T.run_len text.now left.at)) }
     ensures refused { IfErr result (λ _. HasLongLine (T.run_len text.now) (T.content text.now) left) }
     ensures memory { IsOkUnless result (Plain Memory) }
 {
@@ -189,7 +190,7 @@ fn len_in(run: &[u8], left: usize) -> Option<usize>
 #[tactic(auto, using(crate::proofs::RunLemmas::whole_run, crate::proofs::RunLemmas::short_run))]
 pub fn lent<T: Text>(text: &T, span: Span) -> Option<&[u8]>
     requires { span.at + span.len ≤ length (T.content text.now) }
-    ensures value { IfSome result (λ bytes. bytes.now ≡ slice_range (T.content text.now) span.at (span.at + span.len)) }
+    ensures value { IfSome result (λ bytes. bytes.now ≡ bytes_in (T.content text.now) span) }
     ensures none { result ≡ None → T.run_len text.now span.at < span.len }
 {
     let run = run_at(text, span);
@@ -202,7 +203,7 @@ pub fn lent<T: Text>(text: &T, span: Span) -> Option<&[u8]>
 /// Where the lines of the span begin. Want of memory is the only refusal.
 pub fn line_starts<T: Text>(alloc: Global, text: &T, span: Span) -> Result<Vec<u32>, Fault>
     requires { span.at + span.len ≤ length (T.content text.now) }
-    ensures starts { IfOk result (λ v. v.items ≡ starts span.at (lines (slice_range (T.content text.now) span.at (span.at + span.len)))) }
+    ensures starts { GivesItems result (starts span.at (lines_in (T.content text.now) span)) }
     ensures memory { IsOkUnless result (Plain Memory) }
 {
     let _len = text.len();

@@ -37,3 +37,7 @@ abbrev pub either : List Bool → List Bool → List Bool
 either before [] = []
 either [] (v ∷ vs) = v ∷ either [] vs
 either (b ∷ before) (v ∷ vs) = (b || v) ∷ either before vs
+
+-- for each item whether one of the tags meets it, or the verdict before says so
+abbrev pub verdicts_with : List Bool → List (List ℕ) → List Item → List Bool
+verdicts_with before tags items = either before (tag_verdicts tags items)

@@ -21,7 +21,7 @@ pub(crate) fn compares(
 ) -> bool
     requires searcher { searcher.old ≡ value_pattern (built_value_of value.now) }
     ensures value { result ≡ spec.compares moment (op_of op) text.now (built_value_of value.now) }
-    ensures same { searcher.new ≡ searcher.old }
+    ensures unchanged { searcher.new ≡ searcher.old }
 {
     match value {
         BuiltValue::Number(is_negative, whole, fraction) => {

@@ -1,7 +1,7 @@
 //! What an expression asks of a heading.
-ghost use Rattle.std.specs.Prelude.{◌≡◌, ℕ, Bool, List, Option, IfOk, IsOkUnless};
-ghost use Rattle.std.specs.Option.{option_map};
+ghost use Rattle.std.specs.Prelude.{◌≡◌, ℕ, Bool, List, Option, IsOkUnless, option_copied};
 ghost use Rattle.org_base.specs.Codes.{memory_fault};
+ghost use Rattle.org_base.specs.Results.{Gives};
 
 use org_base::{Bytes, Fault, Texts};
 use std::alloc::Global;
@@ -22,18 +22,18 @@ pub trait Facts {
 
     /// All tags of the heading, inherited ones too. Want of memory is its only refusal.
     fn tags(&self, alloc: Global) -> Result<Texts, Fault>
-        ensures value { IfOk result (λ found. found ≡ tags self.now) }
+        ensures value { Gives result (tags self.now) }
         ensures memory { IsOkUnless result memory_fault };
 
     /// The value of a name, if it isn't missing. Special names (Org manual 9.6, Special Properties) win over a
     /// drawer's; names ignore ASCII case. Want of memory is its only refusal.
     fn value(&self, alloc: Global, name: &[u8]) -> Result<Option<Bytes>, Fault>
-        ensures value { IfOk result (λ found. found ≡ value self.now name.now) }
+        ensures value { Gives result (value self.now name.now) }
         ensures memory { IsOkUnless result memory_fault };
 
     /// The keyword, if there is one.
     fn keyword(&self) -> Option<&[u8]>
-        ensures value { option_map (λ keyword. keyword.now) result ≡ keyword self.now };
+        ensures value { option_copied result ≡ keyword self.now };
 
     /// Whether the keyword is a done one.
     fn is_finished(&self) -> bool

@@ -1,10 +1,11 @@
 //! Whether an expression holds of a heading.
 ghost use Rattle.std.specs.Prelude.{◌≡◌, ◌&&◌, true, IfOk, IsOkUnless, map};
 ghost use Rattle.org_base.specs.Codes.{memory_fault};
-ghost use Rattle.org_match.specs.Holds as spec;
+ghost use Rattle.org_base.specs.Results.{Gives, GivesItems};
 ghost use Rattle.std.specs.List.{list_any};
-ghost use Rattle.org_match.specs.Verdicts.{ask_tags, either, meets, tag_verdicts};
-ghost use Rattle.org_match.specs.Holds.{tag_items};
+ghost use Rattle.org_match.specs.Facts.{holds_by, is_open_by, tag_item_holds_by, tag_items_hold_by, todo_items_hold_by};
+ghost use Rattle.org_match.specs.Verdicts.{ask_tags, meets, tag_verdicts, verdicts_with};
+ghost use Rattle.org_match.specs.Holds.{tag_items, todo_term_holds};
 ghost use Rattle.org_match.specs.Built.{built_item_of, built_term_of};
 
 use crate::built::{BuiltItem, BuiltTerm, Match};
@@ -31,9 +32,7 @@ impl<'a> Model for Matcher<'a> {
     ghost use Rattle.std.specs.Prelude.{◌≡◌};
     ghost use Rattle.org_expression.specs.Grammar.{Expr};
     ghost use Rattle.org_match.specs.Holds.{tag_items};
-    ghost use Rattle.std.specs.List.{list_any};
-    ghost use Rattle.org_match.specs.Verdicts.{ask_tags, either, meets, tag_verdicts};
-    ghost use Rattle.org_match.specs.Holds.{tag_items};
+    ghost use Rattle.org_match.specs.Verdicts.{ask_tags};
 
     ghost Value = { Expr };
 
@@ -57,7 +56,7 @@ impl Debug for Matcher<'_> {
 impl<'a> Matcher<'a> {
     /// The expression, with what searches for its patterns. Want of memory is its only refusal.
     pub fn new(alloc: Global, expression: &'a Match) -> Result<Matcher<'a>, Fault>
-        ensures value { IfOk result (λ matcher. matcher ≡ expression.now) }
+        ensures value { Gives result expression.now }
         ensures memory { IsOkUnless result memory_fault }
     {
         let asked = asked_of(alloc, expression.tags.as_slice())?;
@@ -84,8 +83,8 @@ impl<'a> Matcher<'a> {
         before: &[bool],
         tags: &T,
     ) -> Result<TermVerdicts, AllocError>
-        ensures value { IfOk result (λ verdicts. verdicts ≡ either before.now (tag_verdicts (T.list tags.now) (tag_items self.old))) }
-        ensures same { self.new ≡ self.old }
+        ensures value { Gives result (verdicts_with before.now (T.list tags.now) (tag_items self.old)) }
+        ensures unchanged { self.new ≡ self.old }
     {
         verdicts_of(alloc, before, tags, self.asked.as_mut_slice())
     }
@@ -98,9 +97,9 @@ impl<'a> Matcher<'a> {
         facts: &F,
         moment: &Moment,
     ) -> Result<bool, Fault>
-        ensures value { IfOk result (λ yes. yes ≡ spec.holds (F.tags facts.now) (F.value facts.now) (F.keyword facts.now) (F.finished facts.now) moment.now self.old) }
+        ensures value { Gives result (holds_by F.Facts facts.now moment.now self.old) }
         ensures memory { IsOkUnless result memory_fault }
-        ensures same { self.new ≡ self.old }
+        ensures unchanged { self.new ≡ self.old }
     {
         let tags = tags_if(alloc, facts, self.asks_tags)?;
         let verdicts = self.verdicts(alloc, &[], &tags)?;
@@ -116,9 +115,9 @@ impl<'a> Matcher<'a> {
         verdicts: &[bool],
     ) -> Result<bool, Fault>
         requires known { verdicts.now ≡ tag_verdicts (F.tags facts.now) (tag_items self.old) }
-        ensures value { IfOk result (λ yes. yes ≡ spec.holds (F.tags facts.now) (F.value facts.now) (F.keyword facts.now) (F.finished facts.now) moment.now self.old) }
+        ensures value { Gives result (holds_by F.Facts facts.now moment.now self.old) }
         ensures memory { IsOkUnless result memory_fault }
-        ensures same { self.new ≡ self.old }
+        ensures unchanged { self.new ≡ self.old }
     {
         let expression = self.expression;
         if expression.kind == Kind::Open && !is_open(facts) {
@@ -135,7 +134,7 @@ impl Match {
     /// Whether the expression holds of a heading at a moment (Org manual 9.6, Matching tags and properties). To ask of many
     /// headings, make a [`Matcher`] of it. Want of memory is its only refusal.
     pub fn test<F: Facts>(&self, alloc: Global, facts: &F, moment: Moment) -> Result<bool, Fault>
-        ensures value { IfOk result (λ yes. yes ≡ spec.holds (F.tags facts.now) (F.value facts.now) (F.keyword facts.now) (F.finished facts.now) moment self.now) }
+        ensures value { Gives result (holds_by F.Facts facts.now moment self.now) }
         ensures memory { IsOkUnless result memory_fault }
     {
         let mut matcher = Matcher::new(alloc, self)?;
@@ -145,7 +144,7 @@ impl Match {
 
 // The items, each with what searches for its pattern.
 fn asked_of<'a>(alloc: Global, items: &'a [BuiltItem]) -> Result<Vec<ItemMatcher<'a>>, AllocError>
-    ensures value { IfOk result (λ asked. asked.items ≡ map built_item_of items.now) }
+    ensures value { GivesItems result (map built_item_of items.now) }
 {
     let mut asked = Vec::new(alloc);
     for item in items {
@@ -173,8 +172,8 @@ fn verdicts_of<T: TagList>(
     tags: &T,
     items: &mut [ItemMatcher<'_>],
 ) -> Result<TermVerdicts, AllocError>
-    ensures value { IfOk result (λ verdicts. verdicts ≡ either before.now (tag_verdicts (T.list tags.now) items.old)) }
-    ensures same { items.new ≡ items.old }
+    ensures value { Gives result (verdicts_with before.now (T.list tags.now) items.old) }
+    ensures unchanged { items.new ≡ items.old }
 {
     let mut verdicts = TermVerdicts::new(alloc);
     for (place, item) in items.iter_mut().enumerate() {
@@ -205,9 +204,9 @@ fn tags_hold<F: Facts>(
     items: &mut [ItemMatcher<'_>],
 ) -> Result<bool, Fault>
     requires known { verdicts.now ≡ tag_verdicts (F.tags facts.now) items.old }
-    ensures value { IfOk result (λ yes. yes ≡ spec.items_hold (spec.tag_term_holds (F.tags facts.now) (F.value facts.now) moment.now) items.old) }
+    ensures value { Gives result (tag_items_hold_by F.Facts facts.now moment.now items.old) }
     ensures memory { IsOkUnless result memory_fault }
-    ensures same { items.new ≡ items.old }
+    ensures unchanged { items.new ≡ items.old }
 {
     let mut all = true;
     for (place, item) in items.iter_mut().enumerate() {
@@ -232,9 +231,9 @@ fn holds_too<F: Facts>(
     item: &mut ItemMatcher<'_>,
 ) -> Result<bool, Fault>
     requires met { is_met ≡ list_any (meets item.old) (F.tags facts.now) }
-    ensures value { IfOk result (λ yes. yes ≡ (all && spec.item_holds (spec.tag_term_holds (F.tags facts.now) (F.value facts.now) moment.now) item.old)) }
+    ensures value { Gives result (all && tag_item_holds_by F.Facts facts.now moment.now item.old) }
     ensures memory { IsOkUnless result memory_fault }
-    ensures same { item.new ≡ item.old }
+    ensures unchanged { item.new ≡ item.old }
 {
     if !all {
         return Ok(false);
@@ -244,14 +243,14 @@ fn holds_too<F: Facts>(
 
 // Whether a heading has a keyword that isn't done.
 fn is_open<F: Facts>(facts: &F) -> bool
-    ensures value { result ≡ spec.is_open (F.keyword facts.now) (F.finished facts.now) }
+    ensures value { result ≡ is_open_by F.Facts facts.now }
 {
     facts.keyword().is_some() && !facts.is_finished()
 }
 
 // Whether all keywords of some part between bars are the heading's, or aren't behind a minus.
 fn todo_holds<F: Facts>(facts: &F, items: &[BuiltItem]) -> bool
-    ensures value { result ≡ spec.items_hold (spec.todo_term_holds (F.keyword facts.now)) (map built_item_of items.now) }
+    ensures value { result ≡ todo_items_hold_by F.Facts facts.now (map built_item_of items.now) }
 {
     let mut all = true;
     for item in items {
@@ -270,7 +269,7 @@ fn todo_holds<F: Facts>(facts: &F, items: &[BuiltItem]) -> bool
 
 // Whether a term behind the slash holds.
 fn todo_term_holds<F: Facts>(facts: &F, term: &BuiltTerm) -> bool
-    ensures value { result ≡ spec.todo_term_holds (F.keyword facts.now) (built_term_of term.now) }
+    ensures value { result ≡ todo_term_holds (F.keyword facts.now) (built_term_of term.now) }
 {
     match term {
         BuiltTerm::Tag(name) => match facts.keyword() {

@@ -1,9 +1,11 @@
 //! Terms before the slash, with what searches for their patterns.
-ghost use Rattle.std.specs.Prelude.{◌≡◌, IfOk, IsOkUnless, bytes_eq};
+ghost use Rattle.std.specs.Prelude.{◌≡◌, IsOkUnless, bytes_eq};
 ghost use Rattle.std.specs.List.{list_any};
 ghost use Rattle.org_base.specs.Codes.{memory_fault};
+ghost use Rattle.org_base.specs.Results.{Gives};
 ghost use Rattle.org_match.specs.Verdicts.{meets};
 ghost use Rattle.org_match.specs.Built.{built_item_of};
+ghost use Rattle.org_match.specs.Facts.{tag_item_holds_by};
 ghost use Rattle.org_match.specs.Holds as spec;
 ghost use Rattle.org_match.specs.Patterns.{found};
 ghost use Rattle.org_expression.specs.Tree.{sign_of};
@@ -43,7 +45,7 @@ impl<'a> Model for ItemMatcher<'a> {
 impl<'a> ItemMatcher<'a> {
     // The item, with what searches for its pattern. Want of memory is its only refusal.
     pub(crate) fn new(alloc: Global, item: &'a BuiltItem) -> Result<ItemMatcher<'a>, AllocError>
-        ensures value { IfOk result (λ matcher. matcher ≡ built_item_of item.now) }
+        ensures value { Gives result (built_item_of item.now) }
     {
         let searcher = match item.term.pattern() {
             Some(pattern) => Some(pattern.searcher(alloc)?),
@@ -62,7 +64,7 @@ impl<'a> ItemMatcher<'a> {
     // Whether one of the tags is what the term asks for. A comparison asks for none.
     pub(crate) fn meets_one<T: TagList>(&mut self, tags: &T) -> bool
         ensures value { result ≡ list_any (meets self.old) (T.list tags.now) }
-        ensures same { self.new ≡ self.old }
+        ensures unchanged { self.new ≡ self.old }
     {
         match &self.item.term {
             BuiltTerm::Tag(name) => has_tag(tags, name.as_str().as_bytes()),
@@ -85,8 +87,8 @@ impl<'a> ItemMatcher<'a> {
         moment: Moment,
     ) -> Result<bool, Fault>
         requires met { is_met ≡ list_any (meets self.old) (F.tags facts.now) }
-        ensures value { IfOk result (λ yes. yes ≡ spec.item_holds (spec.tag_term_holds (F.tags facts.now) (F.value facts.now) moment) self.old) }
-        ensures same { self.new ≡ self.old }
+        ensures value { Gives result (tag_item_holds_by F.Facts facts.now moment self.old) }
+        ensures unchanged { self.new ≡ self.old }
         ensures memory { IsOkUnless result memory_fault }
     {
         let item = self.item;
@@ -129,7 +131,7 @@ fn has_tag<T: TagList>(tags: &T, name: &[u8]) -> bool
 // Whether the pattern is found in one of the tags.
 fn finds_tag<T: TagList>(tags: &T, searcher: &mut Searcher<'_>) -> bool
     ensures value { result ≡ list_any (found searcher.old) (T.list tags.now) }
-    ensures same { searcher.new ≡ searcher.old }
+    ensures unchanged { searcher.new ≡ searcher.old }
 {
     for place in 0..tags.tag_count() {
         if searcher.is_found(tags.tag(place)) {

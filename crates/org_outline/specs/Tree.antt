@@ -1,6 +1,6 @@
 -- The tree that the levels of entries give (Org Syntax, Headings and Sections; that levels may skip: Org manual 9.6,
 -- Headlines). An entry that is no heading has no level.
-use Rattle.std.specs.Prelude.{ℕ, zero, suc, ◌+◌, ◌-◌, Bool, true, false, nat_lt, nat_le, Option, Some, None, List, [], ◌∷◌, length, map, get_or}
+use Rattle.std.specs.Prelude.{ℕ, zero, suc, ◌+◌, ◌-◌, Bool, true, false, nat_lt, nat_le, Option, Some, None, List, [], ◌∷◌, length, map, get_or, ◌≡◌, ◌<◌, slice_index}
 use Rattle.std.specs.List.{range_with_len}
 use Rattle.org_outline.specs.Places.{greatest_below, least_from}
 
@@ -45,3 +45,7 @@ ancestors ls i = chain ls i i
 abbrev pub up_from : List (Option ℕ) → Option ℕ → List ℕ
 up_from ls None = []
 up_from ls (Some j) = j ∷ ancestors ls j
+
+-- the table has the subtree ends of the entries behind a place
+abbrev pub AreEndsBehind : List (Option ℕ) → ℕ → List ℕ → Type 0
+AreEndsBehind levels place ends = (k : ℕ) → place < k → k < length levels → slice_index ends k ≡ end_of levels k

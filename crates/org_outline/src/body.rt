@@ -1,7 +1,8 @@
 //! Entries with the table of their parents.
-ghost use Rattle.std.specs.Prelude.{◌≡◌, ◌<◌, ◌≤◌, ◌++◌, length, map, slice_index_or, IfOk, IfErr, OnOk};
+ghost use Rattle.std.specs.Prelude.{◌≡◌, ◌<◌, ◌≤◌, ◌++◌, length, slice_index_or, IfErr, OnOk};
 ghost use Rattle.std.specs.List.{splice};
-ghost use Rattle.org_outline.specs.Levels.{levels};
+ghost use Rattle.org_base.specs.Results.{Gives, GivesItems};
+ghost use Rattle.org_outline.specs.Levels.{levels, held_in};
 ghost use Rattle.org_outline.specs.Tree.{all_ends, end_of, parent};
 
 use crate::levels::{Levels, end_table, parent_table};
@@ -19,21 +20,21 @@ pub(crate) struct Body {
 }
 
 impl Model for Body {
-    ghost use Rattle.std.specs.Prelude.{◌≡◌, List, map};
+    ghost use Rattle.std.specs.Prelude.{◌≡◌, List};
     ghost use Rattle.org_entry.specs.declared.entry.Entry.{Entry};
-    ghost use Rattle.org_outline.specs.Levels.{levels};
+    ghost use Rattle.org_outline.specs.Levels.{held_in, levels};
     ghost use Rattle.org_outline.specs.Parents.{all_up_to_parent};
 
     ghost Value = { List Entry };
 
-    ghost view = { λ s. map (λ e. e.value) s.list.items };
+    ghost view = { λ s. held_in s.list.items };
 
-    ghost invariant = { λ s. s.parents.items ≡ all_up_to_parent (levels (map (λ e. e.value) s.list.items)) };
+    ghost invariant = { λ s. s.parents.items ≡ all_up_to_parent (levels (held_in s.list.items)) };
 }
 
 // Puts more entries at the end of a list.
 fn append(list: &mut Vec<Rc<Entry>>, more: &[Rc<Entry>]) -> Result<(), AllocError>
-    ensures ok { OnOk result (map (λ e. e.value) list.new.items ≡ map (λ e. e.value) list.old.items ++ map (λ e. e.value) more.now) }
+    ensures ok { OnOk result (held_in list.new.items ≡ held_in list.old.items ++ held_in more.now) }
 {
     for entry in more {
         list.push(entry.clone()?)?;
@@ -47,8 +48,8 @@ impl Body {
         alloc: Global,
         list: Vec<Rc<Entry>>,
     ) -> Result<Body, AllocFailed<Vec<Rc<Entry>>>>
-        ensures value { IfOk result (λ b. b ≡ map (λ e. e.value) list.items) }
-        ensures back { IfErr result (λ failed. map (λ e. e.value) failed.value.items ≡ map (λ e. e.value) list.items) }
+        ensures value { Gives result (held_in list.items) }
+        ensures back { IfErr result (λ failed. held_in failed.value.items ≡ held_in list.items) }
     {
         match parent_table(alloc, &Levels::of(&list)) {
             Ok(parents) => Ok(Body { list, parents }),
@@ -58,7 +59,7 @@ impl Body {
 
     // The list of the entries.
     pub(crate) fn into_list(self) -> Vec<Rc<Entry>>
-        ensures value { map (λ e. e.value) result.items ≡ self }
+        ensures value { held_in result.items ≡ self }
     {
         self.list
     }
@@ -72,7 +73,7 @@ impl Body {
     ) -> Result<Body, AllocError>
         requires order { range.start ≤ range.end }
         requires within { range.end ≤ length self.now }
-        ensures value { IfOk result (λ b. b ≡ splice self.now range.start range.end (map (λ e. e.value) entries.now)) }
+        ensures value { Gives result (splice self.now range.start range.end (held_in entries.now)) }
     {
         let mut list = Vec::new(alloc);
         append(&mut list, &self.list[..range.start])?;
@@ -116,7 +117,7 @@ impl Body {
 
     // The same of all entries, by their places.
     pub(crate) fn ends(&self, alloc: Global) -> Result<Vec<usize>, AllocError>
-        ensures value { IfOk result (λ ends. ends.items ≡ all_ends (levels self.now)) }
+        ensures value { GivesItems result (all_ends (levels self.now)) }
     {
         end_table(alloc, &Levels::of(&self.list))
     }

@@ -1,6 +1,7 @@
 //! Entries that are to be put into an outline.
-ghost use Rattle.std.specs.Prelude.{◌≡◌, [], ◌++◌, ◌∷◌, length, map, IfOk, IfErr, OnOk, OnErr, IsOkUnless};
+ghost use Rattle.std.specs.Prelude.{◌≡◌, [], ◌++◌, ◌∷◌, length, map, IfErr, OnOk, OnErr, IsOkUnless};
 ghost use Rattle.org_base.specs.Codes.{memory_fault};
+ghost use Rattle.org_base.specs.Results.{Gives};
 
 use org_base::Fault;
 use org_entry::Entry;
@@ -37,7 +38,7 @@ impl Entries {
 
     /// No entries, with room for so many. Want of memory is its only refusal.
     pub fn with_room(alloc: Global, count: usize) -> Result<Entries, Fault>
-        ensures value { IfOk result (λ entries. entries ≡ []) }
+        ensures value { Gives result [] }
         ensures memory { IsOkUnless result memory_fault }
     {
         let list = Vec::with_capacity(alloc, count)?;

@@ -1,9 +1,10 @@
 //! The levels of entries, and by them parents and subtree ends. Those of all entries are found in one pass that jumps along
 //! what is known already, so that it takes time linear in the entries.
-ghost use Rattle.std.specs.Prelude.{◌≡◌, ℕ, ◌<◌, length, map, slice_index, IfOk};
+ghost use Rattle.std.specs.Prelude.{◌≡◌, ℕ, ◌<◌, length, map, slice_index};
+ghost use Rattle.org_base.specs.Results.{GivesItems};
 ghost use Rattle.org_outline.specs.Levels.{level_of, levels};
 ghost use Rattle.org_outline.specs.Parents.{up_to_parent, all_up_to_parent};
-ghost use Rattle.org_outline.specs.Tree.{all_ends, end_of, ends, level_at};
+ghost use Rattle.org_outline.specs.Tree.{all_ends, end_of, ends, level_at, AreEndsBehind};
 
 use org_entry::Entry;
 use std::alloc::{AllocError, Global};
@@ -122,7 +123,7 @@ fn up_to_parent(levels: &Levels<'_>, parents: &[usize], place: usize) -> usize
 
 // The same of all entries, by their places.
 pub(crate) fn parent_table(alloc: Global, levels: &Levels<'_>) -> Result<Vec<usize>, AllocError>
-    ensures value { IfOk result (λ parents. parents.items ≡ all_up_to_parent levels.now) }
+    ensures value { GivesItems result (all_up_to_parent levels.now) }
 {
     let mut parents = Vec::with_capacity(alloc, levels.count())?;
     for place in 0..levels.count() {
@@ -136,7 +137,7 @@ pub(crate) fn parent_table(alloc: Global, levels: &Levels<'_>) -> Result<Vec<usi
 fn end_from(levels: &Levels<'_>, all_ends: &[usize], place: usize) -> usize
     requires within { place < length levels.now }
     requires count { length all_ends.now ≡ length levels.now }
-    requires later { (k : ℕ) → place < k → k < length levels.now → slice_index all_ends.now k ≡ end_of levels.now k }
+    requires later { AreEndsBehind levels.now place all_ends.now }
     ensures value { result ≡ end_of levels.now place }
 {
     let mut end = place + 1;
@@ -151,7 +152,7 @@ fn end_from(levels: &Levels<'_>, all_ends: &[usize], place: usize) -> usize
 
 // The subtree ends of all entries, by their places.
 pub(crate) fn end_table(alloc: Global, levels: &Levels<'_>) -> Result<Vec<usize>, AllocError>
-    ensures value { IfOk result (λ ends. ends.items ≡ all_ends levels.now) }
+    ensures value { GivesItems result (all_ends levels.now) }
 {
     let mut all_ends = vec![in alloc; 0; levels.count()]?;
     let mut place = levels.count();

@@ -1,9 +1,10 @@
 //! Entries of one text with the tree of their headings.
-ghost use Rattle.std.specs.Prelude.{◌≡◌, ◌<◌, ◌≤◌, [], length, map, slice_index_or, IfOk, IfErr, OnOk, OnErr, IsOkUnless};
+ghost use Rattle.std.specs.Prelude.{◌≡◌, ◌<◌, ◌≤◌, [], length, slice_index_or, IfOk, IfErr, OnOk, OnErr, IsOkUnless};
 ghost use Rattle.std.specs.List.{splice};
 ghost use Rattle.org_base.specs.Codes.{memory_fault};
+ghost use Rattle.org_base.specs.Results.{Gives, GivesItems};
 ghost use Rattle.org_base.specs.declared.code.Code.TheVariants.{Memory};
-ghost use Rattle.org_outline.specs.Levels.{levels};
+ghost use Rattle.org_outline.specs.Levels.{levels, held_in};
 ghost use Rattle.org_outline.specs.Tree.{all_ends, ancestors, end_of, parent};
 
 use crate::ancestors::Ancestors;
@@ -115,7 +116,7 @@ impl Outline {
     /// Where the subtrees of all entries end, by their places, in one pass over the entries. Want of memory is its only
     /// refusal.
     pub fn ends(&self, alloc: Global) -> Result<Vec<usize>, AllocError>
-        ensures value { IfOk result (λ ends. ends.items ≡ all_ends (levels self.now)) }
+        ensures value { GivesItems result (all_ends (levels self.now)) }
     {
         match &self.body {
             None => Ok(Vec::new(alloc)),
@@ -126,7 +127,7 @@ impl Outline {
     /// An equal outline, which later changes of this one don't reach, as changes of it don't reach this one. It takes
     /// the same time whatever the number of entries. Want of memory is its only refusal.
     pub fn share(&self) -> Result<Outline, Fault>
-        ensures value { IfOk result (λ outline. outline ≡ self.now) }
+        ensures value { Gives result self.now }
         ensures memory { IsOkUnless result memory_fault }
     {
         let body = match &self.body {
@@ -181,8 +182,8 @@ impl Outline {
 
 // The body of a list, to be shared. Want of memory hands the list back.
 fn shared(alloc: Global, list: Vec<Rc<Entry>>) -> Result<Rc<Body>, AllocFailed<Vec<Rc<Entry>>>>
-    ensures value { IfOk result (λ b. b.value ≡ map (λ e. e.value) list.items) }
-    ensures back { IfErr result (λ failed. map (λ e. e.value) failed.value.items ≡ map (λ e. e.value) list.items) }
+    ensures value { IfOk result (λ b. b.value ≡ held_in list.items) }
+    ensures back { IfErr result (λ failed. held_in failed.value.items ≡ held_in list.items) }
 {
     let body = Body::new(alloc, list)?;
     match Rc::new(alloc, body) {

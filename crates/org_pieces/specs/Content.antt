@@ -39,3 +39,7 @@ pub record IsBack (ps : List (List ℕ)) (at i : ℕ) (back : Option (List ℕ))
   pub bytes : drop at (concat ps) ≡ bytes_of back ++ concat (drop i ps)
   pub whole : i ≤ length ps
   pub next : i < length ps → at < sum_by length (take (i + 1) ps)
+
+-- the pieces have more bytes at their end, where these were joined to them
+abbrev pub IsWhereJoined : List (List ℕ) → List (List ℕ) → List ℕ → Bool → Type 0
+IsWhereJoined old new more joined = concat new ≡ concat old ++ where_joined joined more

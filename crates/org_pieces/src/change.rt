@@ -2,7 +2,7 @@
 ghost use Rattle.std.specs.Prelude.{◌≡◌, ◌+◌, ◌^◌, ◌<◌, ◌≤◌, ◌++◌, length, IfOk, OnOk, OnErr, string_bytes};
 ghost use Rattle.std.specs.List.{concat};
 ghost use Rattle.org_text.specs.Replace.{max_bytes, refusal_of, replace};
-ghost use Rattle.org_pieces.specs.Content.{bytes_of, where_joined};
+ghost use Rattle.org_pieces.specs.Content.{bytes_of, IsWhereJoined};
 
 use crate::cuts::{MOST_JOINED, back_of, front_of, run_of};
 use crate::piece::Piece;
@@ -14,7 +14,7 @@ use std::alloc::{AllocError, Global};
 // Joins bytes to the last of some pieces, if both are small together; says whether it did.
 fn join_to_last(alloc: Global, pieces: &mut Vec<Piece>, more: &[u8]) -> Result<bool, AllocError>
     requires { length more.now < 2 ^ 32 }
-    ensures { IfOk result (λ r. concat pieces.new.items ≡ concat pieces.old.items ++ where_joined r more.now) }
+    ensures { IfOk result (IsWhereJoined pieces.old.items pieces.new.items more.now) }
 {
     let Some(last) = pieces.pop() else {
         return Ok(false);

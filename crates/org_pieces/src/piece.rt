@@ -1,6 +1,7 @@
 //! A piece: a part of a block that never changes.
-ghost use Rattle.std.specs.Prelude.{◌≡◌, ◌+◌, ◌^◌, ◌<◌, ◌≤◌, ◌++◌, length, take, drop, false, IfOk, string_bytes};
+ghost use Rattle.std.specs.Prelude.{◌≡◌, ◌+◌, ◌^◌, ◌<◌, ◌≤◌, ◌++◌, length, take, drop, false, string_bytes};
 ghost use Rattle.std.specs.Rc.{rc_slice_items};
+ghost use Rattle.org_base.specs.Results.{Gives};
 
 use org_sequence::Measured;
 use std::alloc::{AllocError, Global};
@@ -82,7 +83,7 @@ impl Piece {
     pub(crate) fn of(alloc: Global, text: &str) -> Result<Piece, AllocError>
         requires some { 0 < length text.now }
         requires fits { length text.now < 2 ^ 32 }
-        ensures { IfOk result (λ p. p ≡ text.now) }
+        ensures { Gives result text.now }
     {
         let block = RcSlice::from_slice(alloc, text.as_bytes())?;
         Ok(Piece::of_block(block))
@@ -92,7 +93,7 @@ impl Piece {
     pub(crate) fn of_string(text: String) -> Result<Piece, AllocError>
         requires some { 0 < length (string_bytes text) }
         requires fits { length (string_bytes text) < 2 ^ 32 }
-        ensures { IfOk result (λ p. p ≡ string_bytes text) }
+        ensures { Gives result (string_bytes text) }
     {
         let block = RcSlice::from_vec(text.into_bytes())?;
         Ok(Piece::of_block(block))
@@ -101,7 +102,7 @@ impl Piece {
     // A block of these bytes and more.
     pub(crate) fn joined(&self, alloc: Global, more: &[u8]) -> Result<Piece, AllocError>
         requires fits { length self.now + length more.now < 2 ^ 32 }
-        ensures { IfOk result (λ p. p ≡ self.now ++ more.now) }
+        ensures { Gives result (self.now ++ more.now) }
     {
         let bytes = self.bytes();
         let mut block = Vec::with_capacity(alloc, bytes.len() + more.len())?;
@@ -130,7 +131,7 @@ impl Piece {
     pub(crate) fn front(&self, at: u32) -> Result<Piece, AllocError>
         requires some { 0 < at }
         requires within { at ≤ length self.now }
-        ensures { IfOk result (λ p. p ≡ take at self.now) }
+        ensures { Gives result (take at self.now) }
     {
         let block = self.block.clone()?;
         Ok(Piece {
@@ -144,7 +145,7 @@ impl Piece {
     #[tactic(auto, using(crate::proofs::Spans::back_span))]
     pub(crate) fn back(&self, at: u32) -> Result<Piece, AllocError>
         requires { at < length self.now }
-        ensures { IfOk result (λ p. p ≡ drop at self.now) }
+        ensures { Gives result (drop at self.now) }
     {
         let block = self.block.clone()?;
         Ok(Piece {

@@ -1,5 +1,8 @@
 -- Pieces of a text between separators (Org manual 9.6, Tag Inheritance and Setting Tags; which bytes are white space: profile).
-use Rattle.std.specs.Prelude.{ℕ, Bool, true, false, ◌||◌, ◌==◌, if◌then◌else◌, List, [], ◌∷◌, length}
+use Rattle.std.specs.Borrow.{Bor}
+use Rattle.std.specs.List.{slice_range}
+use Rattle.std.specs.Prelude.{ℕ, Bool, true, false, ◌||◌, ◌==◌, if◌then◌else◌, List, [], ◌∷◌, length, ◌≡◌, ◌++◌}
+use Rattle.org_base.specs.Results.{lent_in}
 use Rattle.org_base.specs.Words.{is_gap}
 
 -- x before the pieces: at true it is a piece of its own
@@ -29,3 +32,7 @@ words text = pieces 32 text
 -- a text that isn't empty, as a piece
 abbrev pub piece : List ℕ → List (List ℕ)
 piece p = if length p == 0 then [] else p ∷ []
+
+-- the pieces that references lend, with a part of a text behind them, if it isn't empty
+abbrev pub GainsPiece : List (Bor (List ℕ)) → List (Bor (List ℕ)) → List ℕ → ℕ → ℕ → Type 0
+GainsPiece old new text from to = lent_in new ≡ lent_in old ++ piece (slice_range text from to)

@@ -15,6 +15,16 @@ pub record FileSettings : Type 0 where
   pub properties : List Property
   pub default_priority : ℕ
 
+-- settings of these parts
+abbrev pub settings_with : List Keyword → List (List ℕ) → Option (List ℕ) → List Property → ℕ → FileSettings
+settings_with keywords file_tags category properties default_priority = record {
+  keywords = keywords;
+  file_tags = file_tags;
+  category = category;
+  properties = properties;
+  default_priority = default_priority;
+}
+
 -- what the first line says that says anything
 abbrev pub first_said : {X : Type 0} → (List ℕ → Option X) → List (List ℕ) → Option X
 first_said says [] = None

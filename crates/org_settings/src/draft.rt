@@ -1,6 +1,7 @@
 //! What setting lines have said so far.
-ghost use Rattle.std.specs.Prelude.{◌≡◌, ◌++◌, ◌==◌, if◌then◌else◌, map, length, IfOk, OnOk, IsOkUnless};
+ghost use Rattle.std.specs.Prelude.{◌≡◌, ◌++◌, ◌==◌, if◌then◌else◌, length, OnOk, IsOkUnless};
 ghost use Rattle.org_base.specs.Codes.{memory_fault};
+ghost use Rattle.org_base.specs.Results.{Gives, lent_in};
 ghost use Rattle.org_settings.specs.Keywords.{standard_keywords};
 ghost use Rattle.org_settings.specs.Draft.{nothing_said, with_line, ended};
 ghost use Rattle.org_settings.specs.SettingLines.{tags_in, category_in};
@@ -70,7 +71,7 @@ impl SettingsDraft {
 
     // What holds where no line says more.
     pub(crate) fn ended(self, alloc: Global) -> Result<Settings, AllocError>
-        ensures value { IfOk result (λ settings. settings ≡ ended self) }
+        ensures value { Gives result (ended self) }
     {
         let SettingsDraft {
             keywords,
@@ -87,7 +88,7 @@ impl SettingsDraft {
 
 // The keywords, or the standard ones where there are none.
 fn or_standard(alloc: Global, keywords: Keywords) -> Result<Keywords, AllocError>
-    ensures value { IfOk result (λ k. k ≡ if length keywords == 0 then standard_keywords else keywords) }
+    ensures value { Gives result (if length keywords == 0 then standard_keywords else keywords) }
 {
     if keywords.count() == 0 {
         Keywords::standard(alloc)
@@ -98,7 +99,7 @@ fn or_standard(alloc: Global, keywords: Keywords) -> Result<Keywords, AllocError
 
 // Puts texts at the end.
 fn push_all(texts: &mut Texts, more: &[&[u8]]) -> Result<(), Fault>
-    ensures ok { OnOk result (texts.new ≡ texts.old ++ map (λ x. x.now) more.now) }
+    ensures ok { OnOk result (texts.new ≡ texts.old ++ lent_in more.now) }
     ensures memory { IsOkUnless result memory_fault }
 {
     for text in more {
@@ -121,7 +122,7 @@ fn push_tags(alloc: Global, tags: &mut Texts, line: &[u8]) -> Result<(), Fault>
 
 // The category that a line names.
 fn category_in(alloc: Global, line: &[u8]) -> Result<Option<Bytes>, AllocError>
-    ensures value { IfOk result (λ category. category ≡ category_in line.now) }
+    ensures value { Gives result (category_in line.now) }
 {
     if !has_key(b"CATEGORY", line) {
         return Ok(None);

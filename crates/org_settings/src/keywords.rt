@@ -1,5 +1,6 @@
 //! The keywords of a file.
-ghost use Rattle.std.specs.Prelude.{◌≡◌, ◌<◌, [], map, length, IfOk, IfSome, OnOk};
+ghost use Rattle.std.specs.Prelude.{◌≡◌, ◌<◌, [], length, IfSome, OnOk};
+ghost use Rattle.org_base.specs.Results.{Gives, lent_in};
 ghost use Rattle.org_settings.specs.Keywords.{add_word, add_words, add_sequence, add_line, standard_keywords, is_keyword_line, keyword_place, keyword_done, keyword_first, keyword_word};
 
 use crate::pieces::words;
@@ -93,7 +94,7 @@ impl Keywords {
         is_done: bool,
         first: usize,
     ) -> Result<(), AllocError>
-        ensures ok { OnOk result (self.new ≡ add_words is_done first self.old (map (λ x. x.now) words.now)) }
+        ensures ok { OnOk result (self.new ≡ add_words is_done first self.old (lent_in words.now)) }
     {
         for word in words {
             self.add_word(alloc, word, is_done, first)?;
@@ -103,7 +104,7 @@ impl Keywords {
 
     // Adds the keywords of one more line.
     fn add_sequence(&mut self, alloc: Global, words: &[&[u8]]) -> Result<(), AllocError>
-        ensures ok { OnOk result (self.new ≡ add_sequence self.old (map (λ x. x.now) words.now)) }
+        ensures ok { OnOk result (self.new ≡ add_sequence self.old (lent_in words.now)) }
     {
         let first = self.count();
         let done = done_from(words);
@@ -152,7 +153,7 @@ impl Keywords {
 
     // The keywords of a file that names none: `TODO`, and `DONE` as done.
     pub(crate) fn standard(alloc: Global) -> Result<Keywords, AllocError>
-        ensures value { IfOk result (λ k. k ≡ standard_keywords) }
+        ensures value { Gives result standard_keywords }
     {
         let mut keywords = Keywords::new(alloc);
         let words: [&[u8]; 2] = [b"TODO", b"DONE"];

@@ -1,7 +1,7 @@
 //! Pieces of a text between separators.
-ghost use Rattle.std.specs.Prelude.{◌≡◌, ◌≤◌, ◌++◌, map, length, IfOk, OnOk};
-ghost use Rattle.std.specs.List.{slice_range};
-ghost use Rattle.org_settings.specs.Pieces.{is_between, piece, pieces, words};
+ghost use Rattle.std.specs.Prelude.{◌≡◌, ◌≤◌, length, IfOk, OnOk};
+ghost use Rattle.org_settings.specs.Pieces.{is_between, pieces, words, GainsPiece};
+ghost use Rattle.org_base.specs.Results.{lent_in};
 
 use std::alloc::{AllocError, Global};
 
@@ -21,7 +21,7 @@ fn push_piece<'a>(
 ) -> Result<(), AllocError>
     requires order { from ≤ to }
     requires within { to ≤ length text.now }
-    ensures ok { OnOk result (map (λ x. x.now) found.new.items ≡ map (λ x. x.now) found.old.items ++ piece (slice_range text.now from to)) }
+    ensures ok { OnOk result (GainsPiece found.old.items found.new.items text.now from to) }
 {
     if from < to {
         found.push(&text[from..to])?;
@@ -35,7 +35,7 @@ pub(crate) fn pieces<'a>(
     text: &'a [u8],
     also: u8,
 ) -> Result<Vec<&'a [u8]>, AllocError>
-    ensures value { IfOk result (λ v. map (λ x. x.now) v.items ≡ pieces also text.now) }
+    ensures value { IfOk result (λ v. lent_in v.items ≡ pieces also text.now) }
 {
     let mut found = Vec::new(alloc);
     let mut start = 0;
@@ -51,7 +51,7 @@ pub(crate) fn pieces<'a>(
 
 // The words of the text.
 pub(crate) fn words<'a>(alloc: Global, text: &'a [u8]) -> Result<Vec<&'a [u8]>, AllocError>
-    ensures value { IfOk result (λ v. map (λ x. x.now) v.items ≡ words text.now) }
+    ensures value { IfOk result (λ v. lent_in v.items ≡ words text.now) }
 {
     pieces(alloc, text, b' ')
 }

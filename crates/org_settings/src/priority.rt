@@ -1,5 +1,6 @@
 //! Priorities.
-ghost use Rattle.std.specs.Prelude.{◌≡◌, ◌≤◌, map, IfOk, IfSome, IsTrue};
+ghost use Rattle.std.specs.Prelude.{◌≡◌, ◌≤◌, IfOk, IfSome, IsTrue};
+ghost use Rattle.org_base.specs.Results.{Gives, lent_in};
 ghost use Rattle.org_settings.specs.Priority.{is_priority, priority_number, greatest_priority};
 ghost use Rattle.org_settings.specs.SettingLines.{default_of_three, default_of, default_in};
 
@@ -54,7 +55,7 @@ fn default_of_three(highest: &[u8], lowest: &[u8], default: &[u8]) -> Option<u8>
 }
 
 fn default_of(words: &[&[u8]]) -> Option<u8>
-    ensures value { result ≡ default_of (map (λ x. x.now) words.now) }
+    ensures value { result ≡ default_of (lent_in words.now) }
     ensures most { IfSome result (λ number. number ≤ greatest_priority) }
 {
     if words.len() == 3 {
@@ -66,7 +67,7 @@ fn default_of(words: &[&[u8]]) -> Option<u8>
 
 // The default priority that a setting line names, if it is the highest, lowest and default one.
 pub(crate) fn default_in(alloc: Global, line: &[u8]) -> Result<Option<u8>, AllocError>
-    ensures value { IfOk result (λ found. found ≡ default_in line.now) }
+    ensures value { Gives result (default_in line.now) }
     ensures most { IfOk result (λ found. IfSome found (λ number. number ≤ greatest_priority)) }
 {
     if !has_key(b"PRIORITIES", line) {

@@ -1,7 +1,8 @@
 //! The words of one keyword line.
-ghost use Rattle.std.specs.Prelude.{◌≡◌, ◌≤◌, ◌==◌, not, map, length};
+ghost use Rattle.std.specs.Prelude.{◌≡◌, ◌≤◌, ◌==◌, not, length};
 ghost use Rattle.std.specs.List.{prefix_len};
 ghost use Rattle.org_settings.specs.Keywords.{is_bar, without_parens, is_named, bar_place, named_until, done_from};
+ghost use Rattle.org_base.specs.Results.{lent_in};
 
 fn is_bar(word: &[u8]) -> bool
     ensures value { result ≡ is_bar word.now }
@@ -39,7 +40,7 @@ pub(crate) fn is_named(word: &[u8]) -> bool
 
 fn bar_place(words: &[&[u8]]) -> usize
     ensures within { result ≤ length words.now }
-    ensures value { result ≡ bar_place (map (λ x. x.now) words.now) }
+    ensures value { result ≡ bar_place (lent_in words.now) }
 {
     for (i, word) in words.iter().enumerate() {
         if is_bar(word) {
@@ -51,7 +52,7 @@ fn bar_place(words: &[&[u8]]) -> usize
 
 fn named_until(words: &[&[u8]]) -> usize
     ensures within { result ≤ length words.now }
-    ensures value { result ≡ named_until (map (λ x. x.now) words.now) }
+    ensures value { result ≡ named_until (lent_in words.now) }
 {
     let mut until = 0;
     for (i, word) in words.iter().enumerate() {
@@ -65,7 +66,7 @@ fn named_until(words: &[&[u8]]) -> usize
 // The place from which on the line's keywords are done.
 pub(crate) fn done_from(words: &[&[u8]]) -> usize
     ensures within { result ≤ length words.now }
-    ensures value { result ≡ done_from (map (λ x. x.now) words.now) }
+    ensures value { result ≡ done_from (lent_in words.now) }
 {
     let bar = bar_place(words);
     if bar < words.len() {

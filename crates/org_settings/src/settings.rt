@@ -1,10 +1,12 @@
 //! What the settings of a file say.
-ghost use Rattle.std.specs.Prelude.{◌≡◌, ◌<◌, ◌≤◌, length, option_map, Option, List, ℕ, IfOk, IfSome, IsOkUnless};
+ghost use Rattle.std.specs.Option.{option_copied};
+ghost use Rattle.std.specs.Prelude.{◌≡◌, ◌<◌, ◌≤◌, length, Option, IfSome, IsOkUnless};
 ghost use Rattle.org_base.specs.Codes.{memory_fault};
 ghost use Rattle.org_base.specs.Properties.{value_in};
+ghost use Rattle.org_base.specs.Results.{Gives};
 ghost use Rattle.org_settings.specs.Keywords.{keyword_place, keyword_done, keyword_first, keyword_word};
 ghost use Rattle.org_settings.specs.Priority.{greatest_priority};
-ghost use Rattle.org_settings.specs.Settings.{settings_of};
+ghost use Rattle.org_settings.specs.Settings.{settings_of, settings_with};
 
 use crate::draft::SettingsDraft;
 use crate::keywords::Keywords;
@@ -45,7 +47,7 @@ impl Settings {
         default_priority: u8,
     ) -> Settings
         requires most { default_priority ≤ greatest_priority }
-        ensures value { result ≡ record { keywords = keywords; file_tags = file_tags; category = category; properties = properties; default_priority = default_priority } }
+        ensures value { result ≡ settings_with keywords file_tags category properties default_priority }
     {
         Settings {
             keywords,
@@ -60,7 +62,7 @@ impl Settings {
     /// the done keyword `DONE`, no tags, no category, no
     /// properties, and the default priority B. Want of memory is the only refusal.
     pub fn of_lines(alloc: Global, lines: &Texts) -> Result<Settings, Fault>
-        ensures value { IfOk result (λ settings. settings ≡ settings_of lines.now) }
+        ensures value { Gives result (settings_of lines.now) }
         ensures memory { IsOkUnless result memory_fault }
     {
         let mut said = SettingsDraft::new(alloc);
@@ -112,7 +114,7 @@ impl Settings {
     /// The category that the file names first, which may be empty. None where it names none (Org manual 9.6,
     /// "Categories").
     pub fn category(&self) -> Option<&[u8]>
-        ensures value { option_map (λ x. x.now) result ≡ self.now.category }
+        ensures value { option_copied result ≡ self.now.category }
     {
         match &self.category {
             Some(category) => Some(category.as_slice()),
@@ -124,7 +126,7 @@ impl Settings {
     /// doesn't count. It is never refused, and takes time as the logarithm of the number of names (Org manual 9.6,
     /// "Property Syntax").
     pub fn property(&self, name: &[u8]) -> Option<&[u8]>
-        ensures value { option_map (λ x. x.now) result ≡ value_in self.now.properties name.now }
+        ensures value { option_copied result ≡ value_in self.now.properties name.now }
     {
         self.properties.get(name)
     }

@@ -1,6 +1,6 @@
 -- The pairs of a planning line, and the stamp of a clock line (Org Syntax, Planning and Clocks; that pairs are read up to
 -- what is no pair, and that letter case counts: profile).
-use Rattle.std.specs.Prelude.{ℕ, zero, suc, ◌+◌, ◌-◌, Bool, true, false, not, if◌then◌else◌, List, [], ◌∷◌, drop, Option, Some, None, codes, nat_eq}
+use Rattle.std.specs.Prelude.{ℕ, zero, suc, ◌+◌, ◌-◌, Bool, true, false, not, if◌then◌else◌, List, [], ◌∷◌, drop, Option, Some, None, codes, nat_eq, ◌≡◌, ◌≤◌, MatchOption, ◌<◌}
 use Rattle.std.specs.List.{prefix_len, starts_with}
 use Rattle.std.specs.Option.{option_and_then, option_map}
 use Rattle.org_stamp.specs.declared.pair.Pair.{Pair}
@@ -44,6 +44,19 @@ pairs_from [] at (suc inside) = []
 pairs_from (b ∷ bs) at zero =
     if is_space b then pairs_from bs (at + 1) 0 else pair_and at (pairs_from bs (at + 1)) (pair_at at (b ∷ bs))
 pairs_from (b ∷ bs) at (suc inside) = pairs_from bs (at + 1) inside
+
+-- the first of the pairs from a place of a line on, behind which come those from its end on; or there are none
+abbrev pub IsFirstPair : List ℕ → ℕ → Option Pair → Type 0
+IsFirstPair line at found =
+    MatchOption found (pairs_from (drop at line) at 0 ≡ []) (λ p. pairs_from (drop at line) at 0 ≡ p ∷ pairs_from (drop p.end line) p.end 0)
+
+-- a pair ends from a place on, and it and its first stamp no later than at a limit
+abbrev pub EndsFrom : ℕ → ℕ → Pair → Type 0
+EndsFrom at limit p = (at ≤ p.end) × (p.end ≤ limit) × (p.at + p.len ≤ limit)
+
+-- a pair ends behind a place, and it and its first stamp no later than at a limit
+abbrev pub EndsBehind : ℕ → ℕ → Pair → Type 0
+EndsBehind at limit p = (at < p.end) × (p.end ≤ limit) × (p.at + p.len ≤ limit)
 
 -- the pairs of a line
 abbrev pub pairs : List ℕ → List Pair

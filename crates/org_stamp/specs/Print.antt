@@ -67,6 +67,10 @@ day_text day = date_text day ++ 32 ∷ day_name (weekday_of day)
 abbrev pub single_text : Bool → ℕ → List ℕ → List ℕ
 single_text active day tail = open_of active ∷ (day_text day ++ (tail ++ close_of active ∷ []))
 
+-- the stamp, or of a range its first one
+abbrev pub first_text : Stamp → List ℕ
+first_text s = single_text s.active s.day (tail_text s)
+
 -- two dashes and the second stamp of a range
 abbrev pub last_text : Bool → Option (ℕ × Option ℕ) → List ℕ
 last_text active None = []
@@ -74,4 +78,4 @@ last_text active (Some last) = codes "--" ++ single_text active last.0 (times_te
 
 -- the printed form of a stamp
 abbrev pub stamp_text : Stamp → List ℕ
-stamp_text s = single_text s.active s.day (tail_text s) ++ last_text s.active s.last
+stamp_text s = first_text s ++ last_text s.active s.last

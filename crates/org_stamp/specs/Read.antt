@@ -1,11 +1,11 @@
 -- What the readers find at the front of bytes: a stamp and its length (Org manual 9.6, Timestamps). `specs/Stamp` has the
 -- grammar itself.
 -- Characters by their codes: 45 -, 60 <, 91 [.
-use Rattle.std.specs.Prelude.{ℕ, ◌+◌, Bool, true, false, ◌&&◌, ◌==◌, if◌then◌else◌, List, [], ◌∷◌, take, drop, get_or, Option, Some, None, position}
+use Rattle.std.specs.Prelude.{ℕ, ◌+◌, Bool, true, false, ◌&&◌, ◌==◌, if◌then◌else◌, List, [], ◌∷◌, take, drop, get_or, Option, Some, None, position, ◌≡◌, ◌≤◌, ◌++◌, length, IsSomeAnd}
 use Rattle.std.specs.Option.{option_map}
 use Rattle.org_stamp.specs.declared.stamp.Stamp.{Stamp}
 use Rattle.org_stamp.specs.Inner.{inner_of}
-use Rattle.org_stamp.specs.Stamp.{close_of, is_close, with_last}
+use Rattle.org_stamp.specs.Stamp.{close_of, is_close, with_last, IsSingle, IsStamp}
 
 -- the stamp whose bytes behind the opening bracket are these, with the first closing bracket at i
 abbrev pub closed : Bool → List ℕ → Option ℕ → Option (Stamp × ℕ)
@@ -49,3 +49,16 @@ ranged_len active n _ = n
 -- the longest stamp at the front
 abbrev pub stamp_of : List ℕ → Option (Stamp × ℕ)
 stamp_of bytes = option_map (λ found. ranged found.0 found.1 (drop found.1 bytes)) (single_of bytes)
+
+-- a stamp is read again where this text of it stands, if the grammar gives it at all
+abbrev pub IsReadAgain : Stamp → List ℕ → Type 0
+IsReadAgain s text = (bytes : List ℕ) → IsStamp bytes s → stamp_of text ≡ Some (s, length text)
+
+-- whatever stamp begins here is no longer than what was found, and is that where it is as long
+abbrev pub NoneIsLonger : List ℕ → Option (Stamp × ℕ) → Type 0
+NoneIsLonger text found = (bytes rest : List ℕ) (s : Stamp) → text ≡ bytes ++ rest → IsStamp bytes s →
+    IsSomeAnd found (λ f. (length bytes ≤ f.1) × (length bytes ≡ f.1 → s ≡ f.0))
+
+-- whatever stamp of one day begins here is what was found
+abbrev pub IsOnlySingle : List ℕ → Option (Stamp × ℕ) → Type 0
+IsOnlySingle text found = (bytes rest : List ℕ) (s : Stamp) → text ≡ bytes ++ rest → IsSingle bytes s → found ≡ Some (s, length bytes)

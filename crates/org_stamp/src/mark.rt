@@ -1,7 +1,7 @@
 //! Repeaters and delays.
 ghost use Rattle.std.specs.Prelude.{◌≡◌, ◌≤◌};
-ghost use Rattle.std.specs.Option.{option_map};
 ghost use Rattle.org_stamp.specs.Mark as spec;
+ghost use Rattle.org_base.specs.Results.{found_before};
 
 use org_cal::Unit;
 
@@ -68,7 +68,7 @@ pub(crate) fn unit_of(letter: u8) -> Option<Unit>
 fn amount_from(room: u8, n: u16, bytes: &[u8]) -> Option<((u16, Unit), &[u8])>
     requires few { room ≤ 3 }
     requires small { n ≤ spec.top room }
-    ensures value { option_map (λ found. (found.0, found.1.now)) result ≡ spec.amount_from room n bytes.now }
+    ensures value { found_before result ≡ spec.amount_from room n bytes.now }
 {
     match bytes {
         [] => None,
@@ -86,7 +86,7 @@ fn amount_from(room: u8, n: u16, bytes: &[u8]) -> Option<((u16, Unit), &[u8])>
 
 // One to four digits and a unit at the front, and what follows.
 fn amount(bytes: &[u8]) -> Option<((u16, Unit), &[u8])>
-    ensures value { option_map (λ found. (found.0, found.1.now)) result ≡ spec.amount bytes.now }
+    ensures value { found_before result ≡ spec.amount bytes.now }
 {
     match bytes {
         [b, rest @ ..] if b.is_ascii_digit() => amount_from(3, (*b - b'0') as u16, rest),
@@ -96,7 +96,7 @@ fn amount(bytes: &[u8]) -> Option<((u16, Unit), &[u8])>
 
 // What a mark begins with, and what follows.
 fn sign_at(word: &[u8]) -> Option<(Sign, &[u8])>
-    ensures value { option_map (λ found. (found.0, found.1.now)) result ≡ spec.sign_at word.now }
+    ensures value { found_before result ≡ spec.sign_at word.now }
 {
     match word {
         [b'+', b'+', rest @ ..] => Some((Sign::Repeats(RepeaterKind::Future), rest)),

@@ -1,5 +1,5 @@
 //! Planning lines and clock lines.
-ghost use Rattle.std.specs.Prelude.{◌≡◌, ◌+◌, ◌<◌, ◌≤◌, ◌^◌, [], ◌∷◌, length, drop, MatchOption, IfSome};
+ghost use Rattle.std.specs.Prelude.{◌≡◌, ◌+◌, ◌<◌, ◌≤◌, ◌^◌, length, drop, IfSome};
 ghost use Rattle.std.specs.List.{prefix_len};
 ghost use Rattle.org_base.specs.Words.{is_space};
 ghost use Rattle.org_stamp.specs.Pair as spec;
@@ -39,7 +39,7 @@ fn past_spaces(bytes: &[u8]) -> (usize, &[u8])
 fn pair_of(word: PlanningKeyword, at: usize, bytes: &[u8]) -> Option<Pair>
     requires { at + length bytes.now < 2 ^ 63 }
     ensures value { result ≡ spec.pair_of word at bytes.now }
-    ensures bound { IfSome result (λ p. (at ≤ p.end) × (p.end ≤ at + length bytes.now) × (p.at + p.len ≤ at + length bytes.now)) }
+    ensures bound { IfSome result (spec.EndsFrom at (at + length bytes.now)) }
 {
     let (stamp, len) = single_of(bytes)?;
     let all = ranged_len(stamp.active, len, &bytes[len..]);
@@ -56,7 +56,7 @@ fn pair_of(word: PlanningKeyword, at: usize, bytes: &[u8]) -> Option<Pair>
 fn pair_at(line: &[u8], at: usize) -> Option<Pair>
     requires { at ≤ length line.now }
     ensures value { result ≡ spec.pair_at at (drop at line.now) }
-    ensures bound { IfSome result (λ p. (at < p.end) × (p.end ≤ length line.now) × (p.at + p.len ≤ length line.now)) }
+    ensures bound { IfSome result (spec.EndsBehind at (length line.now)) }
 {
     let bytes = &line[at..];
     let (word, len) = word_at(bytes)?;
@@ -70,9 +70,8 @@ pub fn next_pair(line: &[u8], at: usize) -> Option<Pair>
     requires { at ≤ length line.now }
 
     // It is the first of the pairs from there on, and those behind it are the pairs from its end on.
-    ensures value { MatchOption result (spec.pairs_from (drop at line.now) at 0 ≡ [])
-        (λ p. spec.pairs_from (drop at line.now) at 0 ≡ p ∷ spec.pairs_from (drop p.end line.now) p.end 0) }
-    ensures bound { IfSome result (λ p. (at < p.end) × (p.end ≤ length line.now) × (p.at + p.len ≤ length line.now)) }
+    ensures value { spec.IsFirstPair line.now at result }
+    ensures bound { IfSome result (spec.EndsBehind at (length line.now)) }
 {
     let gap = leading_spaces(&line[at..]);
     pair_at(line, at + gap)

@@ -1,9 +1,10 @@
 //! Stamps as text.
-ghost use Rattle.std.specs.Prelude.{◌≡◌, ◌++◌, ◌∷◌, [], List, ℕ, OnOk, IfOk, IsOkUnless, Some, None, length, string_bytes};
+ghost use Rattle.std.specs.Prelude.{◌≡◌, ◌++◌, ◌∷◌, [], IfOk, IsOkUnless, Some, None, string_bytes};
 ghost use Rattle.org_base.specs.Codes.{memory_fault};
+ghost use Rattle.org_base.specs.Results.{GivesText, Writes};
 ghost use Rattle.org_stamp.specs.Print as spec;
-ghost use Rattle.org_stamp.specs.Read.{stamp_of};
-ghost use Rattle.org_stamp.specs.Stamp.{IsStamp, close_of, open_of};
+ghost use Rattle.org_stamp.specs.Read.{IsReadAgain};
+ghost use Rattle.org_stamp.specs.Stamp.{close_of, open_of};
 
 use crate::mark::{Delay, Repeater, RepeaterKind};
 use crate::stamp::Stamp;
@@ -24,7 +25,7 @@ fn letter(unit: Unit) -> char
 }
 
 fn push_amount(out: &mut String, n: u16, unit: Unit) -> Result<(), AllocError>
-    ensures ok { OnOk result (string_bytes out.new ≡ string_bytes out.old ++ spec.amount_text (n, unit)) }
+    ensures ok { Writes result out.old out.new (spec.amount_text (n, unit)) }
 {
     let letter = letter(unit);
     write!(out, "{n}{letter}")?;
@@ -36,7 +37,7 @@ fn push_times(
     time: Option<TimeOfDay>,
     end_time: Option<TimeOfDay>,
 ) -> Result<(), AllocError>
-    ensures ok { OnOk result (string_bytes out.new ≡ string_bytes out.old ++ spec.times_text time end_time) }
+    ensures ok { Writes result out.old out.new (spec.times_text time end_time) }
 {
     let Some(start) = time else {
         return Ok(());
@@ -51,7 +52,7 @@ fn push_times(
 }
 
 fn push_repeater(out: &mut String, repeater: Option<Repeater>) -> Result<(), AllocError>
-    ensures ok { OnOk result (string_bytes out.new ≡ string_bytes out.old ++ spec.repeater_text repeater) }
+    ensures ok { Writes result out.old out.new (spec.repeater_text repeater) }
 {
     let Some(found) = repeater else {
         return Ok(());
@@ -70,7 +71,7 @@ fn push_repeater(out: &mut String, repeater: Option<Repeater>) -> Result<(), All
 }
 
 fn push_delay(out: &mut String, delay: Option<Delay>) -> Result<(), AllocError>
-    ensures ok { OnOk result (string_bytes out.new ≡ string_bytes out.old ++ spec.delay_text delay) }
+    ensures ok { Writes result out.old out.new (spec.delay_text delay) }
 {
     let Some(found) = delay else {
         return Ok(());
@@ -80,7 +81,7 @@ fn push_delay(out: &mut String, delay: Option<Delay>) -> Result<(), AllocError>
 }
 
 fn push_tail(out: &mut String, stamp: &Stamp) -> Result<(), AllocError>
-    ensures ok { OnOk result (string_bytes out.new ≡ string_bytes out.old ++ spec.tail_text stamp.now) }
+    ensures ok { Writes result out.old out.new (spec.tail_text stamp.now) }
 {
     push_times(out, stamp.time, stamp.end_time)?;
     push_repeater(out, stamp.repeater)?;
@@ -88,7 +89,7 @@ fn push_tail(out: &mut String, stamp: &Stamp) -> Result<(), AllocError>
 }
 
 fn push_open(out: &mut String, active: bool) -> Result<(), AllocError>
-    ensures ok { OnOk result (string_bytes out.new ≡ string_bytes out.old ++ open_of active ∷ []) }
+    ensures ok { Writes result out.old out.new (open_of active ∷ []) }
 {
     out.push_str(if active { "<" } else { "[" })?;
     Ok(())
@@ -96,7 +97,7 @@ fn push_open(out: &mut String, active: bool) -> Result<(), AllocError>
 
 // The date and the name of the day.
 fn push_day(out: &mut String, day: Day) -> Result<(), AllocError>
-    ensures ok { OnOk result (string_bytes out.new ≡ string_bytes out.old ++ spec.day_text day) }
+    ensures ok { Writes result out.old out.new (spec.day_text day) }
 {
     push_date(out, day)?;
     out.push_str(" ")?;
@@ -106,7 +107,7 @@ fn push_day(out: &mut String, day: Day) -> Result<(), AllocError>
 
 // The opening bracket, the date and the name of the day.
 fn push_start(out: &mut String, active: bool, day: Day) -> Result<(), AllocError>
-    ensures ok { OnOk result (string_bytes out.new ≡ string_bytes out.old ++ open_of active ∷ spec.day_text day) }
+    ensures ok { Writes result out.old out.new (open_of active ∷ spec.day_text day) }
 {
     push_open(out, active)?;
     push_day(out, day)?;
@@ -114,15 +115,14 @@ fn push_start(out: &mut String, active: bool, day: Day) -> Result<(), AllocError
 }
 
 fn push_end(out: &mut String, active: bool) -> Result<(), AllocError>
-    ensures ok { OnOk result (string_bytes out.new ≡ string_bytes out.old ++ close_of active ∷ []) }
+    ensures ok { Writes result out.old out.new (close_of active ∷ []) }
 {
     out.push_str(if active { ">" } else { "]" })?;
     Ok(())
 }
 
 fn push_first(out: &mut String, stamp: &Stamp) -> Result<(), AllocError>
-    ensures ok { OnOk result (string_bytes out.new ≡ string_bytes out.old
-        ++ spec.single_text stamp.now.active stamp.now.day (spec.tail_text stamp.now)) }
+    ensures ok { Writes result out.old out.new (spec.first_text stamp.now) }
 {
     push_start(out, stamp.active, stamp.day)?;
     push_tail(out, stamp)?;
@@ -135,7 +135,7 @@ fn push_last(
     active: bool,
     last: Option<(Day, Option<TimeOfDay>)>,
 ) -> Result<(), AllocError>
-    ensures ok { OnOk result (string_bytes out.new ≡ string_bytes out.old ++ spec.last_text active last) }
+    ensures ok { Writes result out.old out.new (spec.last_text active last) }
 {
     let Some((day, time)) = last else {
         return Ok(());
@@ -150,9 +150,8 @@ fn push_last(
 /// one space between them; a range as two such stamps with two dashes between them (profile). What the grammar gives
 /// is read again as it was. `Memory` where memory is refused.
 pub fn print_stamp(alloc: Global, stamp: &Stamp) -> Result<String, Fault>
-    ensures value { IfOk result (λ text. string_bytes text ≡ spec.stamp_text stamp.now) }
-    ensures again { IfOk result (λ text. (bytes : List ℕ) → IsStamp bytes stamp.now
-        → stamp_of (string_bytes text) ≡ Some (stamp.now, length (string_bytes text))) }
+    ensures value { GivesText result (spec.stamp_text stamp.now) }
+    ensures again { IfOk result (λ text. IsReadAgain stamp.now (string_bytes text)) }
     ensures memory { IsOkUnless result memory_fault }
 {
     let mut out = String::new(alloc);

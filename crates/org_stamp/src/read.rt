@@ -1,10 +1,9 @@
 //! A stamp at a place of a line.
-ghost use Rattle.std.specs.Prelude.{◌≡◌, ◌+◌, ◌-◌, ◌≤◌, ◌<◌, ◌^◌, List, ℕ, ◌++◌, length, take, drop, position, Some, IfSome, IsSomeAnd};
+ghost use Rattle.std.specs.Prelude.{◌≡◌, ◌+◌, ◌-◌, ◌≤◌, ◌<◌, ◌^◌, length, take, drop, position, Some, IfSome};
 ghost use Rattle.std.specs.List.{position_or_len};
 ghost use Rattle.org_stamp.specs.Read as spec;
 ghost use Rattle.org_stamp.specs.CanPrint.{CanPrint};
 ghost use Rattle.org_stamp.specs.Stamp.{IsSingle, IsStamp, is_close, with_last};
-ghost use Rattle.org_stamp.specs.declared.stamp.Stamp.{Stamp as AnyStamp};
 
 use crate::inner::inner_of;
 use crate::stamp::Stamp;
@@ -19,8 +18,7 @@ pub fn read_stamp(line: &[u8], at: usize) -> Option<(Stamp, usize)>
     ensures found { IfSome result (λ found. IsStamp (take found.1 (drop at line.now)) found.0) }
 
     // Whatever stamp begins there is no longer than the answer, and is the answer where it is as long.
-    ensures longest { (bytes rest : List ℕ) (s : AnyStamp) → drop at line.now ≡ bytes ++ rest → IsStamp bytes s
-        → IsSomeAnd result (λ found. (length bytes ≤ found.1) × (length bytes ≡ found.1 → s ≡ found.0)) }
+    ensures longest { spec.NoneIsLonger (drop at line.now) result }
     ensures bounds { IfSome result (λ found. CanPrint found.0) }
 {
     let (_, rest) = line.split_at(at);
@@ -36,8 +34,7 @@ pub fn read_single(line: &[u8], at: usize) -> Option<(Stamp, usize)>
     ensures found { IfSome result (λ found. IsSingle (take found.1 (drop at line.now)) found.0) }
 
     // At most one begins there.
-    ensures only { (bytes rest : List ℕ) (s : AnyStamp) → drop at line.now ≡ bytes ++ rest → IsSingle bytes s
-        → result ≡ Some (s, length bytes) }
+    ensures only { spec.IsOnlySingle (drop at line.now) result }
     ensures bounds { IfSome result (λ found. CanPrint found.0) }
 {
     let (_, rest) = line.split_at(at);

@@ -1,5 +1,5 @@
 //! Words between white space.
-ghost use Rattle.std.specs.Prelude.{◌≡◌, ◌∷◌, [], ◌<◌, ◌≤◌, length, take, MatchOption, IfSome, not, drop};
+ghost use Rattle.std.specs.Prelude.{◌≡◌, ◌<◌, ◌≤◌, length, IfSome};
 ghost use Rattle.std.specs.List.{position_or_len, prefix_len};
 ghost use Rattle.org_base.specs.Words.{is_space};
 ghost use Rattle.org_stamp.specs.Word as spec;
@@ -29,8 +29,7 @@ fn word_len(bytes: &[u8]) -> usize
 
 // The first word of the bytes, and what follows it.
 pub(crate) fn next_word(bytes: &[u8]) -> Option<(&[u8], &[u8])>
-    ensures word { MatchOption result (spec.words bytes.now ≡ [])
-        (λ found. spec.words bytes.now ≡ found.0.now ∷ spec.words found.1.now) }
+    ensures word { spec.IsFirstWord bytes.now result }
     ensures shorter { IfSome result (λ found. length found.1.now < length bytes.now) }
 {
     let gap = leading_spaces(bytes);

@@ -5,6 +5,7 @@ use Rattle.org_entry.specs.declared.entry.Entry.{Entry}
 use Rattle.org_outline.specs.Levels.{level_of, levels}
 use Rattle.org_outline.specs.Laws.{is_above}
 use Rattle.org_outline.specs.Tree.{parent}
+use Rattle.org_sum.specs.Measures.{clock_minutes, effort_minutes}
 
 -- f 0 + f 1 + .., n terms
 abbrev pub sum_below : (ℕ → ℕ) → ℕ → ℕ
@@ -22,6 +23,10 @@ own_at f (e ∷ es) [] j = 0
 own_at f (e ∷ es) (c ∷ cs) zero = own f e c
 own_at f (e ∷ es) (c ∷ cs) (suc j) = own_at f es cs j
 
+-- what the entries before each place count, and at the end what all count
+abbrev pub sums_before : (Entry → ℕ) → List Entry → List Bool → List ℕ
+sums_before f es cs = map (sum_below (own_at f es cs)) (range_with_len 0 (length es + 1))
+
 -- the sum of heading i: over all headings that are i or have i as an ancestor, what they count
 abbrev pub subtree_sum : (Entry → ℕ) → List Entry → List Bool → ℕ → ℕ
 subtree_sum f es cs i = sum_below (λ j. if (j == i) || is_above (levels es) i j then own_at f es cs j else 0) (length es)
@@ -29,6 +34,14 @@ subtree_sum f es cs i = sum_below (λ j. if (j == i) || is_above (levels es) i j
 -- that of each entry
 abbrev pub subtree_sums : (Entry → ℕ) → List Entry → List Bool → List ℕ
 subtree_sums f es cs = map (subtree_sum f es cs) (range_with_len 0 (length es))
+
+-- the clock sums of all entries over some days
+abbrev pub clock_sums : ℕ × ℕ → List Entry → List Bool → List ℕ
+clock_sums days es cs = subtree_sums (clock_minutes days) es cs
+
+-- the effort sums of all entries
+abbrev pub effort_sums : List Entry → List Bool → List ℕ
+effort_sums es cs = subtree_sums effort_minutes es cs
 
 -- the parent is heading i
 abbrev pub is_parent : Option ℕ → ℕ → Bool

@@ -1,10 +1,10 @@
 //! Clock and effort sums of headings.
-ghost use Rattle.std.specs.Prelude.{◌≡◌, ◌+◌, ◌<◌, ◌≤◌, ◌^◌, length, map, IfOk, IsOkUnless};
-ghost use Rattle.std.specs.List.{range_with_len};
+ghost use Rattle.std.specs.Prelude.{◌≡◌, ◌<◌, ◌≤◌, ◌^◌, length, IsOkUnless};
 ghost use Rattle.org_base.specs.Codes.{memory_fault};
+ghost use Rattle.org_base.specs.Results.{GivesItems};
 ghost use Rattle.org_cal.specs.Periods.{days_of};
-ghost use Rattle.org_sum.specs.Sums.{own, own_at, subtree_sums, sum_below, total, whole_sum};
-ghost use Rattle.org_sum.specs.Measures.{amount, clock_minutes, effort_minutes};
+ghost use Rattle.org_sum.specs.Sums.{clock_sums, effort_sums, own, own_at, subtree_sums, sums_before, total, whole_sum};
+ghost use Rattle.org_sum.specs.Measures.{amount};
 ghost use Rattle.org_sum.specs.Texts.{AreOfText};
 
 use crate::measure::Measure;
@@ -69,7 +69,7 @@ fn sums_before(
 ) -> Result<Vec<u64>, AllocError>
     requires count { length counted.now ≡ length outline.now }
     requires small { total (amount measure.now) outline.now < 2 ^ 63 }
-    ensures value { IfOk result (λ v. v.items ≡ map (sum_below (own_at (amount measure.now) outline.now counted.now)) (range_with_len 0 (length outline.now + 1))) }
+    ensures value { GivesItems result (sums_before (amount measure.now) outline.now counted.now) }
 {
     let mut before = Vec::new(alloc);
     let mut sum = 0;
@@ -90,7 +90,7 @@ fn subtree_sums(
 ) -> Result<Vec<u64>, AllocError>
     requires count { length counted.now ≡ length outline.now }
     requires small { total (amount measure.now) outline.now < 2 ^ 63 }
-    ensures value { IfOk result (λ v. v.items ≡ subtree_sums (amount measure.now) outline.now counted.now) }
+    ensures value { GivesItems result (subtree_sums (amount measure.now) outline.now counted.now) }
 {
     let before = sums_before(alloc, measure, outline, counted)?;
     let ends = outline.ends(alloc)?;
@@ -111,7 +111,7 @@ pub fn clock_sums(
 ) -> Result<Vec<u64>, Fault>
     requires count { length counted.now ≡ length outline.now }
     requires text { AreOfText outline.now }
-    ensures value { IfOk result (λ sums. sums.items ≡ subtree_sums (clock_minutes (days_of period)) outline.now counted.now) }
+    ensures value { GivesItems result (clock_sums (days_of period) outline.now counted.now) }
     ensures memory { IsOkUnless result memory_fault }
 {
     let measure = Measure::Clocks(period);
@@ -124,7 +124,7 @@ pub fn clock_sums(
 pub fn effort_sums(alloc: Global, outline: &Outline, counted: &[bool]) -> Result<Vec<u64>, Fault>
     requires count { length counted.now ≡ length outline.now }
     requires text { AreOfText outline.now }
-    ensures value { IfOk result (λ sums. sums.items ≡ subtree_sums effort_minutes outline.now counted.now) }
+    ensures value { GivesItems result (effort_sums outline.now counted.now) }
     ensures memory { IsOkUnless result memory_fault }
 {
     let measure = Measure::Efforts;

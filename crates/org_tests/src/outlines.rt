@@ -1,5 +1,6 @@
 //! Entries, outlines and what headings inherit, over files that are read.
-ghost use Rattle.std.specs.Prelude.{◌≡◌, ◌+◌, ◌≤◌, [], ◌∷◌, length, IfOk};
+ghost use Rattle.std.specs.Prelude.{◌+◌, ◌≤◌, [], ◌∷◌, length};
+ghost use Rattle.org_base.specs.Results.{Gives};
 
 use org_base::{Bytes, Code, Fault, Meter, Span, Texts};
 use org_cal::{Day, Minute, TimeOfDay};
@@ -319,7 +320,7 @@ fn values(rt: HostRuntime) -> Result<(), Fail> {
 }
 
 fn both<'a>(alloc: Global, first: Inherit<'a>, second: Inherit<'a>) -> Result<Inherits<'a>, Fault>
-    ensures { IfOk result (λ inherits. inherits ≡ first.entry ∷ second.entry ∷ []) }
+    ensures { Gives result (first.entry ∷ second.entry ∷ []) }
 {
     let mut inherits = Inherits::new(alloc);
     inherits.push(first)?;

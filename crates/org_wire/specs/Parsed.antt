@@ -1,7 +1,9 @@
 -- What a line that was parsed without memory says.
 -- Characters by their codes: 32 space, 124 |.
 use Rattle.std.specs.Prelude.{◌≤◌, List, [], ℕ, Option, None, Some, length}
-use Rattle.std.specs.Option.{option_map}
+use Rattle.std.specs.Borrow.{Bor}
+use Rattle.std.specs.Option.{option_copied}
+use Rattle.org_wire.specs.Lines.{Cut}
 use Rattle.org_wire.specs.Stream.{Line, Bad, Plainly, Framed, words_from}
 use Rattle.org_wire.specs.declared.command.Command.TheVariants as command
 use Rattle.org_wire.specs.declared.command.Frame.TheVariants as frame
@@ -19,16 +21,28 @@ words_in gap (Some words) = words_from gap [] words
 abbrev pub seen_in : SeenWords → Seen
 seen_in seen = record { session = seen.session; name = seen.name.now; serial = seen.serial }
 
+-- what stands before a byte, and what follows it
+abbrev pub cut_of : Bor (List ℕ) × Bor (List ℕ) → Cut
+cut_of parts = record { before = parts.0.now; after = parts.1.now }
+
+-- a number, and what follows it
+abbrev pub number_and_rest : ℕ × Bor (List ℕ) → ℕ × List ℕ
+number_and_rest first = (first.0, first.1.now)
+
+-- what a session saw, and what follows it
+abbrev pub seen_and_rest : SeenWords × Bor (List ℕ) → Seen × List ℕ
+seen_and_rest seen = (seen_in seen.0, seen.1.now)
+
 -- what a parsed line says
 abbrev pub said : Parsed → Line
 said parsed.Bad = Bad
-said (parsed.Todo session words) = Plainly (command.Todo session (words_in 124 (option_map (λ words. words.now) words)))
+said (parsed.Todo session words) = Plainly (command.Todo session (words_in 124 (option_copied words)))
 said (parsed.Match session text) = Plainly (command.Match session text.now)
 said (parsed.Clock session text) = Plainly (command.Clock session text.now)
 said (parsed.Agenda session date days) = Plainly (command.Agenda session date.now days)
 said (parsed.Drop name) = Plainly (command.Drop name.now)
 said (parsed.Complete seen line keyword) = Plainly (command.Complete (seen_in seen) line keyword.now)
-said (parsed.Inherit names) = Plainly (command.Inherit (words_in 32 (option_map (λ words. words.now) names)))
+said (parsed.Inherit names) = Plainly (command.Inherit (words_in 32 (option_copied names)))
 said (parsed.At moment) = Plainly (command.At moment)
 said (parsed.Pin session) = Plainly (command.Pin session)
 said (parsed.Unpin session) = Plainly (command.Unpin session)

@@ -1,18 +1,19 @@
 -- A run: the replies to the commands of a stream, and the state after them (profile).
-use Rattle.std.specs.Prelude.{◌≡◌, List, [], ◌∷◌, ◌++◌, ℕ, Option, None, Some, flat_map}
+use Rattle.std.specs.Prelude.{◌≡◌, List, [], ◌∷◌, ◌++◌, ℕ, Option, None, Some, IfSome, flat_map}
 use Rattle.std.specs.Option.{option_to_list}
 use Rattle.std.specs.Io.KnownBytes.{Appends, Consumes}
 use Rattle.org_base.specs.Codes.{code_of, memory_fault}
-use Rattle.org_base.specs.declared.code.Code.TheVariants.{Device}
+use Rattle.org_base.specs.declared.code.Code.TheVariants.{Device, Memory}
 use Rattle.org_cal.specs.Faults.{date_fault}
 use Rattle.org_cal.specs.declared.moment.Moment.{Moment}
-use Rattle.org_engine.specs.World.{State}
+use Rattle.org_engine.specs.World.{EngineView, State}
 use Rattle.org_engine.specs.Questions.{AsksMatch, AsksOf, AsksTable, asked_agenda}
 use Rattle.org_engine.specs.Step as step
 use Rattle.org_wire.specs.Replies.{reply_bytes, fault_bytes}
 use Rattle.org_wire.specs.Stream.{reading_of, IsReplaceable, IsUnfinished}
 use Rattle.org_wire.specs.declared.command.Command.{Command}
 use Rattle.org_wire.specs.declared.command.Command.TheVariants.{Add, Agenda, At, Clock, Complete, Drop, Edit, Inherit, Match, Pin, Text, Todo, Unpin}
+use Rattle.org_wire.specs.declared.counted.Counted.{Counted}
 use Rattle.org_wire.specs.declared.command.Next.{Next}
 use Rattle.org_wire.specs.declared.command.Next.TheVariants.{Given, Refused, Last, Ended}
 use Rattle.org_wire.specs.declared.reply.Reply.{Reply}
@@ -28,7 +29,7 @@ moment_command (Some moment) = step.At moment
 -- the question for which a view stands, asked of the current world or of the one that a session keeps, on that one's day
 abbrev pub MeansView : (ℕ → step.Question → Type 0) → Option ℕ → State → step.Command → Type 0
 MeansView asks session s said =
-    (question : step.Question) × AsksOf asks (step.world_asked session s.world s.pins) question × (said ≡ step.Ask question session)
+    (question : step.Question) × AsksOf asks (step.world_for session s) question × (said ≡ step.Ask question session)
 
 -- the engine's command
 abbrev pub Means : Command → State → step.Command → Type 0
@@ -119,10 +120,19 @@ pub record IsFront (bytes : List ℕ) (old new : State) (had has : Option (List 
 abbrev pub broken : End
 broken = Stopped Device
 
+-- the end where there was no memory to begin with
+abbrev pub unbegun : End
+unbegun = Stopped Memory
+
 -- a run over a stream: the whole of it, or up to the first failed call
 pub record IsRun (bytes : List ℕ) (old : State) (end : End) (new : State) (had has : Option (List ℕ)) : Type 0 where
   pub whole : (end ≡ broken → ⊥) → IsWhole bytes old end new had has
   pub front : end ≡ broken → IsFront bytes old new had has
+
+-- the same of the known bytes of a stream, of a writer and of an engine
+abbrev pub IsRunOver : {W : Type 0} → (W → Option (List ℕ)) → Option (List ℕ) → Counted W → EngineView → End → Counted W → EngineView → Type 0
+IsRunOver contents stream had old end has new =
+    IfSome stream (λ bytes. IsRun bytes old.state end new.state (contents had.inner) (contents has.inner))
 
 -- all commands that are whole in the bytes taken were answered, and these are the bytes that the reader still holds
 pub record AnswersTaken (bytes : List ℕ) (old new : State) (had has held : Option (List ℕ)) : Type 0 where
@@ -133,3 +143,8 @@ pub record AnswersTaken (bytes : List ℕ) (old new : State) (had has held : Opt
   pub wrote : Appends had has (written answers)
   pub taken : Consumes (Some rest) held part
   pub ends : IsUnfinished (reading_of part).next
+
+-- the same of the known bytes of a stream, of those that its reader still holds, of a writer and of an engine
+abbrev pub AnswersAllTaken : {W : Type 0} → (W → Option (List ℕ)) → Option (List ℕ) → Counted W → EngineView → Option (List ℕ) → Counted W → EngineView → Type 0
+AnswersAllTaken contents stream had old held has new =
+    IfSome stream (λ bytes. AnswersTaken bytes old.state new.state (contents had.inner) (contents has.inner) held)

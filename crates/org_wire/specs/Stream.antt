@@ -243,11 +243,15 @@ after_line (Framed frame size) rest = if nat_lt max_bytes size then record { nex
     else if nat_lt (length rest) size then record { next = Last (Plain Cut); rest = [] }
     else record { next = Given (framed frame (take size rest)); rest = drop size rest }
 
+-- what comes next, behind the bytes of a line
+abbrev pub behind : List ℕ → List ℕ → Reading
+behind line = after_line (line_of line)
+
 -- what comes next on a stream that is cut at its first LF
 abbrev pub after_cut : Option lines.Cut → Reading
 after_cut None = record { next = Last (Plain Cut); rest = [] }
 after_cut (Some cut) = if nat_lt longest (length cut.before) then record { next = Refused (Plain Long); rest = cut.after }
-    else after_line (line_of cut.before) cut.after
+    else behind cut.before cut.after
 
 -- what comes next on a stream
 abbrev pub reading_of : List ℕ → Reading

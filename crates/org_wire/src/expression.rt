@@ -1,5 +1,6 @@
 //! The text of a match expression, or of a clock table's options, on a command's line.
-ghost use Rattle.std.specs.Prelude.{◌≡◌, ◌≤◌, IfOk, length};
+ghost use Rattle.std.specs.Prelude.{◌≡◌, ◌≤◌, length};
+ghost use Rattle.org_base.specs.Results.{Gives};
 ghost use Rattle.org_wire.specs.Lines.{longest};
 
 use std::alloc::{AllocError, Global};
@@ -26,7 +27,7 @@ impl Expression {
     // A copy of the text.
     pub(crate) fn new(alloc: Global, text: &str) -> Result<Expression, AllocError>
         requires { length text.now ≤ longest }
-        ensures { IfOk result (λ expression. expression ≡ text.now) }
+        ensures { Gives result text.now }
     {
         let text = String::from_str(alloc, text)?;
         Ok(Expression { text })

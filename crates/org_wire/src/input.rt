@@ -1,6 +1,5 @@
 //! What is read of a stream.
-ghost use Rattle.std.specs.Prelude.{◌≡◌, ◌<◌, ◌≤◌, [], ◌∷◌, ◌++◌, true, IfOk, IfErr, OnOk, Err, IfSome, List, ℕ, nat_le, IsOkUnless, length};
-ghost use Rattle.std.specs.Io.KnownBytes.{Consumes, Keeps};
+ghost use Rattle.std.specs.Prelude.{◌≡◌, ◌<◌, ◌≤◌, [], ◌∷◌, ◌++◌, true, IfOk, IfErr, OnOk, Err, nat_le, IsOkUnless, length};
 ghost use Rattle.org_base.specs.Codes.{memory_fault};
 
 use crate::command::{Command, Frame, Next, framed};
@@ -54,11 +53,10 @@ fn keep(bytes: &mut Vec<u8>, has_memory: bool, run: &[u8]) -> bool
 }
 
 impl<'a, R: Read> Input<'a, R> {
-    ghost use Rattle.org_wire.specs.Input.{left, held, ahead, CountsNext, NeverStopsForMemory};
-    ghost use Rattle.org_wire.specs.Steps.{CountsCall, ReadsLine, ReadsPayload, StaysAhead, StopsHere};
+    ghost use Rattle.org_wire.specs.Input.{ahead, CountsNext, NeverStopsForMemory, Reads, StopsShort};
+    ghost use Rattle.org_wire.specs.Steps.{CountsCall, StaysAhead, HasStopped, HoldsAll, IsReady, ReadsFrame, StopsInFrame, Takes, TakesFewer, TakesLine, TakesPayload};
     ghost use Rattle.org_wire.specs.Devices.{StaysBounded};
-    ghost use Rattle.org_wire.specs.declared.command.Frame.{Frame};
-    ghost use Rattle.org_wire.specs.Stream.{ReadsBy, StopsWithin, after_line, broken, line_of, reading_of, Framed};
+    ghost use Rattle.org_wire.specs.Stream.{broken, reading_of, behind};
 
     /// A stream over a reader. Want of memory for a line or for what is read ahead is its only refusal. The reader
     /// isn't called: a call would have to know that none has failed.
@@ -109,9 +107,9 @@ impl<'a, R: Read> Input<'a, R> {
     // Reads where nothing is there.
     fn make_ready(&mut self) -> Result<(), Stop>
         requires fresh { self.old.reader.now.failed ≡ 0 }
-        ensures there { OnOk result (Keeps (left R.remaining self.old) (left R.remaining self.new) × (0 < length self.new.room)) }
-        ensures stopped { IfErr result (λ stop. StopsHere stop (left R.remaining self.old) (left R.remaining self.new)) }
-        ensures failed { result ≡ Err Stop.Failed → Keeps (left R.remaining self.old) (held R.remaining self.new) }
+        ensures there { OnOk result (IsReady R.remaining self.old self.new) }
+        ensures stopped { IfErr result (HasStopped R.remaining self.old self.new) }
+        ensures failed { result ≡ Err Stop.Failed → HoldsAll R.remaining self.old self.new }
         ensures counted { CountsCall result self.old.reader.now self.new.reader.now }
         ensures falls { OnOk result (ahead self.new ≤ ahead self.old) }
         ensures bounded { StaysBounded self.old.reader.now.calls self.new.reader.now.calls }
@@ -134,9 +132,9 @@ impl<'a, R: Read> Input<'a, R> {
     // Takes the next byte.
     fn next_byte(&mut self) -> Result<u8, Stop>
         requires fresh { self.old.reader.now.failed ≡ 0 }
-        ensures taken { IfOk result (λ byte. Consumes (left R.remaining self.old) (left R.remaining self.new) (byte ∷ [])) }
-        ensures stopped { IfErr result (λ stop. StopsHere stop (left R.remaining self.old) (left R.remaining self.new)) }
-        ensures failed { result ≡ Err Stop.Failed → Keeps (left R.remaining self.old) (held R.remaining self.new) }
+        ensures taken { IfOk result (λ byte. Takes R.remaining self.old self.new (byte ∷ [])) }
+        ensures stopped { IfErr result (HasStopped R.remaining self.old self.new) }
+        ensures failed { result ≡ Err Stop.Failed → HoldsAll R.remaining self.old self.new }
         ensures counted { CountsCall result self.old.reader.now self.new.reader.now }
         ensures falls { OnOk result (ahead self.new < ahead self.old) }
         ensures bounded { StaysBounded self.old.reader.now.calls self.new.reader.now.calls }
@@ -151,8 +149,8 @@ impl<'a, R: Read> Input<'a, R> {
     // stream ends before an LF, what stands before the end is kept as such a line would be.
     pub(crate) fn read_line(&mut self) -> Result<LineEnd, Stop>
         requires fresh { self.old.reader.now.failed ≡ 0 }
-        ensures line { ReadsLine result (left R.remaining self.old) self.new.line (left R.remaining self.new) }
-        ensures failed { result ≡ Err Stop.Failed → StopsWithin reading_of (left R.remaining self.old) (held R.remaining self.new) }
+        ensures line { TakesLine R.remaining self.old result self.new }
+        ensures failed { result ≡ Err Stop.Failed → StopsShort R.remaining reading_of self.old self.new }
         ensures counted { CountsCall result self.old.reader.now self.new.reader.now }
         ensures falls { OnOk result (ahead self.new < ahead self.old) }
         ensures bounded { StaysBounded self.old.reader.now.calls self.new.reader.now.calls }
@@ -187,9 +185,8 @@ impl<'a, R: Read> Input<'a, R> {
     // Reads so many bytes, a run at a time. Where they find no memory they are read and thrown away, and there is no text.
     fn read_payload(&mut self, size: usize) -> Result<Option<Bytes>, Stop>
         requires fresh { self.old.reader.now.failed ≡ 0 }
-        ensures value { ReadsPayload result size (left R.remaining self.old) (left R.remaining self.new) }
-        ensures failed { result ≡ Err Stop.Failed → (taken : List ℕ) × Consumes (left R.remaining self.old) (held R.remaining self.new) taken
-            × (length taken < size) }
+        ensures value { TakesPayload R.remaining size self.old result self.new }
+        ensures failed { result ≡ Err Stop.Failed → TakesFewer R.remaining size self.old self.new }
         ensures counted { CountsCall result self.old.reader.now self.new.reader.now }
         ensures falls { OnOk result (ahead self.new ≤ ahead self.old) }
         ensures bounded { StaysBounded self.old.reader.now.calls self.new.reader.now.calls }
@@ -219,10 +216,8 @@ impl<'a, R: Read> Input<'a, R> {
     // The command of a frame, whose payload follows. Without a frame there was no memory for it.
     fn read_frame(&mut self, frame: Option<Frame>, size: u64) -> Next
         requires fresh { self.old.reader.now.failed ≡ 0 }
-        ensures value { (said : Frame) → IfSome frame (λ f. f ≡ said) →
-            ReadsBy (after_line (Framed said size)) (left R.remaining self.old) result (left R.remaining self.new) }
-        ensures failed { (said : Frame) → result ≡ broken →
-            StopsWithin (after_line (Framed said size)) (left R.remaining self.old) (held R.remaining self.new) }
+        ensures value { ReadsFrame R.remaining frame size self.old result self.new }
+        ensures failed { StopsInFrame R.remaining size self.old result self.new }
         ensures counted { CountsNext result self.old.reader.now self.new.reader.now }
         ensures falls { StaysAhead result (ahead self.old) (ahead self.new) }
         ensures last { NeverStopsForMemory result }
@@ -246,8 +241,8 @@ impl<'a, R: Read> Input<'a, R> {
     // The command of the line that was read, with its payload.
     pub(crate) fn read_whole(&mut self) -> Next
         requires fresh { self.old.reader.now.failed ≡ 0 }
-        ensures value { ReadsBy (after_line (line_of self.old.line)) (left R.remaining self.old) result (left R.remaining self.new) }
-        ensures failed { result ≡ broken → StopsWithin (after_line (line_of self.old.line)) (left R.remaining self.old) (held R.remaining self.new) }
+        ensures value { Reads R.remaining (behind self.old.line) self.old result self.new }
+        ensures failed { result ≡ broken → StopsShort R.remaining (behind self.old.line) self.old self.new }
         ensures counted { CountsNext result self.old.reader.now self.new.reader.now }
         ensures falls { StaysAhead result (ahead self.old) (ahead self.new) }
         ensures last { NeverStopsForMemory result }

@@ -1,8 +1,7 @@
 //! The engine's answers as replies, and its background steps.
 ghost use Rattle.std.specs.Prelude.{◌≡◌};
 ghost use Rattle.org_engine.specs.Questions.{IsShort};
-ghost use Rattle.org_engine.specs.Sections.{sections_asked};
-ghost use Rattle.org_file.specs.Counts.{AtMost};
+ghost use Rattle.org_engine.specs.Sections.{ReadsSomeAsked};
 ghost use Rattle.org_wire.specs.Run.{moment_command};
 ghost use Rattle.org_wire.specs.Turns.{CountsFor, Serves, ServesSurely, ServesView, told, told_text};
 ghost use Rattle.org_wire.specs.declared.command.Command.TheVariants.{Complete, Edit};
@@ -16,8 +15,8 @@ use org_text::Text;
 
 // Carries a command out.
 pub(crate) fn serve<T: Text>(engine: &mut Engine<T>, command: Command) -> Reply
-    ensures value { Serves command engine.old.state result engine.new.state }
-    ensures counts { CountsFor command engine.old.state engine.old.counts engine.new.counts }
+    ensures value { Serves command engine.old result engine.new }
+    ensures counts { CountsFor command engine.old engine.new }
 {
     match command {
         Command::Add(name, text) => told(engine.add_bytes(name.as_str(), text)),
@@ -62,7 +61,7 @@ fn told_text(outcome: Result<String, Fault>) -> Reply
 
 // Replaces bytes of the text that a session saw.
 fn edit<T: Text>(engine: &mut Engine<T>, seen: &Seen, at: u64, del: u64, ins: &[u8]) -> Reply
-    ensures value { Serves (Edit seen.now at del ins.now) engine.old.state result engine.new.state }
+    ensures value { Serves (Edit seen.now at del ins.now) engine.old result engine.new }
     ensures counts { engine.new.counts ≡ engine.old.counts }
 {
     told(engine.edit(seen.session, seen.name.as_str(), seen.serial, at, del, ins))
@@ -70,8 +69,8 @@ fn edit<T: Text>(engine: &mut Engine<T>, seen: &Seen, at: u64, del: u64, ins: &[
 
 // Completes a heading of the text that a session saw.
 fn complete<T: Text>(engine: &mut Engine<T>, seen: &Seen, line: u64, keyword: &str) -> Reply
-    ensures value { Serves (Complete seen.now line keyword.now) engine.old.state result engine.new.state }
-    ensures counts { CountsFor (Complete seen.now line keyword.now) engine.old.state engine.old.counts engine.new.counts }
+    ensures value { Serves (Complete seen.now line keyword.now) engine.old result engine.new }
+    ensures counts { CountsFor (Complete seen.now line keyword.now) engine.old engine.new }
 {
     told(engine.complete(seen.session, seen.name.as_str(), seen.serial, line, keyword))
 }
@@ -79,15 +78,15 @@ fn complete<T: Text>(engine: &mut Engine<T>, seen: &Seen, line: u64, keyword: &s
 // Asks for a view.
 fn ask<T: Text>(engine: &mut Engine<T>, view: View<'_>, session: Option<u64>) -> Reply
     requires short { IsShort view }
-    ensures value { ServesView view.entry session engine.old.state result engine.new.state }
-    ensures counts { AtMost (sections_asked session engine.old.state) engine.old.counts engine.new.counts }
+    ensures value { ServesView view.entry session engine.old result engine.new }
+    ensures counts { ReadsSomeAsked session engine.old engine.new }
 {
     told_text(engine.query(view, session))
 }
 
 // Asks for views at another moment from now on.
 fn set_moment<T: Text>(engine: &mut Engine<T>, moment: Option<Moment>) -> Reply
-    ensures value { ServesSurely (moment_command moment) engine.old.state result engine.new.state }
+    ensures value { ServesSurely (moment_command moment) engine.old result engine.new }
     ensures counts { engine.new.counts ≡ engine.old.counts }
 {
     match moment {

@@ -15,7 +15,7 @@ loop-place-preserved c =
     record {
       files = mapped_more (matching_of c.args.matcher.now c.args.moment.now) c.args.inherits.now c.loop-place.place c.get.result.now _ _ _ c.get.ensures.value
           (c.in_ok-file.ensures.value ∙ ap (λ (e : Expr). matching_of e c.args.moment.now c.get.result.now) inv.same) inv.files c.in_ok-push.ensures.items;
-      same = c.in_ok-file.ensures.same ∙ inv.same;
+      same = c.in_ok-file.ensures.unchanged ∙ inv.same;
     }
 
 pub returns-clause-value : goal.returns-clause-value

@@ -14,4 +14,4 @@ pub loop-place-preserved : goal.loop-place-preserved
 loop-place-preserved g c =
     let inv = c.loop-place.invariant in
     let miss = any_miss (found c.loop-place.searcher) _ c.loop-place.place c.tag.result.now inv.told c.tag.ensures.value (sym c.is_found.ensures.value ∙ c.if-is_found.false) in
-    record { same = c.is_found.ensures.same ∙ inv.same; told = rw c.is_found.ensures.same miss }
+    record { same = c.is_found.ensures.unchanged ∙ inv.same; told = rw c.is_found.ensures.unchanged miss }

@@ -10,5 +10,5 @@ test_with-requires g c = record {
   known =
       c.as_slice.ensures.value ∙ c.in_ok-verdicts.ensures.value ∙ either_none _
       ∙ verdicts_alike _ _ c.self.inside.asks_tags (tag_items c.args.self.now) (c.self.invariant.tags ∙ ap (λ (e : Expr). ask_tags (tag_items e)) c.self.view_is) c.in_ok-tags.ensures.value
-      ∙ ap (λ (e : Expr). tag_verdicts (g.F.Facts.tags c.args.facts.now) (tag_items e)) (sym c.in_ok-verdicts.ensures.same);
+      ∙ ap (λ (e : Expr). tag_verdicts (g.F.Facts.tags c.args.facts.now) (tag_items e)) (sym c.in_ok-verdicts.ensures.unchanged);
 }
