@@ -1,5 +1,5 @@
--- The rows of a day (Org manual 9.6, Timestamps; Deadlines and Scheduling; Weekly/daily agenda; kinds, delays and warnings:
--- profile).
+-- The rows of a day (Org manual 9.6, "Timestamps"; "Deadlines and Scheduling"; "Weekly/daily agenda"; kinds, delays and
+-- warnings: profile).
 use Rattle.std.specs.Prelude.{◌≡◌, ℕ, ◌≤◌, ◌+◌, ◌-◌, ◌*◌, ◌/◌, ◌==◌, nat_lt, nat_le, Bool, true, false, not, ◌&&◌, ◌||◌, if◌then◌else◌, List, [], ◌∷◌, ◌++◌, Option, Some, None, is_none, map}
 use Rattle.std.specs.List.{flat_map}
 use Rattle.org_cal.specs.declared.unit.Unit.{Unit as TimeUnit}

@@ -3,6 +3,7 @@ ghost use Rattle.std.specs.Prelude.{◌≡◌, ◌<◌, ◌-◌, nat_lt, ◌&&�
 ghost use Rattle.org_agenda.specs.Days.{days_in, delay_or, is_due, is_in_range, is_shown, kind_rows, numbers, occurs_delayed, occurs_later, range_times, source_rows, times};
 ghost use Rattle.org_agenda.specs.Results.{Gathers};
 ghost use Rattle.org_agenda.specs.declared.lists.TheConstants.{PRIORITIES};
+ghost use Rattle.org_agenda.specs.declared.shows.TheConstants.{DELAY_LIMIT};
 ghost use Rattle.org_repeat.specs.Decided.{occurs};
 
 use crate::buckets::Buckets;
@@ -13,10 +14,13 @@ use org_repeat::occurs_on;
 use org_stamp::{Delay, Stamp};
 use std::alloc::AllocError;
 
+// No delay has so many days: the largest number of years makes some 24 million.
+const DELAY_LIMIT: u32 = 30_000_000;
+
 // The days that so many units count as.
 pub(crate) fn days(unit: Unit, n: u16) -> u32
     ensures value { result ≡ days_in unit n }
-    ensures small { result < 30_000_000 }
+    ensures small { result < DELAY_LIMIT }
 {
     let n = n as u32;
     match unit {
@@ -38,7 +42,7 @@ fn occurs_delayed(stamp: &Stamp, delay: Option<Delay>, day: Day) -> bool
 }
 
 fn occurs_later(stamp: &Stamp, first_only: bool, later: u32, day: Day) -> bool
-    requires { later < 30_000_000 }
+    requires { later < DELAY_LIMIT }
     ensures value { result ≡ occurs_later first_only stamp.now later day }
 {
     match first_only {
@@ -79,7 +83,7 @@ fn is_in_range(stamp: &Stamp, last: Option<(Day, Option<TimeOfDay>)>, day: Day) 
 fn delay_of(other: u32, delay: Option<Delay>) -> u32
     requires { other < 100 }
     ensures value { result ≡ delay_or other delay }
-    ensures small { result < 30_000_000 }
+    ensures small { result < DELAY_LIMIT }
 {
     match delay {
         Some(delay) => days(delay.unit, delay.n),

@@ -1,6 +1,7 @@
 //! Stamps by the days on which they may give rows.
 ghost use Rattle.std.specs.Prelude.{◌≡◌, ℕ, ◌+◌, ◌<◌, ◌≤◌, Some, true, false, IfOk, OnOk, length, slice_get};
 ghost use Rattle.org_agenda.specs.Days.{is_due, occurs_delayed, occurs_later};
+ghost use Rattle.org_agenda.specs.declared.shows.TheConstants.{DELAY_LIMIT};
 ghost use Rattle.org_agenda.specs.declared.spread.TheConstants.{NEVER};
 ghost use Rattle.org_agenda.specs.Spread.{AreSpread, GiveMore, GivesNone, NoDayHas};
 ghost use Rattle.org_repeat.specs.Decided.{occurs};
@@ -8,13 +9,13 @@ ghost use Rattle.org_repeat.specs.Decided.{occurs};
 use crate::places::Places;
 use crate::shows::days;
 use crate::source::{Role, Source};
-use org_cal::Day;
+use org_cal::{Day, LAST_DAY};
 use org_repeat::first_on;
 use org_stamp::{Delay, Stamp};
 use std::alloc::{AllocError, Global};
 
 // A number past each day's.
-const NEVER: u32 = 3_652_060;
+const NEVER: u32 = LAST_DAY + 1;
 
 // The places of the stamps, given to those of so many days on which they may give rows.
 pub(crate) fn spread(
@@ -124,7 +125,7 @@ fn next_delayed(stamp: &Stamp, delay: Option<Delay>, from: u32) -> u32
 // The same where the base day alone is so many days later.
 fn next_but_base(stamp: &Stamp, later: u32, from: u32) -> u32
     requires from { (1 ≤ from) × (from ≤ NEVER) }
-    requires small { later < 30_000_000 }
+    requires small { later < DELAY_LIMIT }
     ensures late { from ≤ result }
     ensures none { NoDayHas (occurs_later true stamp.now later) from result }
 {
@@ -139,7 +140,7 @@ fn next_but_base(stamp: &Stamp, later: u32, from: u32) -> u32
 // The same where each occurrence is so many days later.
 fn next_later(stamp: &Stamp, later: u32, from: u32) -> u32
     requires from { (1 ≤ from) × (from ≤ NEVER) }
-    requires small { later < 30_000_000 }
+    requires small { later < DELAY_LIMIT }
     ensures late { from ≤ result }
     ensures none { NoDayHas (occurs_later false stamp.now later) from result }
 {

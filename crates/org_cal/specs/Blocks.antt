@@ -1,4 +1,4 @@
--- Blocks of time (Org manual 9.6, The clock table; weeks by ISO 8601). The years 1 to 9999 are the profile's.
+-- Blocks of time (Org manual 9.6, "The clock table"; weeks by ISO 8601). The years 1 to 9999 are the profile's.
 -- Characters by their codes: 45 -, 48 0.
 use Rattle.std.specs.Prelude.{ℕ, ◌+◌, ◌-◌, ◌*◌, ◌&&◌, ◌==◌, nat_le, if◌then◌else◌, List, [], ◌∷◌, Option, Some, None, codes}
 use Rattle.std.specs.Str.{bytes_eq}
@@ -7,6 +7,7 @@ use Rattle.org_cal.specs.Added.{month_index, day_of_month}
 use Rattle.org_cal.specs.Parts.{year_of, month_of}
 use Rattle.org_cal.specs.Texts.{two_digits, four_digits, day_of, date_of}
 use Rattle.org_cal.specs.Weeks.{monday_of, iso_year, iso_week}
+use Rattle.org_cal.specs.declared.day.TheConstants.{LAST_DAY, LAST_MONTH}
 
 -- a first and a last day
 abbrev pub Days : Type 0
@@ -15,7 +16,7 @@ Days = ℕ × ℕ
 -- so many months from a month on, which is counted from January of the year 0
 abbrev pub months_from : ℕ → ℕ → Option Days
 months_from index count =
-    if nat_le 12 index && nat_le (index + count) 120_000
+    if nat_le 12 index && nat_le (index + count) (LAST_MONTH + 1)
     then Some (day_of_month index 1, day_of_month (index + count - 1) 31) else None
 
 -- the month of a day
@@ -36,7 +37,7 @@ quarter_block y q = if nat_le 1 q && nat_le q 4 then months_from (12 * y + 3 * (
 
 -- the seven days from a Monday on
 abbrev pub week_from : ℕ → Option Days
-week_from monday = if nat_le 1 monday && nat_le (monday + 6) 3_652_059 then Some (monday, monday + 6) else None
+week_from monday = if nat_le 1 monday && nat_le (monday + 6) LAST_DAY then Some (monday, monday + 6) else None
 
 -- the week of a Monday, if it is the year's week w
 abbrev pub week_called : ℕ → ℕ → ℕ → Option Days
@@ -48,7 +49,7 @@ week_block y w = option_and_then (λ fourth. week_called y w (monday_of fourth +
 
 -- one day of the years 1 to 9999
 abbrev pub day_block : ℕ → Option Days
-day_block day = if nat_le 1 day && nat_le day 3_652_059 then Some (day, day) else None
+day_block day = if nat_le 1 day && nat_le day LAST_DAY then Some (day, day) else None
 
 -- YYYY-MM, or YYYY-Q1 to YYYY-Q4
 abbrev pub part_of_year : ℕ → ℕ → ℕ → Option Days

@@ -1,4 +1,4 @@
--- Laws of days, weeks and blocks of time (Gregorian calendar; ISO 8601, week dates; Org manual 9.6, The clock table).
+-- Laws of days, weeks and blocks of time (Gregorian calendar; ISO 8601, week dates; Org manual 9.6, "The clock table").
 use Rattle.std.specs.Prelude.{◌≡◌, ◌↔◌, ◌⊎◌, ℕ, ◌+◌, ◌<◌, ◌≤◌, List, Some}
 use Rattle.std.specs.Int.{IsInRange}
 use Rattle.org_cal.specs.Blocks.{block_of}

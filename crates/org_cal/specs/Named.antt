@@ -1,5 +1,5 @@
--- Blocks of time without the reader's steps: what a text names, and which days lie there (Org manual 9.6, The clock
--- table; weeks by ISO 8601). The years 1 to 9999 are the profile's.
+-- Blocks of time without the reader's steps: what a text names, and which days lie there (Org manual 9.6, "The clock
+-- table"; weeks by ISO 8601). The years 1 to 9999 are the profile's.
 use Rattle.std.specs.Prelude.{◌≡◌, ◌↔◌, ℕ, ◌+◌, ◌-◌, ◌*◌, ◌<◌, ◌≤◌, List, [], ◌∷◌, ◌++◌, codes}
 use Rattle.org_cal.specs.Days.{IsDay}
 use Rattle.org_cal.specs.Parts.{year_of, month_of}

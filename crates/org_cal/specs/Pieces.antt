@@ -1,4 +1,4 @@
--- A period cut into pieces: whole, into its days, or before its Mondays (Org manual 8.4.2, The clock table).
+-- A period cut into pieces: whole, into its days, or before its Mondays (Org manual 9.6, "The clock table").
 use Rattle.std.specs.Prelude.{◌≡◌, ◌≢◌, ◌⊎◌, ℕ, zero, suc, ◌+◌, ◌-◌, ◌<◌, ◌≤◌, min, nat_lt, if◌then◌else◌, List, [], ◌∷◌}
 use Rattle.std.specs.List.{AllByRecursion}
 use Rattle.org_cal.specs.declared.steps.Step.{Step}

@@ -1,4 +1,4 @@
--- Times of day and days as texts, by cases on the bytes (Org manual 9.6, Timestamps).
+-- Times of day and days as texts, by cases on the bytes (Org manual 9.6, "Timestamps").
 -- Characters by their codes: 45 -, 48 0, 58 :.
 use Rattle.std.specs.Prelude.{ℕ, ◌+◌, ◌-◌, ◌*◌, ◌/◌, ◌%◌, ◌++◌, Bool, ◌&&◌, ◌==◌, nat_lt, nat_le, if◌then◌else◌, List, [], ◌∷◌, Option, Some, None, pos, codes, ◌≡◌, ◌⊎◌}
 use Rattle.std.specs.Option.{option_and_then, option_map}

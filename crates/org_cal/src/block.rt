@@ -1,18 +1,19 @@
 //! Blocks of time by their names.
 ghost use Rattle.std.specs.Prelude.{◌≡◌, ◌^◌, ◌<◌, ◌≤◌};
 ghost use Rattle.std.specs.Option.{option_map};
-ghost use Rattle.org_cal.specs.Added as Added;
-ghost use Rattle.org_cal.specs.Blocks as blocks;
+ghost use Rattle.org_cal.specs.Added.{day_of_month};
+ghost use Rattle.org_cal.specs.Blocks.{block_of, dated_block, day_block, month_block, months_from, part_of_year, quarter_block, this_month, week_block, week_from, year_block};
 ghost use Rattle.org_cal.specs.Periods.{days_of};
+ghost use Rattle.org_cal.specs.declared.day.TheConstants.{LAST_MONTH};
 
-use crate::day::Day;
+use crate::day::{Day, LAST_MONTH};
 use crate::digits::{four_digits, two_digits};
 use crate::period::Period;
 use jiff_core::civil;
 
 // The block that a text names on a day.
 pub(crate) fn named(text: &[u8], today: Day) -> Option<Period>
-    ensures value { option_map days_of result ≡ blocks.block_of text.now today }
+    ensures value { option_map days_of result ≡ block_of text.now today }
 {
     if text == b"today".as_slice() {
         day_block(today.number())
@@ -37,7 +38,7 @@ pub(crate) fn named(text: &[u8], today: Day) -> Option<Period>
 
 // `YYYY`, `YYYY-MM`, `YYYY-Qn`, `YYYY-Www` or `YYYY-MM-DD`.
 fn dated_block(text: &[u8]) -> Option<Period>
-    ensures value { option_map days_of result ≡ blocks.dated_block text.now }
+    ensures value { option_map days_of result ≡ dated_block text.now }
 {
     match text {
         [a, b, c, d] => year_block(four_digits(*a, *b, *c, *d)?),
@@ -53,7 +54,7 @@ fn dated_block(text: &[u8]) -> Option<Period>
 // `MM`, or `Q1` to `Q4`.
 fn part_of_year(year: u16, m: u8, n: u8) -> Option<Period>
     requires { year < 10_000 }
-    ensures value { option_map days_of result ≡ blocks.part_of_year year m n }
+    ensures value { option_map days_of result ≡ part_of_year year m n }
 {
     if m == b'Q' {
         quarter_block(year, two_digits(b'0', n)?)
@@ -63,13 +64,13 @@ fn part_of_year(year: u16, m: u8, n: u8) -> Option<Period>
 }
 
 fn year_block(year: u16) -> Option<Period>
-    ensures value { option_map days_of result ≡ blocks.year_block year }
+    ensures value { option_map days_of result ≡ year_block year }
 {
     months_from(12 * year as u32, 12)
 }
 
 fn quarter_block(year: u16, quarter: u8) -> Option<Period>
-    ensures value { option_map days_of result ≡ blocks.quarter_block year quarter }
+    ensures value { option_map days_of result ≡ quarter_block year quarter }
 {
     if quarter < 1 || quarter > 4 {
         return None;
@@ -78,7 +79,7 @@ fn quarter_block(year: u16, quarter: u8) -> Option<Period>
 }
 
 fn month_block(year: u16, month: u8) -> Option<Period>
-    ensures value { option_map days_of result ≡ blocks.month_block year month }
+    ensures value { option_map days_of result ≡ month_block year month }
 {
     if month < 1 || month > 12 {
         return None;
@@ -88,7 +89,7 @@ fn month_block(year: u16, month: u8) -> Option<Period>
 
 // The week of a year (ISO 8601): the week with 4 January is the first.
 fn week_block(year: u16, week: u8) -> Option<Period>
-    ensures value { option_map days_of result ≡ blocks.week_block year week }
+    ensures value { option_map days_of result ≡ week_block year week }
 {
     let fourth = Day::made(year, 1, 4)?;
     let weeks = week.saturating_sub(1) as u32;
@@ -101,7 +102,7 @@ fn week_block(year: u16, week: u8) -> Option<Period>
 }
 
 fn day_block(number: u32) -> Option<Period>
-    ensures value { option_map days_of result ≡ blocks.day_block number }
+    ensures value { option_map days_of result ≡ day_block number }
 {
     let day = Day::of_number(number as u64)?;
     Some(Period {
@@ -113,7 +114,7 @@ fn day_block(number: u32) -> Option<Period>
 // The week that a Monday begins.
 fn week_from(monday: u32) -> Option<Period>
     requires { monday < 2 ^ 31 }
-    ensures value { option_map days_of result ≡ blocks.week_from monday }
+    ensures value { option_map days_of result ≡ week_from monday }
 {
     let first = Day::of_number(monday as u64)?;
     let last = Day::of_number(monday as u64 + 6)?;
@@ -122,9 +123,9 @@ fn week_from(monday: u32) -> Option<Period>
 
 // The months from January of the year 0 to the day's.
 fn this_month(day: Day) -> u32
-    ensures value { result ≡ blocks.this_month day }
+    ensures value { result ≡ this_month day }
     ensures first { 12 ≤ result }
-    ensures last { result < 120_000 }
+    ensures last { result ≤ LAST_MONTH }
 {
     let (year, month, _) = day.parts();
     12 * year as u32 + (month as u32 - 1)
@@ -135,9 +136,9 @@ fn months_from(index: u32, count: u32) -> Option<Period>
     requires some { 1 ≤ count }
     requires within_year { count ≤ 12 }
     requires small { index < 2 ^ 31 }
-    ensures value { option_map days_of result ≡ blocks.months_from index count }
+    ensures value { option_map days_of result ≡ months_from index count }
 {
-    if index < 12 || index + count > 120_000 {
+    if index < 12 || index + count > LAST_MONTH + 1 {
         return None;
     }
     let first = day_of_month(index, 1);
@@ -148,9 +149,9 @@ fn months_from(index: u32, count: u32) -> Option<Period>
 // The day of a month, or its last day where the month is shorter.
 fn day_of_month(index: u32, day: u8) -> Day
     requires first { 12 ≤ index }
-    requires last { index < 120_000 }
+    requires last { index ≤ LAST_MONTH }
     requires some { 1 ≤ day }
-    ensures value { result ≡ Added.day_of_month index day }
+    ensures value { result ≡ day_of_month index day }
 {
     let year = (index / 12) as u16;
     let month = (index % 12) as u8 + 1;

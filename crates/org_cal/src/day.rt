@@ -8,6 +8,7 @@ ghost use Rattle.org_cal.specs.Faults.{date_fault};
 ghost use Rattle.org_cal.specs.Parts.{month_day_of, month_of, weekday_of, year_of};
 ghost use Rattle.org_cal.specs.Texts.{date_of, day_of};
 ghost use Rattle.org_cal.specs.Weeks.{iso_week, iso_year, monday_of};
+ghost use Rattle.org_cal.specs.declared.day.TheConstants.{LAST_DAY, UNIX_EPOCH};
 ghost use Rattle.org_cal.specs.declared.unit.Unit.TheVariants.{Hour, Day as DayUnit, Week, Month, Year};
 
 use crate::digits::{four_digits, two_digits};
@@ -18,8 +19,17 @@ use jiff_core::civil;
 use org_base::{Code, Fault};
 use std::marker::Model;
 
-/// A day of the Gregorian calendar, 0001-01-01 to 9999-12-31: contracts see its number, 1 for the first and
-/// 3,652,059 for the last.
+/// The number of the last day, 9999-12-31.
+pub const LAST_DAY: u32 = 3_652_059;
+
+/// The last month, December 9999, counted from January of the year 0.
+pub const LAST_MONTH: u32 = 119_999;
+
+// The number of 1970-01-01, from which `jiff` counts days.
+const UNIX_EPOCH: u32 = 719_163;
+
+/// A day of the Gregorian calendar, 0001-01-01 to 9999-12-31: contracts see its number, 1 for the first and `LAST_DAY`
+/// for the last.
 #[derive(Clone, Copy, Debug, PartialEq, Eq, PartialOrd, Ord, Hash)]
 pub struct Day {
     number: u32,
@@ -61,10 +71,7 @@ impl Day {
         ensures value { IfOk result (λ day. date_of text.now ≡ Some day) }
         ensures date { IfErr result (λ fault. (fault ≡ date_fault) × (date_of text.now ≡ None)) }
     {
-        match Day::spelled(text) {
-            Some(day) => Ok(day),
-            None => Err(Fault::Plain(Code::Date)),
-        }
+        Day::spelled(text).ok_or(Fault::Plain(Code::Date))
     }
 
     /// The day that the text spells, `YYYY-MM-DD`, if there is one.
@@ -95,7 +102,7 @@ impl Day {
         ensures some { IfSome result (λ day. (day ≡ number) × IsDay day) }
         ensures only { IsDay number → result ≡ Some number }
     {
-        if number < 1 || number > 3_652_059 {
+        if number < 1 || number > LAST_DAY as u64 {
             return None;
         }
         Some(Day {
@@ -107,7 +114,7 @@ impl Day {
     pub fn number(self) -> u32
         ensures value { result ≡ self }
         ensures first { 1 ≤ result }
-        ensures last { result ≤ 3_652_059 }
+        ensures last { result ≤ LAST_DAY }
     {
         let Day { number } = self;
         number
@@ -169,6 +176,7 @@ impl Day {
         ensures some { IfSome result (IsAdded self n DayUnit) }
         ensures only { (day : ℕ) → IsAdded self n DayUnit day → result ≡ Some day }
     {
+        // For the proof alone: the number is a day's.
         let _ = self.number;
         if n < -3_652_058 || n > 3_652_058 {
             return None;
@@ -180,6 +188,7 @@ impl Day {
         ensures some { IfSome result (IsAdded self n Week) }
         ensures only { (day : ℕ) → IsAdded self n Week day → result ≡ Some day }
     {
+        // For the proof alone: the number is a day's.
         let _ = self.number;
         if n < -521_722 || n > 521_722 {
             return None;
@@ -210,7 +219,7 @@ impl Day {
     // The day a span after a date, from the year 1 on.
     fn after(date: Date, span: Span) -> Option<Day>
         ensures succeeds { IsSome result ↔ HasDayAfter date span }
-        ensures value { IfSome result (λ day. pos day ≡ date_add date span +ℤ pos 719_163) }
+        ensures value { IfSome result (λ day. pos day ≡ date_add date span +ℤ pos UNIX_EPOCH) }
     {
         match date.checked_add(span) {
             Ok(found) => Day::of_date(found),
@@ -219,7 +228,7 @@ impl Day {
     }
 
     fn to_date(self) -> Date
-        ensures number { epoch_day result +ℤ pos 719_163 ≡ pos self }
+        ensures number { epoch_day result +ℤ pos UNIX_EPOCH ≡ pos self }
         ensures year { pos 1 ≤ℤ result.year }
     {
         Date::from_plain(self.to_plain())
@@ -227,19 +236,19 @@ impl Day {
 
     // The date of `jiff`.
     fn to_plain(self) -> civil::Date
-        ensures number { epoch_day result +ℤ pos 719_163 ≡ pos self }
+        ensures number { epoch_day result +ℤ pos UNIX_EPOCH ≡ pos self }
         ensures year { pos 1 ≤ℤ result.year }
         ensures first { 1 ≤ self }
     {
-        civil::Date::from_unix_epoch_day(self.number as i64 - 719_163).unwrap()
+        civil::Date::from_unix_epoch_day(self.number as i64 - UNIX_EPOCH as i64).unwrap()
     }
 
     // The day of a date, if it has the year 1 or a later one.
     fn of_date(date: Date) -> Option<Day>
-        ensures succeeds { IsSome result ↔ (pos 1 ≤ℤ (epoch_day date +ℤ pos 719_163)) }
-        ensures value { IfSome result (λ n. pos n ≡ epoch_day date +ℤ pos 719_163) }
+        ensures succeeds { IsSome result ↔ (pos 1 ≤ℤ (epoch_day date +ℤ pos UNIX_EPOCH)) }
+        ensures value { IfSome result (λ n. pos n ≡ epoch_day date +ℤ pos UNIX_EPOCH) }
     {
-        let number = date.to_plain().to_unix_epoch_day() + 719_163;
+        let number = date.to_plain().to_unix_epoch_day() + UNIX_EPOCH as i32;
         if number < 1 {
             return None;
         }

@@ -38,7 +38,7 @@ pub fn weeks_go_on()
 {}
 
 /// A text gives days exactly where it names a block of time that has them: those, and no others, lie in the year, the
-/// month, the quarter, the week or the day that it names (Org manual 9.6, The clock table; ISO 8601).
+/// month, the quarter, the week or the day that it names (Org manual 9.6, "The clock table"; ISO 8601).
 pub fn blocks_are_named()
     ensures { BlocksAreNamed }
 {}

@@ -16,12 +16,12 @@ mod text;
 mod time_of_day;
 mod unit;
 
-pub use day::Day;
+pub use day::{Day, LAST_DAY, LAST_MONTH};
 pub use digits::two_digits;
-pub use minute::Minute;
+pub use minute::{CALENDAR_MINUTES, Minute};
 pub use moment::Moment;
 pub use period::Period;
 pub use steps::{Step, Steps};
 pub use text::{day_name, push_date, push_time, push_two};
-pub use time_of_day::TimeOfDay;
+pub use time_of_day::{MINUTES_PER_DAY, TimeOfDay};
 pub use unit::Unit;

@@ -23,10 +23,8 @@ impl Moment {
         ensures date { IfErr result (λ fault. (fault ≡ date_fault) × IsNoMoment date.now time.now) }
     {
         let day = Day::read(date)?;
-        match TimeOfDay::read(time) {
-            Some(minute) => Ok(Moment { day, minute }),
-            None => Err(Fault::Plain(Code::Date)),
-        }
+        let minute = TimeOfDay::read(time).ok_or(Fault::Plain(Code::Date))?;
+        Ok(Moment { day, minute })
     }
 
     /// The minutes since 0001-01-01 00:00.

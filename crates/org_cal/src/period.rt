@@ -16,7 +16,7 @@ pub struct Period {
 }
 
 impl Period {
-    /// The block of time that the text names (Org manual 9.6, The clock table): `YYYY`, `YYYY-MM`, `YYYY-Q1` to
+    /// The block of time that the text names (Org manual 9.6, "The clock table"): `YYYY`, `YYYY-MM`, `YYYY-Q1` to
     /// `YYYY-Q4`, `YYYY-Www` (ISO 8601), `YYYY-MM-DD`, `today`, `yesterday`, `thisweek`, `lastweek`, `thismonth`,
     /// `lastmonth`, `thisyear` or `lastyear`. `Option` where it names none, where there is no such block, or where the
     /// block leaves the years 1 to 9999.
@@ -24,9 +24,6 @@ impl Period {
         ensures value { IfOk result (λ period. block_of text.now today ≡ Some (period.first, period.last)) }
         ensures option { IfErr result (λ fault. (fault ≡ option_fault) × (block_of text.now today ≡ None)) }
     {
-        match block::named(text, today) {
-            Some(period) => Ok(period),
-            None => Err(Fault::Plain(Code::Option)),
-        }
+        block::named(text, today).ok_or(Fault::Plain(Code::Option))
     }
 }

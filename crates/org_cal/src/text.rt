@@ -2,7 +2,7 @@
 ghost use Rattle.std.specs.Prelude.{◌≡◌, ◌+◌, ◌<◌, ◌≤◌, [], ◌∷◌, ◌++◌, OnErr, string_bytes, string_capacity, string_len};
 ghost use Rattle.org_base.specs.Results.{Writes};
 ghost use Rattle.org_cal.specs.Parts.{weekday_of};
-ghost use Rattle.org_cal.specs.Texts as texts;
+ghost use Rattle.org_cal.specs.Texts.{date_text, day_name, time_text, two};
 
 use crate::day::Day;
 use crate::time_of_day::TimeOfDay;
@@ -11,7 +11,7 @@ use std::alloc::AllocError;
 /// Appends a number below 100 in two digits. Want of memory is the only refusal, and leaves `out` as it was.
 pub fn push_two(out: &mut String, number: u8) -> Result<(), AllocError>
     requires below { number < 100 }
-    ensures ok { Writes result out.old out.new (texts.two number) }
+    ensures ok { Writes result out.old out.new (two number) }
     ensures err { OnErr result (string_bytes out.new ≡ string_bytes out.old) }
 {
     out.reserve(2)?;
@@ -21,7 +21,7 @@ pub fn push_two(out: &mut String, number: u8) -> Result<(), AllocError>
 
 /// Appends `YYYY-MM-DD`. Want of memory is the only refusal, and leaves `out` as it was.
 pub fn push_date(out: &mut String, day: Day) -> Result<(), AllocError>
-    ensures ok { Writes result out.old out.new (texts.date_text day) }
+    ensures ok { Writes result out.old out.new (date_text day) }
     ensures err { OnErr result (string_bytes out.new ≡ string_bytes out.old) }
 {
     let (year, month, date) = day.parts();
@@ -37,7 +37,7 @@ pub fn push_date(out: &mut String, day: Day) -> Result<(), AllocError>
 
 /// Appends `HH:MM`. Want of memory is the only refusal, and leaves `out` as it was.
 pub fn push_time(out: &mut String, time: TimeOfDay) -> Result<(), AllocError>
-    ensures ok { Writes result out.old out.new (texts.time_text time) }
+    ensures ok { Writes result out.old out.new (time_text time) }
     ensures err { OnErr result (string_bytes out.new ≡ string_bytes out.old) }
 {
     let minutes = time.minutes();
@@ -52,7 +52,7 @@ pub fn push_time(out: &mut String, time: TimeOfDay) -> Result<(), AllocError>
 fn put_two(out: &mut String, number: u8)
     requires below { number < 100 }
     requires room { string_len out.old + 2 ≤ string_capacity out.old }
-    ensures value { string_bytes out.new ≡ string_bytes out.old ++ texts.two number }
+    ensures value { string_bytes out.new ≡ string_bytes out.old ++ two number }
     ensures len { string_len out.new ≡ string_len out.old + 2 }
     ensures room { string_capacity out.old ≤ string_capacity out.new }
 {
@@ -73,7 +73,7 @@ fn put_byte(out: &mut String, byte: u8)
 
 /// The day's English name, `Mon` to `Sun`.
 pub fn day_name(day: Day) -> &'static str
-    ensures value { result.now ≡ texts.day_name (weekday_of day) }
+    ensures value { result.now ≡ day_name (weekday_of day) }
 {
     match (day.number() + 6) % 7 {
         0 => "Mon",

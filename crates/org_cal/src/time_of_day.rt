@@ -1,11 +1,15 @@
 //! Times of day.
 ghost use Rattle.std.specs.Prelude.{◌≡◌, ◌<◌};
-ghost use Rattle.org_cal.specs.Texts as texts;
+ghost use Rattle.org_cal.specs.Texts.{time_at, time_of};
+ghost use Rattle.org_cal.specs.declared.time_of_day.TheConstants.{MINUTES_PER_DAY};
 
 use crate::digits::two_digits;
 use std::marker::Model;
 
-/// A time of day: contracts see its minutes since 00:00, 0 to 1439.
+/// The minutes of a day.
+pub const MINUTES_PER_DAY: u64 = 1440;
+
+/// A time of day: contracts see its minutes since 00:00, fewer than a day has.
 #[derive(Clone, Copy, Debug, PartialEq, Eq, PartialOrd, Ord, Hash)]
 pub struct TimeOfDay {
     minutes: u16,
@@ -13,12 +17,13 @@ pub struct TimeOfDay {
 
 impl Model for TimeOfDay {
     ghost use Rattle.std.specs.Prelude.{ℕ, ◌<◌};
+    ghost use Rattle.org_cal.specs.declared.time_of_day.TheConstants.{MINUTES_PER_DAY};
 
     ghost Value = { ℕ };
 
     ghost view = { λ a. a.minutes };
 
-    ghost invariant = { λ a. a.minutes < 1440 };
+    ghost invariant = { λ a. a.minutes < MINUTES_PER_DAY };
 
     ghost inverse = { λ n. record { minutes = n } };
 }
@@ -26,7 +31,7 @@ impl Model for TimeOfDay {
 impl TimeOfDay {
     /// The time of that hour, 0 to 23, and minute, 0 to 59, if there is one.
     pub fn of(hour: u8, minute: u8) -> Option<TimeOfDay>
-        ensures value { result ≡ texts.time_at hour minute }
+        ensures value { result ≡ time_at hour minute }
     {
         if hour > 23 || minute > 59 {
             return None;
@@ -38,15 +43,15 @@ impl TimeOfDay {
 
     /// The time so many minutes after 00:00.
     pub fn of_minutes(minutes: u16) -> TimeOfDay
-        requires { minutes < 1440 }
+        requires { minutes < MINUTES_PER_DAY }
         ensures value { result ≡ minutes }
     {
         TimeOfDay { minutes }
     }
 
-    /// The time that the text spells, `H:MM` or `HH:MM` (Org manual 9.6, Timestamps).
+    /// The time that the text spells, `H:MM` or `HH:MM` (Org manual 9.6, "Timestamps").
     pub fn read(text: &[u8]) -> Option<TimeOfDay>
-        ensures value { result ≡ texts.time_of text.now }
+        ensures value { result ≡ time_of text.now }
     {
         match text {
             [h, b':', m, n] => TimeOfDay::of(two_digits(b'0', *h)?, two_digits(*m, *n)?),
@@ -58,7 +63,7 @@ impl TimeOfDay {
     /// The minutes since 00:00.
     pub fn minutes(self) -> u16
         ensures value { result ≡ self }
-        ensures below { result < 1440 }
+        ensures below { result < MINUTES_PER_DAY }
     {
         self.minutes
     }

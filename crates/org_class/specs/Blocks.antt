@@ -1,4 +1,5 @@
--- Blocks among the lines of a section (Org Syntax, Blocks; that nothing opens inside a block, whatever its name: profile).
+-- Blocks among the lines of a section (Org Syntax, "Blocks"; that nothing opens inside a block, whatever its name:
+-- profile).
 use Rattle.std.specs.Prelude.{◌≡◌, ◌≢◌, ◌⊎◌, ℕ, Bool, false, true, ◌&&◌, not, ◌==◌, if◌then◌else◌, List, [], ◌∷◌, ◌++◌, length, take, drop, replicate, codes, Option, Some, None}
 use Rattle.std.specs.List.{list_any}
 use Rattle.org_base.specs.Words.{trimmed, first_word, same_word}

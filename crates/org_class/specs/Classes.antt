@@ -1,5 +1,6 @@
--- The class of each line of a section (Org Syntax, Sections, Planning, Property Drawers; where a drawer may stand before
--- the first heading: profile). A section that doesn't begin with a heading line is the one before the first heading.
+-- The class of each line of a section (Org Syntax, "Sections"; "Planning"; "Property Drawers"; where a drawer may stand
+-- before the first heading: profile). A section that doesn't begin with a heading line is the one before the first
+-- heading.
 use Rattle.std.specs.Cow.{cow_slice_items}
 use Rattle.std.specs.Prelude.{◌≡◌, ◌++◌, ℕ, Bool, true, false, ◌||◌, if◌then◌else◌, List, [], ◌∷◌, map, Option, Some, None, Result, OnOk}
 use Rattle.std.specs.List.{flat_map}

@@ -1,4 +1,4 @@
--- Property drawers (Org Syntax, Property Drawers and Node Properties).
+-- Property drawers (Org Syntax, "Property Drawers"; "Node Properties").
 use Rattle.std.specs.Prelude.{◌≡◌, ℕ, Bool, false, true, ◌&&◌, ◌||◌, if◌then◌else◌, List, [], ◌∷◌, ◌++◌, codes, None}
 use Rattle.std.specs.List.{list_all, list_any}
 use Rattle.org_base.specs.Words.{trimmed, same_word}

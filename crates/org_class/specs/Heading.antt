@@ -1,4 +1,4 @@
--- Heading lines (Org Syntax, Headings).
+-- Heading lines (Org Syntax, "Headings").
 use Rattle.std.specs.Prelude.{ℕ, Bool, ◌&&◌, ◌==◌, nat_lt, List, slice_index}
 use Rattle.std.specs.List.{prefix_len}
 

@@ -1,4 +1,4 @@
--- Laws of sections, classes and setting lines (Org Syntax, Sections; Planning; Property Drawers; Blocks).
+-- Laws of sections, classes and setting lines (Org Syntax, "Sections"; "Planning"; "Property Drawers"; "Blocks").
 use Rattle.std.specs.Prelude.{◌≡◌, ◌↔◌, ℕ, true, List, ◌∷◌, ◌++◌, map, length, replicate, None}
 use Rattle.std.specs.List.{concat}
 use Rattle.org_lines.specs.Cuts.{lines}

@@ -1,5 +1,5 @@
--- The class of a line by itself (Org Syntax, Comments, Keywords, Clocks; that a comment's first word is # alone, and
--- where a key ends: profile).
+-- The class of a line by itself (Org Syntax, "Comments"; "Keywords"; "Clocks"; that a comment's first word is # alone,
+-- and where a key ends: profile).
 use Rattle.std.specs.Prelude.{ℕ, Bool, ◌&&◌, not, ◌==◌, if◌then◌else◌, List, drop, slice_index, nat_eq, bytes_eq, codes}
 use Rattle.std.specs.List.{list_any, starts_with}
 use Rattle.org_base.specs.Words.{first_word, trim_start}

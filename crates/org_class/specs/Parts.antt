@@ -1,5 +1,5 @@
--- The parts of a section from its first line on, and the classes of their lines (Org Syntax, Sections, Planning, Property
--- Drawers; where a drawer may stand before the first heading: profile).
+-- The parts of a section from its first line on, and the classes of their lines (Org Syntax, "Sections"; "Planning";
+-- "Property Drawers"; where a drawer may stand before the first heading: profile).
 use Rattle.std.specs.Prelude.{◌≡◌, ◌⊎◌, true, false, List, [], ◌∷◌, ◌++◌, map, length, replicate, ℕ}
 use Rattle.org_base.specs.Words.{is_blank}
 use Rattle.org_stamp.specs.Pair.{is_planning}

@@ -1,4 +1,4 @@
--- Sections of a text (Org Syntax, Headings and Sections).
+-- Sections of a text (Org Syntax, "Headings and Sections").
 use Rattle.std.specs.List.{All}
 use Rattle.std.specs.Prelude.{ℕ, ◌+◌, Bool, true, false, ◌&&◌, ◌==◌, List, [], ◌∷◌, length, ◌≡◌, ◌≤◌, map}
 use Rattle.org_base.specs.Spans.{bytes_in}

@@ -9,8 +9,8 @@ use smallvec::SmallVec;
 use std::alloc::{AllocError, Global};
 use std::marker::Model;
 
-/// The class of a line of a section (Org Syntax, "Headings", "Sections", "Planning", "Property Drawers", "Blocks",
-/// "Comments", "Keywords", "Clocks").
+/// The class of a line of a section (Org Syntax, "Headings"; "Sections"; "Planning"; "Property Drawers"; "Blocks";
+/// "Comments"; "Keywords"; "Clocks").
 #[derive(Clone, Copy, Debug, Default, PartialEq, Eq)]
 pub enum Class {
     /// The heading line, which is the first of its section.

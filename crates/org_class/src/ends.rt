@@ -106,6 +106,7 @@ fn has_hash<T: Text>(text: &T, part: Span) -> bool
     requires within { part.at + part.len ≤ length (T.content text.now) }
     ensures none { result ≡ false → list_any is_hash (bytes_in (T.content text.now) part) ≡ false }
 {
+    // For the proof alone: its contract says that the text is not too long.
     let _len = text.len();
     let mut here = part.at as usize;
     let end = here + part.len as usize;

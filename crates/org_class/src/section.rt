@@ -17,7 +17,7 @@ use org_lines::{Lines, lent};
 use org_text::Text;
 use std::alloc::Global;
 
-/// The class of each line of a section, in order (Org Syntax, "Headings", "Planning", "Property Drawers", "Blocks"). A
+/// The class of each line of a section, in order (Org Syntax, "Headings"; "Planning"; "Property Drawers"; "Blocks"). A
 /// section that doesn't begin with a heading line is taken for the one before the first heading. Want of memory is the
 /// only refusal; the meter counts one classified section then too.
 pub fn classify<T: Text>(
@@ -54,6 +54,7 @@ fn classes<T: Text>(alloc: Global, text: &T, section: Span) -> Result<Classes, F
     ensures value { Gives result (classes_in (T.content text.now) section) }
     ensures memory { IsOkUnless result memory_fault }
 {
+    // For the proof alone: its contract says that the text is not too long.
     let _len = text.len();
     let ends = EndPlaces::of_lines(alloc, text, section)?;
     let mut classes = Classes::new(alloc);

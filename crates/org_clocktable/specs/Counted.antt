@@ -1,5 +1,5 @@
--- Files with the headings that count in a clock table (Org manual 9.6, The clock table; that clocks and efforts of headings
--- of which `match=` doesn't hold count 0, and that hidden headings count: profile).
+-- Files with the headings that count in a clock table (Org manual 9.6, "The clock table"; that clocks and efforts of
+-- headings of which `match=` doesn't hold count 0, and that hidden headings count: profile).
 use Rattle.std.specs.Prelude.{◌≡◌, ◌<◌, ◌^◌, ℕ, ◌+◌, Bool, true, ◌&&◌, if◌then◌else◌, is_some, List, [], ◌∷◌, ◌++◌, Option, None, Some, length, map, option_copied, replicate}
 use Rattle.std.specs.Borrow.{Bor}
 use Rattle.std.specs.List.{range_with_len}

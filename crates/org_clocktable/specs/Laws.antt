@@ -1,4 +1,4 @@
--- Laws of clock tables (Org manual 9.6, The clock table).
+-- Laws of clock tables (Org manual 9.6, "The clock table").
 use Rattle.std.specs.Prelude.{◌≡◌, ℕ, ◌≤◌, List}
 use Rattle.std.specs.List.{sum_by}
 use Rattle.org_cal.specs.Pieces.{pieces}

@@ -1,5 +1,5 @@
--- What a clock table is asked for (Org manual 9.6, The clock table; which options there are, and how they are written:
--- profile).
+-- What a clock table is asked for (Org manual 9.6, "The clock table"; which options there are, and how they are
+-- written: profile).
 use Rattle.std.specs.Prelude.{◌≡◌, ◌⊎◌, ℕ, ◌<◌, ◌^◌, Bool, if◌then◌else◌, List, Option, None, Some, chars, drop, length, take, unwrap_or}
 use Rattle.std.specs.Option.{option_and_then, option_map}
 use Rattle.std.specs.Str.{is_utf8}

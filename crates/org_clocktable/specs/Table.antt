@@ -1,4 +1,4 @@
--- The rows of a clock table (Org manual 9.6, The clock table; which lines are shown: profile).
+-- The rows of a clock table (Org manual 9.6, "The clock table"; which lines are shown: profile).
 use Rattle.std.specs.Prelude.{ℕ, ◌+◌, nat_lt, nat_le, ◌&&◌, if◌then◌else◌, List, [], ◌∷◌, ◌++◌, Option, None, Some}
 use Rattle.org_entry.specs.declared.entry.Entry.{Entry}
 use Rattle.org_clocktable.specs.Counted.{Counted, file_sum, heading_sum, total}

@@ -42,9 +42,7 @@ impl<'a> TableSpec<'a> {
         ensures value { IfOk result (AsksFor text.now today) }
         ensures refused { IfErr result (IsTableRefusal text.now today) }
     {
-        let Some(asked) = TableRequest::read(text.as_bytes(), today) else {
-            return Err(Fault::Plain(Code::Option));
-        };
+        let asked = TableRequest::read(text.as_bytes(), today).ok_or(Fault::Plain(Code::Option))?;
         TableSpec::of(alloc, asked)
     }
 

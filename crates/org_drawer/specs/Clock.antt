@@ -1,5 +1,5 @@
--- Clocks and their minutes (Org Syntax, Clocks; that only the minutes within a period count, and that a missing time is
--- 00:00: profile).
+-- Clocks and their minutes (Org Syntax, "Clocks"; that only the minutes within a period count, and that a missing time
+-- is 00:00: profile).
 use Rattle.std.specs.Prelude.{ℕ, ◌+◌, ◌-◌, min, max, Bool, ◌&&◌, nat_le, nat_lt, List, Option, Some, None}
 use Rattle.std.specs.Option.{option_map}
 use Rattle.org_cal.specs.Minutes.{minute_of, minute_at}

@@ -1,4 +1,4 @@
--- Efforts (Org manual 9.6, Effort Estimates; which forms are efforts, and how many digits they have: profile).
+-- Efforts (Org manual 9.6, "Effort Estimates"; which forms are efforts, and how many digits they have: profile).
 use Rattle.std.specs.Prelude.{ℕ, ◌+◌, ◌*◌, ◌==◌, nat_le, nat_lt, if◌then◌else◌, List, [], ◌∷◌, length, take, drop, codes, bytes_eq, Option, Some, None}
 use Rattle.std.specs.List.{prefix_len}
 use Rattle.std.specs.Option.{option_and_then, option_map}

@@ -1,4 +1,4 @@
--- Laws of what lines say (Org Syntax, Node Properties; Clocks; Org manual 9.6, Effort Estimates).
+-- Laws of what lines say (Org Syntax, "Node Properties"; "Clocks"; Org manual 9.6, "Effort Estimates").
 use Rattle.std.specs.Prelude.{◌≡◌, ◌↔◌, ℕ, ◌+◌, ◌-◌, ◌≤◌, true, List, length, take, drop, Option, Some, IfSome}
 use Rattle.std.specs.List.{sum_by, count_by, filter_map, range_with_len}
 use Rattle.org_base.specs.Properties.{Given, value_in, value_of}

@@ -1,5 +1,5 @@
--- The node lines of a property drawer (Org Syntax, Node Properties; that a name may hold any byte of a word, and what a
--- line that is none gives: profile).
+-- The node lines of a property drawer (Org Syntax, "Node Properties"; that a name may hold any byte of a word, and what
+-- a line that is none gives: profile).
 -- Characters by their codes: 43 +, 58 :.
 use Rattle.std.specs.Prelude.{ℕ, ◌-◌, Bool, true, false, ◌&&◌, not, ◌==◌, nat_lt, nat_le, if◌then◌else◌, List, [], ◌∷◌, ◌++◌, length, take, drop, slice_index, Option, Some, None}
 use Rattle.std.specs.List.{filter_map}

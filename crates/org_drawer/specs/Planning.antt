@@ -1,5 +1,5 @@
--- What a planning line says (Org Syntax, Planning; that of a repeated keyword the last counts, and that a range counts as
--- its first stamp: profile).
+-- What a planning line says (Org Syntax, "Planning"; that of a repeated keyword the last counts, and that a range
+-- counts as its first stamp: profile).
 use Rattle.std.specs.Prelude.{ℕ, ◌+◌, ◌≤◌, Bool, true, false, if◌then◌else◌, List, [], ◌∷◌, length, Option, Some, None, IfSome}
 use Rattle.std.specs.Option.{option_or}
 use Rattle.org_base.specs.declared.span.Span.{Span}

@@ -1,5 +1,5 @@
--- How an effort is spelled, without the reader's steps (Org manual 9.6, Effort Estimates; which forms are efforts, and how
--- many digits they have: profile).
+-- How an effort is spelled, without the reader's steps (Org manual 9.6, "Effort Estimates"; which forms are efforts,
+-- and how many digits they have: profile).
 use Rattle.std.specs.Prelude.{◌≡◌, ℕ, ◌+◌, ◌*◌, ◌<◌, ◌≤◌, true, List, ◌++◌, length, codes}
 use Rattle.std.specs.Str.{all_ascii_digits}
 use Rattle.std.specs.Str.Parse.{digits_value}

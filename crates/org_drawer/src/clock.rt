@@ -1,9 +1,10 @@
 //! Clock lines.
 ghost use Rattle.std.specs.Prelude.{◌≡◌, ◌<◌, ◌≤◌};
 ghost use Rattle.org_cal.specs.Periods.{days_of};
-ghost use Rattle.org_drawer.specs.Clock as spec;
+ghost use Rattle.org_cal.specs.declared.minute.TheConstants.{CALENDAR_MINUTES};
+ghost use Rattle.org_drawer.specs.Clock.{clock_of, common, minutes_in};
 
-use org_cal::{Minute, Period};
+use org_cal::{MINUTES_PER_DAY, Minute, Period};
 use org_stamp::clock_stamp;
 
 /// A clock (Org Syntax, "Clocks"): it runs from one minute to another, or still runs. The end may lie before the start.
@@ -16,7 +17,7 @@ pub struct ClockLine {
 
 /// The clock of a clock line, in which a missing time is 00:00; None exactly where the line is no clock line.
 pub fn read_clock(line: &[u8]) -> Option<ClockLine>
-    ensures value { result ≡ spec.clock_of line.now }
+    ensures value { result ≡ clock_of line.now }
 {
     let stamp = clock_stamp(line)?;
     Some(ClockLine {
@@ -29,11 +30,11 @@ impl ClockLine {
     /// The minutes that the clock and the period have in common, the period being from its first day 00:00 to the end of
     /// its last day. A clock that runs, or ends before it starts, has none. They are fewer than those of all years.
     pub fn minutes_in(&self, period: Period) -> u64
-        ensures value { result ≡ spec.minutes_in self.now (days_of period) }
-        ensures below { result < 5_258_964_960 }
+        ensures value { result ≡ minutes_in self.now (days_of period) }
+        ensures below { result < CALENDAR_MINUTES }
     {
-        let first = (period.first.number() as u64 - 1) * 1440;
-        let past = period.last.number() as u64 * 1440;
+        let first = (period.first.number() as u64 - 1) * MINUTES_PER_DAY;
+        let past = period.last.number() as u64 * MINUTES_PER_DAY;
         match self.to {
             Some(to) => common(self.from.number(), to.number(), first, past),
             None => 0,
@@ -43,7 +44,7 @@ impl ClockLine {
 
 // How many minutes two stretches have in common, each up to its end.
 fn common(from: u64, to: u64, first: u64, past: u64) -> u64
-    ensures value { result ≡ spec.common from to first past }
+    ensures value { result ≡ common from to first past }
     ensures most { result ≤ to }
 {
     to.min(past).saturating_sub(from.max(first))

@@ -2,7 +2,7 @@
 ghost use Rattle.std.specs.Prelude.{◌≡◌, OnOk, IsOkUnless};
 ghost use Rattle.org_base.specs.Codes.{memory_fault};
 ghost use Rattle.org_base.specs.Results.{Gives};
-ghost use Rattle.org_drawer.specs.Node as spec;
+ghost use Rattle.org_drawer.specs.Node.{drawer_of, with_line};
 
 use crate::node::node_of;
 use org_base::{Fault, Texts};
@@ -16,7 +16,7 @@ pub use org_base::Properties as Drawer;
 /// gives nothing. `:PROPERTIES:` and `:END:` are such words too, so a drawer's first and last line are to be left out.
 /// Want of memory is its only refusal.
 pub fn read_drawer(alloc: Global, lines: &Texts) -> Result<Drawer, Fault>
-    ensures value { Gives result (spec.drawer_of lines.now) }
+    ensures value { Gives result (drawer_of lines.now) }
     ensures memory { IsOkUnless result memory_fault }
 {
     let mut drawer = Drawer::new(alloc);
@@ -28,7 +28,7 @@ pub fn read_drawer(alloc: Global, lines: &Texts) -> Result<Drawer, Fault>
 
 // Adds what a line gives.
 fn add_line(drawer: &mut Drawer, line: &[u8]) -> Result<(), AllocError>
-    ensures ok { OnOk result (drawer.new ≡ spec.with_line drawer.old line.now) }
+    ensures ok { OnOk result (drawer.new ≡ with_line drawer.old line.now) }
 {
     match node_of(line) {
         Some(node) => drawer.add(node.name, node.appends, node.value),

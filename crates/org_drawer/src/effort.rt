@@ -4,17 +4,21 @@ ghost use Rattle.std.specs.List.{prefix_len};
 ghost use Rattle.std.specs.Char.{is_ascii_digit};
 ghost use Rattle.std.specs.Str.Parse.{AllDigits, digits_value};
 ghost use Rattle.org_base.specs.Words.{is_space};
-ghost use Rattle.org_drawer.specs.Effort as spec;
+ghost use Rattle.org_drawer.specs.Effort.{effort_of, hours, number_of, sixtieths, unit_minutes, units};
+ghost use Rattle.org_drawer.specs.declared.effort.TheConstants.{LONGEST_EFFORT};
 
 use org_cal::two_digits;
+
+/// The minutes of the longest effort, 9,999 years.
+pub const LONGEST_EFFORT: u64 = 5_259_074_040;
 
 /// The minutes of an effort (Org manual 9.6, "Effort Estimates"): `H:MM`, H of up to six digits and MM 00 to 59; whole
 /// minutes, up to six digits; or a number of up to four digits, white space or none, and `min`, `h`, `d`, `w`, `m` or
 /// `y`, for 1, 60, 1440, 10,080, 43,200 or 525,960 minutes. None for any other text, also one with white space at its
-/// ends. At most 9,999 years.
+/// ends.
 pub fn effort_minutes(text: &[u8]) -> Option<u64>
-    ensures value { result ≡ spec.effort_of text.now }
-    ensures most { IfSome result (λ minutes. minutes ≤ 5_259_074_040) }
+    ensures value { result ≡ effort_of text.now }
+    ensures most { IfSome result (λ minutes. minutes ≤ LONGEST_EFFORT) }
 {
     let (digits, rest) = split_digits(text);
     if digits.is_empty() {
@@ -50,7 +54,7 @@ fn leading_digits(text: &[u8]) -> usize
 fn number_of(most: usize, digits: &[u8]) -> Option<u64>
     requires few { most ≤ 6 }
     requires digits { AllDigits 10 digits.now }
-    ensures value { result ≡ spec.number_of most digits.now }
+    ensures value { result ≡ number_of most digits.now }
     ensures below { IfSome result (λ n. n < 10 ^ most) }
 {
     if digits.len() <= most {
@@ -76,8 +80,8 @@ fn value_of(digits: &[u8]) -> u64
 // `H:MM`, of the digits before the colon and what stands behind it.
 fn hours(digits: &[u8], rest: &[u8]) -> Option<u64>
     requires { AllDigits 10 digits.now }
-    ensures value { result ≡ spec.hours digits.now rest.now }
-    ensures most { IfSome result (λ minutes. minutes ≤ 5_259_074_040) }
+    ensures value { result ≡ hours digits.now rest.now }
+    ensures most { IfSome result (λ minutes. minutes ≤ LONGEST_EFFORT) }
 {
     let hour = number_of(6, digits)?;
     Some(hour * 60 + sixtieths(rest)?)
@@ -85,7 +89,7 @@ fn hours(digits: &[u8], rest: &[u8]) -> Option<u64>
 
 // Two digits of 00 to 59.
 fn sixtieths(text: &[u8]) -> Option<u64>
-    ensures value { result ≡ spec.sixtieths text.now }
+    ensures value { result ≡ sixtieths text.now }
     ensures below { IfSome result (λ n. n < 60) }
 {
     let [tens, ones] = text else {
@@ -98,8 +102,8 @@ fn sixtieths(text: &[u8]) -> Option<u64>
 // A number and a unit, of the digits and what stands behind them.
 fn units(digits: &[u8], rest: &[u8]) -> Option<u64>
     requires { AllDigits 10 digits.now }
-    ensures value { result ≡ spec.units digits.now rest.now }
-    ensures most { IfSome result (λ minutes. minutes ≤ 5_259_074_040) }
+    ensures value { result ≡ units digits.now rest.now }
+    ensures most { IfSome result (λ minutes. minutes ≤ LONGEST_EFFORT) }
 {
     let n = number_of(4, digits)?;
     let gap = leading_spaces(rest);
@@ -122,7 +126,7 @@ fn leading_spaces(text: &[u8]) -> usize
 
 // The minutes of a unit.
 fn unit_minutes(unit: &[u8]) -> Option<u64>
-    ensures value { result ≡ spec.unit_minutes unit.now }
+    ensures value { result ≡ unit_minutes unit.now }
     ensures most { IfSome result (λ minutes. minutes ≤ 525_960) }
 {
     match unit {
@@ -141,7 +145,7 @@ fn product(n: u64, minutes: u64) -> u64
     requires n { n ≤ 9_999 }
     requires minutes { minutes ≤ 525_960 }
     ensures value { result ≡ n * minutes }
-    ensures most { result ≤ 5_259_074_040 }
+    ensures most { result ≤ LONGEST_EFFORT }
 {
     n * minutes
 }

@@ -13,6 +13,6 @@ mod planning;
 
 pub use clock::{ClockLine, read_clock};
 pub use drawer::{Drawer, read_drawer};
-pub use effort::effort_minutes;
+pub use effort::{LONGEST_EFFORT, effort_minutes};
 pub use node::is_node;
 pub use planning::{Planning, read_planning};

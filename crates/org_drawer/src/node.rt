@@ -1,7 +1,7 @@
 //! The node lines of a property drawer.
 ghost use Rattle.std.specs.Prelude.{◌≡◌, ◌+◌, ◌≤◌, true, length};
 ghost use Rattle.std.specs.Option.{option_map};
-ghost use Rattle.org_drawer.specs.Node as spec;
+ghost use Rattle.org_drawer.specs.Node.{given, given_by, given_of, has_plus, is_node, is_node_word, name_len};
 
 use org_base::words::{first_word, trim_start, trimmed};
 
@@ -18,7 +18,7 @@ pub(crate) struct Node<'a> {
 
 // What the line gives; None exactly where it is no node line.
 pub(crate) fn node_of(line: &[u8]) -> Option<Node<'_>>
-    ensures value { option_map spec.given_by result ≡ spec.given_of line.now }
+    ensures value { option_map given_by result ≡ given_of line.now }
 {
     let word = first_word(line);
     if is_node_word(word) {
@@ -31,14 +31,14 @@ pub(crate) fn node_of(line: &[u8]) -> Option<Node<'_>>
 /// Whether the line is a node line (Org Syntax, "Node Properties"): its first word is `:NAME:` or `:NAME+:`, where NAME
 /// isn't empty and doesn't end in `+`.
 pub fn is_node(line: &[u8]) -> bool
-    ensures value { result ≡ spec.is_node line.now }
+    ensures value { result ≡ is_node line.now }
 {
     is_node_word(first_word(line))
 }
 
 // `:NAME:` or `:NAME+:`, where NAME isn't empty and doesn't end in `+`.
 fn is_node_word(word: &[u8]) -> bool
-    ensures value { result ≡ spec.is_node_word word.now }
+    ensures value { result ≡ is_node_word word.now }
 {
     let n = word.len();
     if n < 3 || word[0] != b':' || word[n - 1] != b':' {
@@ -51,7 +51,7 @@ fn is_node_word(word: &[u8]) -> bool
 // Whether a plus stands before the last byte.
 fn has_plus(word: &[u8]) -> bool
     requires { 3 ≤ length word.now }
-    ensures value { result ≡ spec.has_plus word.now }
+    ensures value { result ≡ has_plus word.now }
 {
     word[word.len() - 2] == b'+'
 }
@@ -59,7 +59,7 @@ fn has_plus(word: &[u8]) -> bool
 // The length of NAME.
 fn name_len(word: &[u8]) -> usize
     requires { 3 ≤ length word.now }
-    ensures value { result ≡ spec.name_len word.now }
+    ensures value { result ≡ name_len word.now }
     ensures within { result + 2 ≤ length word.now }
 {
     let behind = if has_plus(word) { 3 } else { 2 };
@@ -68,9 +68,9 @@ fn name_len(word: &[u8]) -> usize
 
 // What a first word and the line from it on give.
 fn node_from<'a>(word: &'a [u8], rest: &'a [u8]) -> Node<'a>
-    requires is_node { spec.is_node_word word.now ≡ true }
+    requires is_node { is_node_word word.now ≡ true }
     requires within { length word.now ≤ length rest.now }
-    ensures value { spec.given_by result ≡ spec.given word.now rest.now }
+    ensures value { given_by result ≡ given word.now rest.now }
 {
     let len = name_len(word);
     Node {

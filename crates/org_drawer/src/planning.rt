@@ -1,7 +1,7 @@
 //! Planning lines.
 ghost use Rattle.std.specs.Prelude.{◌≡◌, ◌<◌, ◌^◌, length, IfSome};
 ghost use Rattle.std.specs.Option.{option_map};
-ghost use Rattle.org_drawer.specs.Planning as spec;
+ghost use Rattle.org_drawer.specs.Planning.{AreInside, planning_of, stamp_under, with_pair};
 
 use org_base::Span;
 use org_stamp::{Pair, PlanningKeyword, Stamp, next_pair};
@@ -18,7 +18,7 @@ pub struct Planning {
 impl Planning {
     /// The part of the line that the stamp under a keyword takes, if there is one.
     pub fn part(self, word: PlanningKeyword) -> Option<Span>
-        ensures value { result ≡ option_map (λ s. s.1) (spec.stamp_under word self) }
+        ensures value { result ≡ option_map (λ s. s.1) (stamp_under word self) }
     {
         match word {
             PlanningKeyword::Scheduled => part_of(self.scheduled),
@@ -41,8 +41,8 @@ fn part_of(found: Option<(Stamp, Span)>) -> Option<Span>
 /// What a planning line says; None exactly where the line is none. Whether it stands directly under a heading isn't asked.
 pub fn read_planning(line: &[u8]) -> Option<Planning>
     requires { length line.now < 2 ^ 32 }
-    ensures value { result ≡ spec.planning_of line.now }
-    ensures inside { IfSome result (λ planning. spec.AreInside line.now planning) }
+    ensures value { result ≡ planning_of line.now }
+    ensures inside { IfSome result (λ planning. AreInside line.now planning) }
 {
     let first = next_pair(line, 0)?;
     let mut at = first.end;
@@ -63,7 +63,7 @@ pub fn read_planning(line: &[u8]) -> Option<Planning>
 fn with_pair(planning: Planning, pair: Pair) -> Planning
     requires at { pair.at < 2 ^ 32 }
     requires len { pair.len < 2 ^ 32 }
-    ensures value { result ≡ spec.with_pair planning pair }
+    ensures value { result ≡ with_pair planning pair }
 {
     let part = Span {
         at: pair.at as u32,

@@ -1,5 +1,5 @@
--- Views of a world (Org manual 9.6, Weekly/daily agenda; The Global TODO List; Matching tags and properties; The clock
--- table).
+-- Views of a world (Org manual 9.6, "Weekly/daily agenda"; "The Global TODO List"; "Matching tags and properties"; "The
+-- clock table").
 use Rattle.std.specs.Prelude.{◌≡◌, ℕ, List, Bool, true, if◌then◌else◌, [], ◌∷◌, map, Option, None, Some, filter, bytes_eq}
 use Rattle.std.specs.Borrow.{Bor}
 use Rattle.std.specs.Option.{option_copied}

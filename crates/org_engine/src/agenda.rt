@@ -3,6 +3,7 @@ ghost use Rattle.std.specs.Prelude.{◌≡◌, ◌+◌, ◌≤◌, string_bytes,
 ghost use Rattle.org_base.specs.Codes.{memory_fault};
 ghost use Rattle.org_base.specs.Results.{GivesText, IfRefused};
 ghost use Rattle.org_agenda.specs.Headings.{AllHaveHeads};
+ghost use Rattle.org_cal.specs.declared.day.TheConstants.{LAST_DAY};
 ghost use Rattle.org_engine.specs.Outlines.{outlines_of};
 ghost use Rattle.org_engine.specs.Questions.{IsAgendaText, asked_agenda};
 ghost use Rattle.org_engine.specs.Sections.{ReadsEach, ReadsSome};
@@ -13,7 +14,7 @@ use crate::outlines::{inherits_of, read_world};
 use crate::world::World;
 use org_agenda::{Agenda, AllStamps, Stamps, sources_of};
 use org_base::{Code, Fault, Meter};
-use org_cal::Day;
+use org_cal::{Day, LAST_DAY};
 use org_file::FileOutline;
 use org_inherit::Inherits;
 use org_layout::agenda_text;
@@ -45,7 +46,7 @@ pub(crate) fn dated_text<T: Text>(
 // The first day and how many there are.
 fn read_days(date: &str, days: u64) -> Result<(Day, u32), Fault>
     ensures value { IfOk result (λ asked. asked_agenda date.now days ≡ DayAgenda asked.0 asked.1) }
-    ensures within { IfOk result (λ asked. (1 ≤ asked.1) × (asked.0 + asked.1 ≤ 3_652_060)) }
+    ensures within { IfOk result (λ asked. (1 ≤ asked.1) × (asked.0 + asked.1 ≤ LAST_DAY + 1)) }
     ensures refused { IfErr result (λ fault. asked_agenda date.now days ≡ Unread fault) }
 {
     let Some(first) = Day::spelled(date.as_bytes()) else {
@@ -55,7 +56,7 @@ fn read_days(date: &str, days: u64) -> Result<(Day, u32), Fault>
         return Err(Fault::Plain(Code::Days));
     }
     let count = days as u32;
-    if first.number() + count > 3_652_060 {
+    if first.number() + count > LAST_DAY + 1 {
         return Err(Fault::Plain(Code::Days));
     }
     Ok((first, count))
@@ -68,7 +69,7 @@ fn days_text<T: Text>(
     first: Day,
     count: u32,
 ) -> Result<String, Fault>
-    requires within { (1 ≤ count) × (first + count ≤ 3_652_060) }
+    requires within { (1 ≤ count) × (first + count ≤ LAST_DAY + 1) }
     ensures value { GivesText result (agenda_view first count world.now) }
     ensures counts { OnOk result (ReadsEach world.now.files meter.old meter.new) }
     ensures few { OnErr result (ReadsSome world.now.files meter.old meter.new) }
@@ -86,7 +87,7 @@ fn days_of<T: Text>(
     count: u32,
 ) -> Result<String, Fault>
     requires read { outlines.now ≡ outlines_of world.now }
-    requires within { (1 ≤ count) × (first + count ≤ 3_652_060) }
+    requires within { (1 ≤ count) × (first + count ≤ LAST_DAY + 1) }
     ensures value { GivesText result (agenda_view first count world.now) }
     ensures memory { IsOkUnless result memory_fault }
 {
@@ -106,7 +107,7 @@ fn agenda_of(
     count: u32,
 ) -> Result<Agenda, Fault>
     requires heads { AllHaveHeads inherits.now }
-    requires within { (1 ≤ count) × (first + count ≤ 3_652_060) }
+    requires within { (1 ≤ count) × (first + count ≤ LAST_DAY + 1) }
     ensures value { IfOk result (ShowsDays inherits.now today first count) }
     ensures memory { IsOkUnless result memory_fault }
 {
@@ -119,7 +120,7 @@ fn agenda_of(
 }
 
 fn last_of(first: Day, count: u32) -> Day
-    requires within { (1 ≤ count) × (first + count ≤ 3_652_060) }
+    requires within { (1 ≤ count) × (first + count ≤ LAST_DAY + 1) }
     ensures value { result + 1 ≡ first + count }
 {
     Day::of_number(first.number() as u64 + count as u64 - 1).unwrap()

@@ -127,8 +127,5 @@ pub(crate) fn world_asked<'a, T: Text>(
     if !is_session(session) {
         return Err(Fault::Plain(Code::Session));
     }
-    match pins.world(session) {
-        Some(world) => Ok(world),
-        None => Err(Fault::Plain(Code::Unpinned)),
-    }
+    pins.world(session).ok_or(Fault::Plain(Code::Unpinned))
 }

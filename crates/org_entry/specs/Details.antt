@@ -1,4 +1,4 @@
--- What few headings have (Org Syntax, Sections).
+-- What few headings have (Org Syntax, "Sections").
 use Rattle.std.specs.Prelude.{List, []}
 use Rattle.org_base.specs.Properties.{Property}
 use Rattle.org_drawer.specs.declared.clock.ClockLine.{ClockLine}

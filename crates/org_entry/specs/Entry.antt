@@ -1,5 +1,5 @@
--- What a section says (Org Syntax, Sections; which stamps are plain ones, and that places count from the section's start:
--- profile).
+-- What a section says (Org Syntax, "Sections"; which stamps are plain ones, and that places count from the section's
+-- start: profile).
 use Rattle.std.specs.Prelude.{ℕ, ◌+◌, if◌then◌else◌, List, [], ◌∷◌, length, map, get_or, Option, Some, None}
 use Rattle.std.specs.List.{flat_map}
 use Rattle.std.specs.Option.{option_to_list}

@@ -1,4 +1,4 @@
--- Laws of what sections say (Org Syntax, Sections).
+-- Laws of what sections say (Org Syntax, "Sections").
 use Rattle.std.specs.Prelude.{◌≡◌, ℕ, true, List, None, IfSome}
 use Rattle.std.specs.List.{AllByRecursion}
 use Rattle.std.specs.Option.{is_some}

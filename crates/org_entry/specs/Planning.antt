@@ -1,4 +1,5 @@
--- What the planning line of a section says (Org Syntax, Planning; that places count from the section's start: profile).
+-- What the planning line of a section says (Org Syntax, "Planning"; that places count from the section's start:
+-- profile).
 use Rattle.std.specs.Prelude.{ℕ, ◌+◌, List, [], ◌∷◌, length, drop, Option}
 use Rattle.std.specs.Option.{option_map}
 use Rattle.org_base.specs.declared.span.Span.{Span}

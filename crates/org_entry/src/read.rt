@@ -76,6 +76,7 @@ fn may_close<T: Text>(text: &T, section: Span, at: usize) -> bool
     requires place { at ≤ section.len }
     ensures none { result ≡ false → has_close at (bytes_in (T.content text.now) section) ≡ false }
 {
+    // For the proof alone: its contract says that the text is not too long.
     let _len = text.len();
     let rest = Span {
         at: section.at + at as u32,
@@ -100,6 +101,7 @@ fn entry_in<T: Text>(
     ensures value { Gives result (entry_of settings.now (bytes_in (T.content text.now) section)) }
     ensures memory { IsOkUnless result memory_fault }
 {
+    // For the proof alone: its contract says that the text is not too long.
     let _len = text.len();
     let spoken = classes.len() - quiet_lines(classes);
     let mut draft = Draft::new(alloc);

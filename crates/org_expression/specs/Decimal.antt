@@ -1,5 +1,5 @@
--- Numbers of expressions and at the front of texts, in billionths (Org manual 9.6, Matching tags and properties; digits and
--- decimals that count: profile).
+-- Numbers of expressions and at the front of texts, in billionths (Org manual 9.6, "Matching tags and properties";
+-- digits and decimals that count: profile).
 -- Characters by their codes: 43 +, 45 -, 46 ., 48 0.
 use Rattle.std.specs.Char.{is_ascii_digit}
 use Rattle.std.specs.Prelude.{ℕ, zero, suc, ◌+◌, ◌-◌, ◌*◌, ◌^◌, Bool, true, false, ◌||◌, ◌==◌, nat_lt, List, [], ◌∷◌, length, drop, if◌then◌else◌}

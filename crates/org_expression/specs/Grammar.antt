@@ -1,5 +1,5 @@
--- The grammar of match expressions, as the spelling of a tree (Org manual 9.6, Matching tags and properties; limits of
--- numbers: profile).
+-- The grammar of match expressions, as the spelling of a tree (Org manual 9.6, "Matching tags and properties"; limits
+-- of numbers: profile).
 -- Characters by their codes: 33 !, 34 ", 38 &, 43 +, 45 -, 46 ., 47 /, 60 <, 61 =, 62 >, 92 \, 123 {, 124 |, 125 }.
 use Rattle.std.specs.Prelude.{◌≡◌, ◌≢◌, ℕ, ◌<◌, ◌≤◌, Bool, true, false, ◌||◌, not, ◌==◌, List, [], ◌∷◌, ◌++◌, length, if◌then◌else◌, encode_utf8_all}
 use Rattle.std.specs.Char.{is_ascii_digit}

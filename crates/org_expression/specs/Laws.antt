@@ -1,4 +1,4 @@
--- Laws of the grammar, of numbers and of named days (Org manual 9.6, Matching tags and properties; limits: profile).
+-- Laws of the grammar, of numbers and of named days (Org manual 9.6, "Matching tags and properties"; limits: profile).
 use Rattle.std.specs.Prelude.{◌≡◌, ◌↔◌, ℕ, ◌^◌, ◌≤◌, Bool, true, List, length, Some}
 use Rattle.org_cal.specs.Days.{IsDay}
 use Rattle.org_expression.specs.Decimal.{number, number_at}

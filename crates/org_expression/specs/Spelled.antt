@@ -1,5 +1,5 @@
--- Decimals and named days without the reader's steps (Org manual 9.6, Matching tags and properties; how many digits count:
--- profile).
+-- Decimals and named days without the reader's steps (Org manual 9.6, "Matching tags and properties"; how many digits
+-- count: profile).
 -- Characters by their codes: 46 ., 48 0.
 use Rattle.std.specs.Prelude.{◌≡◌, ◌⊎◌, ℕ, ◌+◌, ◌^◌, ◌≤◌, Bool, true, false, List, [], ◌∷◌, ◌++◌, length, take, replicate, codes, ℤ, pos, neg_ℤ}
 use Rattle.std.specs.Char.{is_ascii_digit}

@@ -1,4 +1,5 @@
--- Times that an expression compares with (Org manual 9.6, Matching tags and properties; their bounds are the profile's).
+-- Times that an expression compares with (Org manual 9.6, "Matching tags and properties"; their bounds are the
+-- profile's).
 -- Characters by their codes: 43 +, 45 -, 60 <, 62 >.
 use Rattle.std.specs.Prelude.{ℕ, ◌+◌, ◌-◌, ◌*◌, Bool, true, false, ◌&&◌, ◌==◌, nat_le, if◌then◌else◌, List, [], ◌∷◌, length, drop, slice_index, Option, Some, None, bytes_eq, codes}
 use Rattle.std.specs.Option.{option_map, option_or}
@@ -9,6 +10,7 @@ use Rattle.org_cal.specs.Parts.{month_day_of}
 use Rattle.org_cal.specs.declared.moment.Moment.{Moment}
 use Rattle.org_cal.specs.declared.unit.Unit.{Unit}
 use Rattle.org_cal.specs.declared.unit.Unit.TheVariants.{Hour, Day, Week, Month, Year}
+use Rattle.org_cal.specs.declared.day.TheConstants.{LAST_DAY, LAST_MONTH}
 use Rattle.org_stamp.specs.Read.{single_of, stamp_of}
 use Rattle.org_stamp.specs.declared.stamp.Stamp.{Stamp}
 use Rattle.org_expression.specs.Decimal.{front_digits, read_on}
@@ -24,11 +26,11 @@ moved false n from = from + n
 
 -- one day of the years 1 to 9999
 abbrev pub day_if : ℕ → Option ℕ
-day_if day = if nat_le 1 day && nat_le day 3_652_059 then Some day else None
+day_if day = if nat_le 1 day && nat_le day LAST_DAY then Some day else None
 
 -- the day d of a month of the years 1 to 9999, or its last day where it is shorter
 abbrev pub in_month : ℕ → ℕ → Option ℕ
-in_month d index = if nat_le 12 index && nat_le index 119_999 then Some (day_of_month index d) else None
+in_month d index = if nat_le 12 index && nat_le index LAST_MONTH then Some (day_of_month index d) else None
 
 -- the day so many units later, or earlier; a day that the month lacks becomes its last
 abbrev pub day_moved : Bool → ℕ → Unit → ℕ → Option ℕ

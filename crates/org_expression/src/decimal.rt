@@ -2,7 +2,7 @@
 ghost use Rattle.std.specs.Char.{is_ascii_digit};
 ghost use Rattle.std.specs.Prelude.{◌≡◌, ◌^◌, ◌≤◌, ◌<◌, length, true};
 ghost use Rattle.std.specs.List.{list_all};
-ghost use Rattle.org_expression.specs.Decimal as spec;
+ghost use Rattle.org_expression.specs.Decimal.{behind, front_digits, front_value, number, number_at, read_decimals, read_on, unsigned};
 
 const ZERO: u128 = 1_000_000_000_000_000_000_000_000_000;
 
@@ -10,7 +10,7 @@ const ZERO: u128 = 1_000_000_000_000_000_000_000_000_000;
 pub(crate) fn read_whole(digits: &[u8]) -> u128
     requires digits { list_all is_ascii_digit digits.now ≡ true }
     requires room { length digits.now ≤ 18 }
-    ensures value { result ≡ spec.read_on 0 digits.now }
+    ensures value { result ≡ read_on 0 digits.now }
     ensures below { result < 10 ^ 18 }
 {
     let mut n: u128 = 0;
@@ -23,7 +23,7 @@ pub(crate) fn read_whole(digits: &[u8]) -> u128
 // The number with nine decimals more.
 fn read_decimals(whole: u128, fraction: &[u8]) -> u128
     requires room { whole < 10 ^ 18 }
-    ensures value { result ≡ spec.read_decimals whole 9 fraction.now }
+    ensures value { result ≡ read_decimals whole 9 fraction.now }
     ensures below { result < 10 ^ 27 }
 {
     let mut n = whole;
@@ -38,7 +38,7 @@ fn read_decimals(whole: u128, fraction: &[u8]) -> u128
 
 // The digit at the front, else 0.
 fn front_value(text: &[u8]) -> u8
-    ensures value { result ≡ spec.front_value text.now }
+    ensures value { result ≡ front_value text.now }
     ensures small { result ≤ 9 }
 {
     match text.first() {
@@ -49,7 +49,7 @@ fn front_value(text: &[u8]) -> u8
 
 // What stands behind a digit at the front.
 fn behind(text: &[u8]) -> &[u8]
-    ensures value { result.now ≡ spec.behind text.now }
+    ensures value { result.now ≡ behind text.now }
 {
     match text {
         [byte, rest @ ..] if byte.is_ascii_digit() => rest,
@@ -59,7 +59,7 @@ fn behind(text: &[u8]) -> &[u8]
 
 // How many digits stand at the front.
 pub(crate) fn digit_count(text: &[u8]) -> usize
-    ensures value { result ≡ length (spec.front_digits text.now) }
+    ensures value { result ≡ length (front_digits text.now) }
     ensures within { result ≤ length text.now }
 {
     let mut count = 0;
@@ -75,7 +75,7 @@ pub(crate) fn digit_count(text: &[u8]) -> usize
 /// The number with these digits before and behind the point, in billionths counted from -10^18; that of 0 with none or
 /// more than eighteen digits before it. Decimals behind the ninth don't count (profile).
 pub fn number(is_negative: bool, whole: &[u8], fraction: &[u8]) -> u128
-    ensures value { result ≡ spec.number is_negative whole.now fraction.now }
+    ensures value { result ≡ number is_negative whole.now fraction.now }
 {
     let count = digit_count(whole);
     if count == 0 || count > 18 {
@@ -87,7 +87,7 @@ pub fn number(is_negative: bool, whole: &[u8], fraction: &[u8]) -> u128
 
 // The number of digits, and perhaps a point and more.
 fn unsigned(is_negative: bool, text: &[u8]) -> u128
-    ensures value { result ≡ spec.unsigned is_negative text.now }
+    ensures value { result ≡ unsigned is_negative text.now }
 {
     match &text[digit_count(text)..] {
         [b'.', fraction @ ..] => number(is_negative, text, fraction),
@@ -97,7 +97,7 @@ fn unsigned(is_negative: bool, text: &[u8]) -> u128
 
 /// The number at the front of a text, as [`number`] gives it, else that of 0.
 pub fn number_at(text: &[u8]) -> u128
-    ensures value { result ≡ spec.number_at text.now }
+    ensures value { result ≡ number_at text.now }
 {
     match text {
         [] => ZERO,

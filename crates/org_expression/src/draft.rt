@@ -2,7 +2,7 @@
 ghost use Rattle.std.specs.Prelude.{◌≡◌, IfOk, OnOk, Some};
 ghost use Rattle.org_base.specs.Results.{Gives};
 ghost use Rattle.org_expression.specs.Tree.{term_of as tree_term, link_of, op_of, sign_of};
-ghost use Rattle.org_expression.specs.Draft as spec;
+ghost use Rattle.org_expression.specs.Draft.{absorb, begin, begin_value, empty_draft, finished, follow, in_name, term_of, with_term};
 
 use crate::shape::Shape;
 use crate::state::State;
@@ -59,7 +59,7 @@ impl Model for Draft {
 impl Draft {
     // Nothing is read.
     pub(crate) fn new(alloc: Global) -> Draft
-        ensures value { result ≡ spec.empty_draft }
+        ensures value { result ≡ empty_draft }
     {
         Draft {
             kind: Kind::Tags,
@@ -80,7 +80,7 @@ impl Draft {
 
     // The term that was read last.
     fn term(&self) -> Result<Term, AllocError>
-        ensures value { IfOk result (λ t. tree_term t ≡ spec.term_of self.now) }
+        ensures value { IfOk result (λ t. tree_term t ≡ term_of self.now) }
     {
         let term = match self.shape {
             Shape::AsTag => Term::Tag(self.name.copy(self.alloc)?),
@@ -111,7 +111,7 @@ impl Draft {
 
     // Ends the term that was read last.
     fn close(&mut self, link: Link, sign: Sign) -> Result<(), AllocError>
-        ensures value { OnOk result (self.new ≡ spec.with_term self.old (link_of link) (sign_of sign)) }
+        ensures value { OnOk result (self.new ≡ with_term self.old (link_of link) (sign_of sign)) }
     {
         let term = self.term()?;
         let item = Item {
@@ -131,7 +131,7 @@ impl Draft {
 
     // Takes a character where a term may begin.
     fn begin(&mut self, c: char) -> Result<(), AllocError>
-        ensures value { OnOk result (self.new ≡ spec.begin c self.old) }
+        ensures value { OnOk result (self.new ≡ begin c self.old) }
     {
         match c {
             '+' => self.sign = Sign::Plus,
@@ -157,7 +157,7 @@ impl Draft {
 
     // Takes the character behind a whole term.
     fn follow(&mut self, c: char) -> Result<(), AllocError>
-        ensures value { OnOk result (self.new ≡ spec.follow c self.old) }
+        ensures value { OnOk result (self.new ≡ follow c self.old) }
     {
         match c {
             '+' => self.close(Link::Direct, Sign::Plus),
@@ -174,7 +174,7 @@ impl Draft {
 
     // Takes the first character of a value.
     fn begin_value(&mut self, c: char) -> Result<(), AllocError>
-        ensures value { OnOk result (self.new ≡ spec.begin_value c self.old) }
+        ensures value { OnOk result (self.new ≡ begin_value c self.old) }
     {
         match c {
             '-' => {
@@ -212,7 +212,7 @@ impl Draft {
 
     // Takes a character behind the first of a name.
     fn in_name(&mut self, c: char) -> Result<(), AllocError>
-        ensures value { OnOk result (self.new ≡ spec.in_name c self.old) }
+        ensures value { OnOk result (self.new ≡ in_name c self.old) }
     {
         match c {
             '\\' => Ok(()),
@@ -226,7 +226,7 @@ impl Draft {
 
     // Takes a character, in the state that the ones before it lead to.
     pub(crate) fn absorb(&mut self, state: State, c: char) -> Result<(), AllocError>
-        ensures value { OnOk result (self.new ≡ spec.absorb state c self.old) }
+        ensures value { OnOk result (self.new ≡ absorb state c self.old) }
     {
         match state {
             State::Start
@@ -258,7 +258,7 @@ impl Draft {
 
     // The expression, where it may end in this state.
     pub(crate) fn finish(mut self, state: State) -> Result<Option<Expression>, AllocError>
-        ensures value { Gives result (spec.finished (Some state) self) }
+        ensures value { Gives result (finished (Some state) self) }
     {
         if !is_final(state) {
             return Ok(None);

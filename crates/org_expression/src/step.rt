@@ -1,14 +1,14 @@
 //! The automaton of the grammar. Each state that it can be in has a way to the end of some expression, so the longest
 //! front of a text that begins an expression ends where no step is left.
 ghost use Rattle.std.specs.Prelude.{◌≡◌};
-ghost use Rattle.org_expression.specs.Automaton as spec;
+ghost use Rattle.org_expression.specs.Automaton.{begin_step, is_final, name_step, next_step, sign_step, step, term_step, value_step};
 
 use crate::state::{Part, State};
 use org_base::is_tag_char;
 
 // A sign.
 fn sign_to(part: Part, c: char) -> Option<State>
-    ensures value { result ≡ spec.sign_step part c }
+    ensures value { result ≡ sign_step part c }
 {
     match c {
         '+' | '-' => Some(State::Signed(part)),
@@ -18,7 +18,7 @@ fn sign_to(part: Part, c: char) -> Option<State>
 
 // The first character of a term.
 fn term_to(part: Part, c: char) -> Option<State>
-    ensures value { result ≡ spec.term_step part c }
+    ensures value { result ≡ term_step part c }
 {
     match c {
         '\\' => Some(State::Escaped(part)),
@@ -30,14 +30,14 @@ fn term_to(part: Part, c: char) -> Option<State>
 
 // A sign, or the first character of a term.
 fn begin_to(part: Part, c: char) -> Option<State>
-    ensures value { result ≡ spec.begin_step part c }
+    ensures value { result ≡ begin_step part c }
 {
     sign_to(part, c).or(term_to(part, c))
 }
 
 // What stands behind a whole term.
 fn next_to(part: Part, c: char) -> Option<State>
-    ensures value { result ≡ spec.next_step part c }
+    ensures value { result ≡ next_step part c }
 {
     match c {
         '+' | '-' => Some(State::Signed(part)),
@@ -49,7 +49,7 @@ fn next_to(part: Part, c: char) -> Option<State>
 
 // The first character of a value that is no pattern.
 fn value_to(c: char) -> Option<State>
-    ensures value { result ≡ spec.value_step c }
+    ensures value { result ≡ value_step c }
 {
     match c {
         '-' => Some(State::AfterMinus),
@@ -61,7 +61,7 @@ fn value_to(c: char) -> Option<State>
 
 // What stands behind the first character of a name.
 fn name_to(part: Part, c: char) -> Option<State>
-    ensures value { result ≡ spec.name_step part c }
+    ensures value { result ≡ name_step part c }
 {
     match c {
         '\\' => Some(State::Escaped(part)),
@@ -75,7 +75,7 @@ fn name_to(part: Part, c: char) -> Option<State>
 
 // What a front ends in, once one more character is there; `None` where no expression begins so.
 pub(crate) fn step(state: State, c: char) -> Option<State>
-    ensures value { result ≡ spec.step state c }
+    ensures value { result ≡ step state c }
 {
     match state {
         State::Start if c == '/' => Some(State::AfterSlash),
@@ -114,7 +114,7 @@ pub(crate) fn step(state: State, c: char) -> Option<State>
 
 // Whether an expression may end here.
 pub(crate) fn is_final(state: State) -> bool
-    ensures value { result ≡ spec.is_final state }
+    ensures value { result ≡ is_final state }
 {
     matches!(
         state,

@@ -1,5 +1,5 @@
--- The sections of a text by their places and their first lines (Org Syntax, Headings and Sections; that they are found by
--- lines: profile).
+-- The sections of a text by their places and their first lines (Org Syntax, "Headings and Sections"; that they are
+-- found by lines: profile).
 use Rattle.std.specs.Prelude.{◌≡◌, ℕ, ◌+◌, ◌<◌, List, [], length, take, get_or}
 use Rattle.std.specs.List.{concat, flat_map}
 use Rattle.org_class.specs.Sections.{sections}

@@ -1,4 +1,4 @@
--- The sections of a text, classified (Org Syntax, Sections).
+-- The sections of a text, classified (Org Syntax, "Sections").
 use Rattle.std.specs.Prelude.{◌≡◌, ◌+◌, ◌≤◌, ℕ, List, length, map}
 use Rattle.std.specs.List.{All}
 use Rattle.org_base.specs.declared.span.Span.{Span}

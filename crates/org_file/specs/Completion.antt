@@ -1,5 +1,5 @@
--- Completing a heading: its keyword, and its repeated stamps (Org manual 9.6, Repeated tasks; where the keyword goes, and
--- which one is written: profile).
+-- Completing a heading: its keyword, and its repeated stamps (Org manual 9.6, "Repeated tasks"; where the keyword goes,
+-- and which one is written: profile).
 use Rattle.std.specs.Prelude.{ℕ, ◌+◌, ◌-◌, Bool, false, ◌&&◌, ◌||◌, not, nat_lt, if◌then◌else◌, List, [], ◌∷◌, ◌++◌, length, take, drop, get_or, slice_get, codes, Option, Some, None, Result, Ok, Err, is_some}
 use Rattle.std.specs.List.{concat, prefix_len}
 use Rattle.org_base.specs.Words.{is_space}

@@ -1,4 +1,4 @@
--- What a file says: its settings and its entries (Org Syntax, Headings and Sections).
+-- What a file says: its settings and its entries (Org Syntax, "Headings and Sections").
 use Rattle.std.specs.Prelude.{ℕ, List}
 use Rattle.org_class.specs.Classes.{setting_lines}
 use Rattle.org_settings.specs.Settings.{FileSettings, settings_of}

@@ -10,8 +10,7 @@ ghost use Rattle.org_base.specs.declared.meter.Tick.TheVariants.{Read};
 ghost use Rattle.org_class.specs.Sections.{sections};
 ghost use Rattle.org_entry.specs.Entry.{heading_line};
 ghost use Rattle.org_file.specs.Begun.{entry_there};
-ghost use Rattle.org_file.specs.Completion as spec;
-ghost use Rattle.org_file.specs.Completion.{completed, sized, plan_written, section_completed};
+ghost use Rattle.org_file.specs.Completion.{completed, gap_behind, keyword_span, plan_written, section_completed, sized};
 ghost use Rattle.org_file.specs.Counts.{AtMost, AtMostOneRead};
 ghost use Rattle.org_file.specs.Written.{AnswersAs, CanWrite, IsBehind, plan_end, plan_text, shift_end, shift_text};
 ghost use Rattle.org_text.specs.Replace.{replace};
@@ -95,7 +94,7 @@ fn complete_entry<T: Text>(
     requires within { place < length (sections file.now) }
     requires entry { entry.now ≡ entry_there file.now place }
     requires headed { IsSome entry.now.head }
-    requires plan { CanWrite entry.now.text (spec.keyword_span (heading_line entry.now) old) plan }
+    requires plan { CanWrite entry.now.text (keyword_span (heading_line entry.now) old) plan }
     ensures value { AnswersAs T.content result (plan_written file.now place entry.now old plan) }
 {
     let text = file.text();
@@ -130,7 +129,7 @@ fn leading_spaces(text: &[u8]) -> usize
 // Where the keyword of a heading line stands, or goes.
 fn keyword_span(line: &[u8], old: Option<Span>) -> Span
     requires fits { length line.now < 2 ^ 32 }
-    ensures value { result ≡ spec.keyword_span line.now old }
+    ensures value { result ≡ keyword_span line.now old }
 {
     if let Some(span) = old {
         return span;
@@ -159,7 +158,7 @@ fn push_bytes(out: &mut String, bytes: &[u8]) -> Result<(), AllocError>
 // Puts a keyword at the end, and a space behind it where the heading has none so far.
 fn push_keyword(out: &mut String, word: &[u8], old: Option<Span>) -> Result<(), AllocError>
     requires utf8 { IsUtf8 word.now }
-    ensures ok { Writes result out.old out.new (word.now ++ spec.gap_behind old) }
+    ensures ok { Writes result out.old out.new (word.now ++ gap_behind old) }
 {
     push_bytes(out, word)?;
     match old {

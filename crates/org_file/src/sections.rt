@@ -145,6 +145,7 @@ impl<'a, T: Text> Sections<'a, T> {
         ensures utf8 { IsUtf8 self.now }
         ensures small { length self.now ≤ max_bytes }
     {
+        // For the proof alone: its contract says so.
         let _len = self.text.len();
         self.text
     }

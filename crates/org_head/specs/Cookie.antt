@@ -1,4 +1,4 @@
--- Priority cookies (Org manual 9.6, Priorities).
+-- Priority cookies (Org manual 9.6, "Priorities").
 -- Characters by their codes: 35 #, 91 [, 93 ].
 use Rattle.std.specs.Prelude.{ℕ, ◌-◌, Bool, ◌&&◌, ◌==◌, nat_lt, List, length, take, drop, slice_index}
 use Rattle.org_settings.specs.Priority.{is_priority}

@@ -1,4 +1,4 @@
--- The parts of a heading line, read from the left (Org Syntax, Headings; that each is a whole word: profile).
+-- The parts of a heading line, read from the left (Org Syntax, "Headings"; that each is a whole word: profile).
 use Rattle.std.specs.Prelude.{ℕ, ◌+◌, ◌-◌, Bool, if◌then◌else◌, List, [], length, take, drop, Option, Some, None, IfSome}
 use Rattle.std.specs.List.{All}
 use Rattle.org_base.specs.Words.{trim_start, trim_end, first_word}

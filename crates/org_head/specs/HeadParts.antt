@@ -1,4 +1,4 @@
--- What the parts of a heading line are (Org Syntax, Headings; that each is a whole word, and what white space is:
+-- What the parts of a heading line are (Org Syntax, "Headings"; that each is a whole word, and what white space is:
 -- profile). The line is the spelling of its parts: stars, a gap, and each optional, with a gap behind it, a keyword, a
 -- cookie and COMMENT; then the title, a gap and the tags; then a gap. A gap is white space and the line feed.
 -- Characters by their codes: 32 space, 42 *.

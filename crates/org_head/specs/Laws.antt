@@ -1,4 +1,4 @@
--- Laws of the parts of a heading line (Org Syntax, Headings).
+-- Laws of the parts of a heading line (Org Syntax, "Headings").
 use Rattle.std.specs.Prelude.{ℕ, ◌≡◌, List, IsTrue}
 use Rattle.org_head.specs.declared.head.Head.{Head}
 use Rattle.org_settings.specs.Settings.{FileSettings}

@@ -1,4 +1,4 @@
--- The words that are parts of a heading line (Org Syntax, Headings).
+-- The words that are parts of a heading line (Org Syntax, "Headings").
 use Rattle.std.specs.Prelude.{ℕ, ◌-◌, Bool, ◌&&◌, ◌||◌, not, ◌==◌, nat_lt, List, length, drop, slice_index, bytes_eq, codes, chars, is_some}
 use Rattle.std.specs.Char.{is_ascii_alphanumeric}
 use Rattle.std.specs.List.{list_any, list_all, suffix_len}

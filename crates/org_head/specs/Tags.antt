@@ -1,4 +1,4 @@
--- The parts of a text between colons (Org Syntax, Headings).
+-- The parts of a text between colons (Org Syntax, "Headings").
 use Rattle.std.specs.Prelude.{ℕ, ◌+◌, if◌then◌else◌, ◌==◌, List, [], ◌∷◌, ◌++◌}
 use Rattle.org_base.specs.declared.span.Span.{Span}
 use Rattle.org_head.specs.Parts.{is_colon}

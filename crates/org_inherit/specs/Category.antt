@@ -1,4 +1,4 @@
--- Categories (Org manual 9.6, Categories; which part of a file's name, and the order in a file: profile).
+-- Categories (Org manual 9.6, "Categories"; which part of a file's name, and the order in a file: profile).
 -- Characters by their codes: 46 ., 47 /.
 use Rattle.std.specs.Prelude.{ℕ, ◌==◌, if◌then◌else◌, List, length, codes, map}
 use Rattle.std.specs.List.{after_last, before_last, range_with_len}

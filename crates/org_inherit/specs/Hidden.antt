@@ -1,5 +1,5 @@
--- Which entries are hidden (Org manual 9.6, Comment Lines and Internal Archiving; that below a hidden one all are, and
--- that a file's tags hide nothing: profile).
+-- Which entries are hidden (Org manual 9.6, "Comment Lines"; "Internal Archiving"; that below a hidden one all are,
+-- and that a file's tags hide nothing: profile).
 use Rattle.std.specs.Prelude.{ℕ, Bool, false, ◌||◌, Option, None, Some, List, ◌∷◌, map, get_or, bytes_eq, codes}
 use Rattle.std.specs.List.{list_any}
 use Rattle.org_entry.specs.declared.entry.Entry.{Entry}

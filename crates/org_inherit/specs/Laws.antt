@@ -1,4 +1,4 @@
--- Laws of inheritance (Org manual 9.6, Tag Inheritance; Property Inheritance; Internal Archiving).
+-- Laws of inheritance (Org manual 9.6, "Tag Inheritance"; "Property Inheritance"; "Internal Archiving").
 use Rattle.std.specs.Prelude.{◌≡◌, ◌↔◌, ◌||◌, ℕ, ◌+◌, ◌<◌, Bool, true, List, ◌∷◌, ◌++◌, Some, length, reverse, slice_get, bytes_eq}
 use Rattle.std.specs.List.{list_any, flat_map, position_or_len}
 use Rattle.org_entry.specs.declared.entry.Entry.{Entry}

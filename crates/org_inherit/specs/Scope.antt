@@ -1,4 +1,4 @@
--- What inheritance looks at in one file (Org manual 9.6, Tag Inheritance and Property Inheritance).
+-- What inheritance looks at in one file (Org manual 9.6, "Tag Inheritance"; "Property Inheritance").
 use Rattle.std.specs.Prelude.{ℕ, List}
 use Rattle.org_settings.specs.Settings.{FileSettings}
 use Rattle.org_entry.specs.declared.entry.Entry.{Entry}

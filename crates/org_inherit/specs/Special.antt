@@ -1,4 +1,4 @@
--- Special names (Org manual 9.6, Special Properties; which there are, and how their values are written: profile).
+-- Special names (Org manual 9.6, "Special Properties"; which there are, and how their values are written: profile).
 use Rattle.std.specs.Prelude.{ℕ, nat_lt, if◌then◌else◌, List, [], ◌∷◌, Option, None, Some, get_or, map, codes, decimal}
 use Rattle.std.specs.Option.{option_map, option_and_then}
 use Rattle.org_base.specs.Words.{same_word}

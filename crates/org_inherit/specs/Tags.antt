@@ -1,4 +1,4 @@
--- Tags of headings (Org manual 9.6, Tag Inheritance; that of equal ones the first stays: profile).
+-- Tags of headings (Org manual 9.6, "Tag Inheritance"; that of equal ones the first stays: profile).
 -- Characters by their codes: 58 :.
 use Rattle.std.specs.Prelude.{ℕ, ◌==◌, if◌then◌else◌, List, [], ◌∷◌, ◌++◌, Option, None, Some, map, length, get_or, fold, reverse, bytes_eq}
 use Rattle.std.specs.List.{list_any, flat_map}

@@ -1,5 +1,5 @@
--- The value of a name that isn't special (Org manual 9.6, Property Inheritance; that a file's value is inherited as an
--- ancestor's is: profile).
+-- The value of a name that isn't special (Org manual 9.6, "Property Inheritance"; that a file's value is inherited as
+-- an ancestor's is: profile).
 use Rattle.std.specs.Prelude.{ℕ, Bool, if◌then◌else◌, Option, Some, None, List, [], ◌∷◌, map, get_or}
 use Rattle.std.specs.List.{list_any}
 use Rattle.std.specs.Option.{option_or}

@@ -25,7 +25,7 @@ use std::alloc::Global;
 use std::marker::Model;
 
 /// What the outline of one file says of its entries, seen as the entries, the file's settings and name, and the names
-/// whose values are inherited (Org manual 9.6, "Tag Inheritance", "Property Inheritance"). Places are those of the
+/// whose values are inherited (Org manual 9.6, "Tag Inheritance"; "Property Inheritance"). Places are those of the
 /// outline, from 0.
 #[derive(Debug, Drop)]
 pub struct Inherit<'a> {
@@ -101,7 +101,7 @@ impl<'a> Inherit<'a> {
     }
 
     /// Whether the entry or an ancestor of it has the word `COMMENT` or the own tag `ARCHIVE` (Org manual 9.6, "Comment
-    /// Lines", "Internal Archiving"). The file's tags hide nothing.
+    /// Lines"; "Internal Archiving"). The file's tags hide nothing.
     pub fn hidden(&self, place: usize) -> bool
         requires { place < length self.now.entries }
         ensures value { result ≡ is_hidden self.now.entries place }

@@ -64,6 +64,7 @@ impl<'a, T: Text> Lines<'a, T> {
         ensures utf8 { IfUncut (T.content text.now) span (All IsUtf8 (map (λ c. c.bytes) result)) }
         ensures few { length result ≤ span.len }
     {
+        // For the proof alone: its contract says that the text is not too long.
         let _len = text.len();
         Lines {
             alloc,
@@ -206,6 +207,7 @@ pub fn line_starts<T: Text>(alloc: Global, text: &T, span: Span) -> Result<Vec<u
     ensures starts { GivesItems result (starts span.at (lines_in (T.content text.now) span)) }
     ensures memory { IsOkUnless result (Plain Memory) }
 {
+    // For the proof alone: its contract says that the text is not too long.
     let _len = text.len();
     let mut out = Vec::new(alloc);
     let mut left = span;

@@ -1,4 +1,5 @@
--- Whether an expression holds of a heading, by what the heading answers (Org manual 9.6, Matching tags and properties).
+-- Whether an expression holds of a heading, by what the heading answers (Org manual 9.6, "Matching tags and
+-- properties").
 use Rattle.std.specs.Prelude.{Bool, List}
 use Rattle.org_cal.specs.declared.moment.Moment.{Moment}
 use Rattle.org_expression.specs.Grammar.{Expr, Item}

@@ -1,4 +1,4 @@
--- Which terms ask of a heading's tags, and what they find (Org manual 9.6, Matching tags and properties).
+-- Which terms ask of a heading's tags, and what they find (Org manual 9.6, "Matching tags and properties").
 use Rattle.std.specs.Prelude.{ℕ, Bool, true, false, ◌||◌, List, [], ◌∷◌, map, bytes_eq, encode_utf8_all}
 use Rattle.std.specs.List.{list_any}
 use Rattle.org_expression.specs.Grammar.{Term, Tag, Found, Compare, Item, item}

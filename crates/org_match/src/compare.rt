@@ -1,7 +1,7 @@
 //! Comparisons of a property's text with a value.
 ghost use Rattle.std.specs.Prelude.{◌≡◌};
 ghost use Rattle.org_match.specs.Built.{built_value_of};
-ghost use Rattle.org_match.specs.Compare as spec;
+ghost use Rattle.org_match.specs.Compare.{allows, by_pattern, by_quoted, by_times, compares};
 ghost use Rattle.org_match.specs.Refusal.{value_pattern};
 ghost use Rattle.org_expression.specs.Tree.{op_of};
 
@@ -20,7 +20,7 @@ pub(crate) fn compares(
     searcher: &mut Option<Searcher<'_>>,
 ) -> bool
     requires searcher { searcher.old ≡ value_pattern (built_value_of value.now) }
-    ensures value { result ≡ spec.compares moment (op_of op) text.now (built_value_of value.now) }
+    ensures value { result ≡ compares moment (op_of op) text.now (built_value_of value.now) }
     ensures unchanged { searcher.new ≡ searcher.old }
 {
     match value {
@@ -43,7 +43,7 @@ pub(crate) fn compares(
 
 // `=` wants the pattern to be found, `<>` wants it not to be.
 fn by_pattern(op: Op, is_found: bool) -> bool
-    ensures value { result ≡ spec.by_pattern (op_of op) is_found }
+    ensures value { result ≡ by_pattern (op_of op) is_found }
 {
     match op {
         Op::Differs => !is_found,
@@ -53,7 +53,7 @@ fn by_pattern(op: Op, is_found: bool) -> bool
 
 // Whether the operator allows this order of two values.
 fn allows(op: Op, order: Ordering) -> bool
-    ensures value { result ≡ spec.allows (op_of op) order }
+    ensures value { result ≡ allows (op_of op) order }
 {
     match op {
         Op::Less => order.is_lt(),
@@ -67,7 +67,7 @@ fn allows(op: Op, order: Ordering) -> bool
 
 // Whether a text meets an operator and a quoted text, which may stand for a time.
 fn by_quoted(moment: Moment, op: Op, text: &[u8], quoted: &[u8]) -> bool
-    ensures value { result ≡ spec.by_quoted moment (op_of op) text.now quoted.now }
+    ensures value { result ≡ by_quoted moment (op_of op) text.now quoted.now }
 {
     if !is_time(quoted) {
         return allows(op, text.cmp(quoted));
@@ -77,7 +77,7 @@ fn by_quoted(moment: Moment, op: Op, text: &[u8], quoted: &[u8]) -> bool
 
 // Whether two minutes meet an operator: never where one of them is missing.
 fn by_times(op: Op, left: Option<u64>, right: Option<u64>) -> bool
-    ensures value { result ≡ spec.by_times (op_of op) left right }
+    ensures value { result ≡ by_times (op_of op) left right }
 {
     match (left, right) {
         (Some(left), Some(right)) => allows(op, left.cmp(&right)),

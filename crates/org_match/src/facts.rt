@@ -25,7 +25,7 @@ pub trait Facts {
         ensures value { Gives result (tags self.now) }
         ensures memory { IsOkUnless result memory_fault };
 
-    /// The value of a name, if it isn't missing. Special names (Org manual 9.6, Special Properties) win over a
+    /// The value of a name, if it isn't missing. Special names (Org manual 9.6, "Special Properties") win over a
     /// drawer's; names ignore ASCII case. Want of memory is its only refusal.
     fn value(&self, alloc: Global, name: &[u8]) -> Result<Option<Bytes>, Fault>
         ensures value { Gives result (value self.now name.now) }

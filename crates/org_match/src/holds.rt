@@ -131,8 +131,8 @@ impl<'a> Matcher<'a> {
 }
 
 impl Match {
-    /// Whether the expression holds of a heading at a moment (Org manual 9.6, Matching tags and properties). To ask of many
-    /// headings, make a [`Matcher`] of it. Want of memory is its only refusal.
+    /// Whether the expression holds of a heading at a moment (Org manual 9.6, "Matching tags and properties"). To ask
+    /// of many headings, make a [`Matcher`] of it. Want of memory is its only refusal.
     pub fn test<F: Facts>(&self, alloc: Global, facts: &F, moment: Moment) -> Result<bool, Fault>
         ensures value { Gives result (holds_by F.Facts facts.now moment self.now) }
         ensures memory { IsOkUnless result memory_fault }

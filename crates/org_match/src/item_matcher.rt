@@ -6,7 +6,7 @@ ghost use Rattle.org_base.specs.Results.{Gives};
 ghost use Rattle.org_match.specs.Verdicts.{meets};
 ghost use Rattle.org_match.specs.Built.{built_item_of};
 ghost use Rattle.org_match.specs.Facts.{tag_item_holds_by};
-ghost use Rattle.org_match.specs.Holds as spec;
+ghost use Rattle.org_match.specs.Holds.{is_or, link_of, signed};
 ghost use Rattle.org_match.specs.Patterns.{found};
 ghost use Rattle.org_expression.specs.Tree.{sign_of};
 
@@ -56,7 +56,7 @@ impl<'a> ItemMatcher<'a> {
 
     // Whether a bar stands before the term.
     pub(crate) fn begins_part(&self) -> bool
-        ensures value { result ≡ spec.is_or (spec.link_of self.now) }
+        ensures value { result ≡ is_or (link_of self.now) }
     {
         self.item.link == Link::Or
     }
@@ -108,7 +108,7 @@ impl<'a> ItemMatcher<'a> {
 
 // A minus negates its term.
 pub(crate) fn signed(sign: Sign, holds: bool) -> bool
-    ensures value { result ≡ spec.signed (sign_of sign) holds }
+    ensures value { result ≡ signed (sign_of sign) holds }
 {
     match sign {
         Sign::Minus => !holds,

@@ -1,4 +1,4 @@
--- Laws of the tree (Org Syntax, Headings and Sections).
+-- Laws of the tree (Org Syntax, "Headings and Sections").
 use Rattle.std.specs.Prelude.{◌≡◌, ℕ, ◌+◌, ◌<◌, ◌≤◌, Bool, true, false, ◌==◌, ◌↔◌, Option, Some, None, List, ◌++◌, is_some, length, map}
 use Rattle.std.specs.List.{list_any}
 use Rattle.org_outline.specs.Tree.{level_at, is_smaller, parent, end_of, ancestors, up_from}

@@ -1,4 +1,4 @@
--- The levels of entries (Org Syntax, Headings and Sections: a heading's level is the number of its stars).
+-- The levels of entries (Org Syntax, "Headings and Sections": a heading's level is the number of its stars).
 use Rattle.std.specs.Prelude.{ℕ, Option, List, map}
 use Rattle.std.specs.Option.{option_map}
 use Rattle.std.specs.declared.rc.Rc.{Rc}

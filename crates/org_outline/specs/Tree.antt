@@ -1,5 +1,5 @@
--- The tree that the levels of entries give (Org Syntax, Headings and Sections; that levels may skip: Org manual 9.6,
--- Headlines). An entry that is no heading has no level.
+-- The tree that the levels of entries give (Org Syntax, "Headings and Sections"; that levels may skip: Org manual 9.6,
+-- "Headlines"). An entry that is no heading has no level.
 use Rattle.std.specs.Prelude.{ℕ, zero, suc, ◌+◌, ◌-◌, Bool, true, false, nat_lt, nat_le, Option, Some, None, List, [], ◌∷◌, length, map, get_or, ◌≡◌, ◌<◌, slice_index}
 use Rattle.std.specs.List.{range_with_len}
 use Rattle.org_outline.specs.Places.{greatest_below, least_from}

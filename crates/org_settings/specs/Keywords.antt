@@ -1,5 +1,5 @@
--- The keywords that a file's setting lines name (Org manual 9.6, Workflow States, Multiple Sets in One File and Fast
--- Access to TODO States; which words stay, and repeats: profile).
+-- The keywords that a file's setting lines name (Org manual 9.6, "Workflow States"; "Multiple Sets in One File"; "Fast
+-- Access to TODO States"; which words stay, and repeats: profile).
 -- Characters by their codes: 40 (, 41 ).
 use Rattle.std.specs.Prelude.{ℕ, suc, ◌-◌, Bool, true, false, ◌||◌, not, ◌==◌, nat_lt, if◌then◌else◌, List, [], ◌∷◌, ◌++◌, map, length, take, drop, take_while, slice_index, bytes_eq, codes, Option, is_some, position, get_or}
 use Rattle.std.specs.List.{prefix_len}

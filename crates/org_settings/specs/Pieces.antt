@@ -1,4 +1,5 @@
--- Pieces of a text between separators (Org manual 9.6, Tag Inheritance and Setting Tags; which bytes are white space: profile).
+-- Pieces of a text between separators (Org manual 9.6, "Tag Inheritance"; "Setting Tags"; which bytes are white
+-- space: profile).
 use Rattle.std.specs.Borrow.{Bor}
 use Rattle.std.specs.List.{slice_range}
 use Rattle.std.specs.Prelude.{ℕ, Bool, true, false, ◌||◌, ◌==◌, if◌then◌else◌, List, [], ◌∷◌, length, ◌≡◌, ◌++◌}

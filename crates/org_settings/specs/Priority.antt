@@ -1,4 +1,4 @@
--- Priorities (Org manual 9.6, Priorities; which there are: profile).
+-- Priorities (Org manual 9.6, "Priorities"; which there are: profile).
 -- Characters by their codes: 48 0, 90 Z.
 use Rattle.std.specs.Prelude.{ℕ, ◌+◌, ◌-◌, ◌*◌, Bool, ◌||◌, ◌&&◌, not, ◌==◌, nat_le, if◌then◌else◌, List, length, slice_index}
 use Rattle.std.specs.Char.{is_ascii_uppercase, is_ascii_digit}

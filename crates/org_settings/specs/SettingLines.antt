@@ -1,5 +1,5 @@
--- Key and value of a setting line, and what one line says (Org Syntax, Keywords; Org manual 9.6, Tag Inheritance,
--- Categories, Property Syntax and Priorities; which line counts of several: profile).
+-- Key and value of a setting line, and what one line says (Org Syntax, "Keywords"; Org manual 9.6, "Tag Inheritance";
+-- "Categories"; "Property Syntax"; "Priorities"; which line counts of several: profile).
 -- Characters by their codes: 43 +, 58 :.
 use Rattle.std.specs.Prelude.{ℕ, ◌+◌, Bool, ◌&&◌, not, ◌==◌, if◌then◌else◌, List, [], ◌∷◌, length, drop, take_while, get_or, slice_index, codes, Option, Some, None, ◌-◌, take, nat_lt}
 use Rattle.std.specs.List.{prefix_len}

@@ -1,4 +1,4 @@
--- What the setting lines of a file say (Org manual 9.6, In-buffer Settings; which line counts of several: profile).
+-- What the setting lines of a file say (Org manual 9.6, "In-buffer Settings"; which line counts of several: profile).
 use Rattle.std.specs.Prelude.{ℕ, List, [], ◌∷◌, Option, None}
 use Rattle.std.specs.List.{flat_map}
 use Rattle.std.specs.Option.{option_or, unwrap_or}

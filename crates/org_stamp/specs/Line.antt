@@ -1,4 +1,4 @@
--- The stamps of a line (Org manual 9.6, Timestamps; that they are the leftmost, longest ones is the profile's).
+-- The stamps of a line (Org manual 9.6, "Timestamps"; that they are the leftmost, longest ones is the profile's).
 use Rattle.std.specs.Prelude.{◌≡◌, ℕ, zero, suc, ◌+◌, ◌-◌, ◌<◌, ◌≤◌, List, [], ◌∷◌, ◌++◌, length, take, drop, Option, Some, None, ◌⊎◌}
 use Rattle.std.specs.List.{AllByRecursion}
 use Rattle.org_stamp.specs.declared.stamp.Found.{Found}

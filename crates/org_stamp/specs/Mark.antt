@@ -1,4 +1,5 @@
--- Repeaters and delays, by cases on the bytes (Org manual 9.6, Repeated tasks, Deadlines and Scheduling; one to four digits by the profile).
+-- Repeaters and delays, by cases on the bytes (Org manual 9.6, "Repeated tasks"; "Deadlines and Scheduling"; one to
+-- four digits by the profile).
 -- Characters by their codes: 43 +, 45 -, 46 ., 47 /, 48 0.
 use Rattle.std.specs.Prelude.{ℕ, ◌+◌, ◌-◌, ◌*◌, true, false, ◌&&◌, ◌==◌, if◌then◌else◌, List, [], ◌∷◌, Option, Some, None}
 use Rattle.std.specs.Option.{option_and_then, option_map}

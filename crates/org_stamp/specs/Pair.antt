@@ -1,5 +1,5 @@
--- The pairs of a planning line, and the stamp of a clock line (Org Syntax, Planning and Clocks; that pairs are read up to
--- what is no pair, and that letter case counts: profile).
+-- The pairs of a planning line, and the stamp of a clock line (Org Syntax, "Planning"; "Clocks"; that pairs are read
+-- up to what is no pair, and that letter case counts: profile).
 use Rattle.std.specs.Prelude.{ℕ, zero, suc, ◌+◌, ◌-◌, Bool, true, false, not, if◌then◌else◌, List, [], ◌∷◌, drop, Option, Some, None, codes, nat_eq, ◌≡◌, ◌≤◌, MatchOption, ◌<◌}
 use Rattle.std.specs.List.{prefix_len, starts_with}
 use Rattle.std.specs.Option.{option_and_then, option_map}

@@ -1,5 +1,5 @@
--- The pairs of a planning line without the reader's steps (Org Syntax, Planning; that pairs are read up to what is no pair,
--- and that letter case counts: profile).
+-- The pairs of a planning line without the reader's steps (Org Syntax, "Planning"; that pairs are read up to what is no
+-- pair, and that letter case counts: profile).
 use Rattle.std.specs.Prelude.{◌≡◌, ℕ, ◌+◌, ◌≤◌, List, [], ◌∷◌, ◌++◌, length, codes}
 use Rattle.org_stamp.specs.declared.pair.Pair.{Pair}
 use Rattle.org_stamp.specs.declared.pair.PlanningKeyword.{PlanningKeyword}

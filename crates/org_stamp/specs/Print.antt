@@ -1,4 +1,4 @@
--- The printed form of a stamp (profile; its parts as in Org manual 9.6, Timestamps).
+-- The printed form of a stamp (profile; its parts as in Org manual 9.6, "Timestamps").
 -- Characters by their codes: 32 space, 45 -, 47 /.
 use Rattle.std.specs.Prelude.{ℕ, Bool, if◌then◌else◌, List, [], ◌∷◌, ◌++◌, Option, Some, None, codes, decimal}
 use Rattle.org_cal.specs.declared.unit.Unit.{Unit}

@@ -1,5 +1,5 @@
--- What the readers find at the front of bytes: a stamp and its length (Org manual 9.6, Timestamps). `specs/Stamp` has the
--- grammar itself.
+-- What the readers find at the front of bytes: a stamp and its length (Org manual 9.6, "Timestamps"). `specs/Stamp` has
+-- the grammar itself.
 -- Characters by their codes: 45 -, 60 <, 91 [.
 use Rattle.std.specs.Prelude.{ℕ, ◌+◌, Bool, true, false, ◌&&◌, ◌==◌, if◌then◌else◌, List, [], ◌∷◌, take, drop, get_or, Option, Some, None, position, ◌≡◌, ◌≤◌, ◌++◌, length, IsSomeAnd}
 use Rattle.std.specs.Option.{option_map}

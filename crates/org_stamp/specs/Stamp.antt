@@ -1,4 +1,4 @@
--- The grammar of stamps and ranges (Org manual 9.6, Timestamps).
+-- The grammar of stamps and ranges (Org manual 9.6, "Timestamps").
 -- Characters by their codes: 45 -, 60 <, 62 >, 91 [, 93 ].
 use Rattle.std.specs.Prelude.{◌≡◌, ℕ, Bool, true, false, ◌||◌, ◌==◌, List, [], ◌∷◌, ◌++◌, Some, All, ◌⊎◌}
 use Rattle.org_stamp.specs.declared.stamp.Stamp.{Stamp}

@@ -1,4 +1,4 @@
--- The words of a text (Org manual 9.6, Timestamps: the parts of a stamp stand between white space).
+-- The words of a text (Org manual 9.6, "Timestamps": the parts of a stamp stand between white space).
 use Rattle.std.specs.Borrow.{Bor}
 use Rattle.std.specs.Prelude.{ℕ, Bool, true, false, List, [], ◌∷◌, filter, ◌≡◌, Option, MatchOption}
 use Rattle.std.specs.List.{slice_split}

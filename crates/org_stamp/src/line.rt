@@ -4,7 +4,7 @@ ghost use Rattle.std.specs.Char.{is_ascii_digit};
 ghost use Rattle.std.specs.List.{position_or_len};
 ghost use Rattle.std.specs.Iterator.{YieldsFirst, item_count};
 ghost use Rattle.org_stamp.specs.Line.{AreStampsOf, stamps_from, stamps_of};
-ghost use Rattle.org_stamp.specs.Read as spec;
+ghost use Rattle.org_stamp.specs.Read.{stamp_of};
 ghost use Rattle.org_stamp.specs.Stamp.{is_close};
 
 use crate::read::{first_close, stamp_before};
@@ -62,7 +62,7 @@ fn digit_follows(line: &[u8], at: usize) -> bool
 fn stamp_at(line: &[u8], at: usize, close: usize) -> Option<(Stamp, usize)>
     requires within { at ≤ length line.now }
     requires close { close ≡ at + position_or_len is_close (drop at line.now) }
-    ensures value { result ≡ spec.stamp_of (drop at line.now) }
+    ensures value { result ≡ stamp_of (drop at line.now) }
     ensures within { IfSome result (λ found. at + found.1 ≤ length line.now) }
 {
     let (_, rest) = line.split_at(at);

@@ -1,11 +1,11 @@
 //! Repeaters and delays.
 ghost use Rattle.std.specs.Prelude.{◌≡◌, ◌≤◌};
-ghost use Rattle.org_stamp.specs.Mark as spec;
+ghost use Rattle.org_stamp.specs.Mark.{amount, amount_from, finished, limit, mark_of, sign_at, top, unit_of};
 ghost use Rattle.org_base.specs.Results.{found_before};
 
 use org_cal::Unit;
 
-/// Where a repeater shifts to when its task is done (Org manual 9.6, Repeated tasks).
+/// Where a repeater shifts to when its task is done (Org manual 9.6, "Repeated tasks").
 #[derive(Clone, Copy, Debug, PartialEq, Eq)]
 pub enum RepeaterKind {
     /// `+`: one interval later.
@@ -16,7 +16,7 @@ pub enum RepeaterKind {
     Today,
 }
 
-/// A repeater, as `++2w` (Org manual 9.6, Repeated tasks). One that is read has an `n` from 1 to 9999.
+/// A repeater, as `++2w` (Org manual 9.6, "Repeated tasks"). One that is read has an `n` from 1 to 9999.
 #[derive(Clone, Copy, Debug, PartialEq, Eq)]
 pub struct Repeater {
     pub kind: RepeaterKind,
@@ -26,7 +26,7 @@ pub struct Repeater {
     pub limit: Option<(u16, Unit)>,
 }
 
-/// A delay of a scheduled item or a deadline's warning time, as `-3d` (Org manual 9.6, Deadlines and Scheduling). One
+/// A delay of a scheduled item or a deadline's warning time, as `-3d` (Org manual 9.6, "Deadlines and Scheduling"). One
 /// that is read has an `n` from 0 to 9999.
 #[derive(Clone, Copy, Debug, PartialEq, Eq)]
 pub struct Delay {
@@ -52,7 +52,7 @@ pub(crate) enum Sign {
 
 // The unit of a letter.
 pub(crate) fn unit_of(letter: u8) -> Option<Unit>
-    ensures value { result ≡ spec.unit_of letter }
+    ensures value { result ≡ unit_of letter }
 {
     match letter {
         b'h' => Some(Unit::Hour),
@@ -67,8 +67,8 @@ pub(crate) fn unit_of(letter: u8) -> Option<Unit>
 // The number after its first digits, with at most so many more, its unit, and what follows.
 fn amount_from(room: u8, n: u16, bytes: &[u8]) -> Option<((u16, Unit), &[u8])>
     requires few { room ≤ 3 }
-    requires small { n ≤ spec.top room }
-    ensures value { found_before result ≡ spec.amount_from room n bytes.now }
+    requires small { n ≤ top room }
+    ensures value { found_before result ≡ amount_from room n bytes.now }
 {
     match bytes {
         [] => None,
@@ -86,7 +86,7 @@ fn amount_from(room: u8, n: u16, bytes: &[u8]) -> Option<((u16, Unit), &[u8])>
 
 // One to four digits and a unit at the front, and what follows.
 fn amount(bytes: &[u8]) -> Option<((u16, Unit), &[u8])>
-    ensures value { found_before result ≡ spec.amount bytes.now }
+    ensures value { found_before result ≡ amount bytes.now }
 {
     match bytes {
         [b, rest @ ..] if b.is_ascii_digit() => amount_from(3, (*b - b'0') as u16, rest),
@@ -96,7 +96,7 @@ fn amount(bytes: &[u8]) -> Option<((u16, Unit), &[u8])>
 
 // What a mark begins with, and what follows.
 fn sign_at(word: &[u8]) -> Option<(Sign, &[u8])>
-    ensures value { found_before result ≡ spec.sign_at word.now }
+    ensures value { found_before result ≡ sign_at word.now }
 {
     match word {
         [b'+', b'+', rest @ ..] => Some((Sign::Repeats(RepeaterKind::Future), rest)),
@@ -110,7 +110,7 @@ fn sign_at(word: &[u8]) -> Option<(Sign, &[u8])>
 
 // Nothing, or a slash and an amount that ends the word.
 fn limit(bytes: &[u8]) -> Option<Option<(u16, Unit)>>
-    ensures value { result ≡ spec.limit bytes.now }
+    ensures value { result ≡ limit bytes.now }
 {
     match bytes {
         [] => Some(None),
@@ -128,7 +128,7 @@ fn limit(bytes: &[u8]) -> Option<Option<(u16, Unit)>>
 
 // The mark that a word is.
 pub(crate) fn mark_of(word: &[u8]) -> Option<Mark>
-    ensures value { result ≡ spec.mark_of word.now }
+    ensures value { result ≡ mark_of word.now }
 {
     let (sign, rest) = sign_at(word)?;
     let (found, rest) = amount(rest)?;
@@ -137,7 +137,7 @@ pub(crate) fn mark_of(word: &[u8]) -> Option<Mark>
 
 // The mark of a sign, a number with its unit and the rest of the word.
 fn finished(sign: Sign, n: u16, unit: Unit, rest: &[u8]) -> Option<Mark>
-    ensures value { result ≡ spec.finished sign ((n, unit), rest.now) }
+    ensures value { result ≡ finished sign ((n, unit), rest.now) }
 {
     match sign {
         Sign::Repeats(kind) => {

@@ -2,7 +2,7 @@
 
 use crate::stamp::Stamp;
 
-/// A keyword of a planning line (Org Syntax, Planning).
+/// A keyword of a planning line (Org Syntax, "Planning").
 #[derive(Clone, Copy, Debug, PartialEq, Eq)]
 pub enum PlanningKeyword {
     /// `SCHEDULED:`

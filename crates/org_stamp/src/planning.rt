@@ -2,7 +2,7 @@
 ghost use Rattle.std.specs.Prelude.{◌≡◌, ◌+◌, ◌<◌, ◌≤◌, ◌^◌, length, drop, IfSome};
 ghost use Rattle.std.specs.List.{prefix_len};
 ghost use Rattle.org_base.specs.Words.{is_space};
-ghost use Rattle.org_stamp.specs.Pair as spec;
+ghost use Rattle.org_stamp.specs.Pair.{EndsBehind, EndsFrom, IsFirstPair, clock_stamp, is_clock, is_planning, pair_at, pair_of, word_at};
 
 use crate::pair::{Pair, PlanningKeyword};
 use crate::read::{ranged_len, single_of, stamp_of};
@@ -11,7 +11,7 @@ use crate::word::leading_spaces;
 
 // The keyword at the front, and its length with its colon.
 fn word_at(bytes: &[u8]) -> Option<(PlanningKeyword, usize)>
-    ensures value { result ≡ spec.word_at bytes.now }
+    ensures value { result ≡ word_at bytes.now }
     ensures bound { IfSome result (λ found. (0 < found.1) × (found.1 ≤ length bytes.now)) }
 {
     if bytes.starts_with(b"SCHEDULED:") {
@@ -38,8 +38,8 @@ fn past_spaces(bytes: &[u8]) -> (usize, &[u8])
 // The pair of a keyword whose stamp begins at the place.
 fn pair_of(word: PlanningKeyword, at: usize, bytes: &[u8]) -> Option<Pair>
     requires { at + length bytes.now < 2 ^ 63 }
-    ensures value { result ≡ spec.pair_of word at bytes.now }
-    ensures bound { IfSome result (spec.EndsFrom at (at + length bytes.now)) }
+    ensures value { result ≡ pair_of word at bytes.now }
+    ensures bound { IfSome result (EndsFrom at (at + length bytes.now)) }
 {
     let (stamp, len) = single_of(bytes)?;
     let all = ranged_len(stamp.active, len, &bytes[len..]);
@@ -55,8 +55,8 @@ fn pair_of(word: PlanningKeyword, at: usize, bytes: &[u8]) -> Option<Pair>
 // The pair whose keyword stands at the place.
 fn pair_at(line: &[u8], at: usize) -> Option<Pair>
     requires { at ≤ length line.now }
-    ensures value { result ≡ spec.pair_at at (drop at line.now) }
-    ensures bound { IfSome result (spec.EndsBehind at (length line.now)) }
+    ensures value { result ≡ pair_at at (drop at line.now) }
+    ensures bound { IfSome result (EndsBehind at (length line.now)) }
 {
     let bytes = &line[at..];
     let (word, len) = word_at(bytes)?;
@@ -65,22 +65,22 @@ fn pair_at(line: &[u8], at: usize) -> Option<Pair>
 }
 
 /// The first pair of a planning line from the place on, with white space or none before it: a keyword, white space or
-/// none, a stamp (Org Syntax, Planning). None where something else stands there; letter case counts.
+/// none, a stamp (Org Syntax, "Planning"). None where something else stands there; letter case counts.
 pub fn next_pair(line: &[u8], at: usize) -> Option<Pair>
     requires { at ≤ length line.now }
 
     // It is the first of the pairs from there on, and those behind it are the pairs from its end on.
-    ensures value { spec.IsFirstPair line.now at result }
-    ensures bound { IfSome result (spec.EndsBehind at (length line.now)) }
+    ensures value { IsFirstPair line.now at result }
+    ensures bound { IfSome result (EndsBehind at (length line.now)) }
 {
     let gap = leading_spaces(&line[at..]);
     pair_at(line, at + gap)
 }
 
-/// The stamp of a clock line: `CLOCK:` and an inactive stamp, which for a closed clock is a range (Org Syntax, Clocks).
-/// None where the line is no clock line.
+/// The stamp of a clock line: `CLOCK:` and an inactive stamp, which for a closed clock is a range (Org Syntax,
+/// "Clocks"). None where the line is no clock line.
 pub fn clock_stamp(line: &[u8]) -> Option<Stamp>
-    ensures value { result ≡ spec.clock_stamp line.now }
+    ensures value { result ≡ clock_stamp line.now }
 {
     let (_, text) = past_spaces(line);
     if !text.starts_with(b"CLOCK:") {
@@ -93,14 +93,14 @@ pub fn clock_stamp(line: &[u8]) -> Option<Stamp>
 
 /// Whether the line is a planning line where it stands directly under a heading: it begins with at least one pair.
 pub fn is_planning(line: &[u8]) -> bool
-    ensures value { result ≡ spec.is_planning line.now }
+    ensures value { result ≡ is_planning line.now }
 {
     next_pair(line, 0).is_some()
 }
 
 /// Whether the line is a clock line.
 pub fn is_clock(line: &[u8]) -> bool
-    ensures value { result ≡ spec.is_clock line.now }
+    ensures value { result ≡ is_clock line.now }
 {
     clock_stamp(line).is_some()
 }

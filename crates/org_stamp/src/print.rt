@@ -2,7 +2,7 @@
 ghost use Rattle.std.specs.Prelude.{◌≡◌, ◌++◌, ◌∷◌, [], IfOk, IsOkUnless, Some, None, string_bytes};
 ghost use Rattle.org_base.specs.Codes.{memory_fault};
 ghost use Rattle.org_base.specs.Results.{GivesText, Writes};
-ghost use Rattle.org_stamp.specs.Print as spec;
+ghost use Rattle.org_stamp.specs.Print.{amount_text, day_text, delay_text, first_text, last_text, letter, repeater_text, stamp_text, tail_text, times_text};
 ghost use Rattle.org_stamp.specs.Read.{IsReadAgain};
 ghost use Rattle.org_stamp.specs.Stamp.{close_of, open_of};
 
@@ -13,7 +13,7 @@ use org_cal::{Day, TimeOfDay, Unit, day_name, push_date, push_time};
 use std::alloc::{AllocError, Global};
 
 fn letter(unit: Unit) -> char
-    ensures value { result ≡ spec.letter unit }
+    ensures value { result ≡ letter unit }
 {
     match unit {
         Unit::Hour => 'h',
@@ -25,7 +25,7 @@ fn letter(unit: Unit) -> char
 }
 
 fn push_amount(out: &mut String, n: u16, unit: Unit) -> Result<(), AllocError>
-    ensures ok { Writes result out.old out.new (spec.amount_text (n, unit)) }
+    ensures ok { Writes result out.old out.new (amount_text (n, unit)) }
 {
     let letter = letter(unit);
     write!(out, "{n}{letter}")?;
@@ -37,7 +37,7 @@ fn push_times(
     time: Option<TimeOfDay>,
     end_time: Option<TimeOfDay>,
 ) -> Result<(), AllocError>
-    ensures ok { Writes result out.old out.new (spec.times_text time end_time) }
+    ensures ok { Writes result out.old out.new (times_text time end_time) }
 {
     let Some(start) = time else {
         return Ok(());
@@ -52,7 +52,7 @@ fn push_times(
 }
 
 fn push_repeater(out: &mut String, repeater: Option<Repeater>) -> Result<(), AllocError>
-    ensures ok { Writes result out.old out.new (spec.repeater_text repeater) }
+    ensures ok { Writes result out.old out.new (repeater_text repeater) }
 {
     let Some(found) = repeater else {
         return Ok(());
@@ -71,7 +71,7 @@ fn push_repeater(out: &mut String, repeater: Option<Repeater>) -> Result<(), All
 }
 
 fn push_delay(out: &mut String, delay: Option<Delay>) -> Result<(), AllocError>
-    ensures ok { Writes result out.old out.new (spec.delay_text delay) }
+    ensures ok { Writes result out.old out.new (delay_text delay) }
 {
     let Some(found) = delay else {
         return Ok(());
@@ -81,7 +81,7 @@ fn push_delay(out: &mut String, delay: Option<Delay>) -> Result<(), AllocError>
 }
 
 fn push_tail(out: &mut String, stamp: &Stamp) -> Result<(), AllocError>
-    ensures ok { Writes result out.old out.new (spec.tail_text stamp.now) }
+    ensures ok { Writes result out.old out.new (tail_text stamp.now) }
 {
     push_times(out, stamp.time, stamp.end_time)?;
     push_repeater(out, stamp.repeater)?;
@@ -97,7 +97,7 @@ fn push_open(out: &mut String, active: bool) -> Result<(), AllocError>
 
 // The date and the name of the day.
 fn push_day(out: &mut String, day: Day) -> Result<(), AllocError>
-    ensures ok { Writes result out.old out.new (spec.day_text day) }
+    ensures ok { Writes result out.old out.new (day_text day) }
 {
     push_date(out, day)?;
     out.push_str(" ")?;
@@ -107,7 +107,7 @@ fn push_day(out: &mut String, day: Day) -> Result<(), AllocError>
 
 // The opening bracket, the date and the name of the day.
 fn push_start(out: &mut String, active: bool, day: Day) -> Result<(), AllocError>
-    ensures ok { Writes result out.old out.new (open_of active ∷ spec.day_text day) }
+    ensures ok { Writes result out.old out.new (open_of active ∷ day_text day) }
 {
     push_open(out, active)?;
     push_day(out, day)?;
@@ -122,7 +122,7 @@ fn push_end(out: &mut String, active: bool) -> Result<(), AllocError>
 }
 
 fn push_first(out: &mut String, stamp: &Stamp) -> Result<(), AllocError>
-    ensures ok { Writes result out.old out.new (spec.first_text stamp.now) }
+    ensures ok { Writes result out.old out.new (first_text stamp.now) }
 {
     push_start(out, stamp.active, stamp.day)?;
     push_tail(out, stamp)?;
@@ -135,7 +135,7 @@ fn push_last(
     active: bool,
     last: Option<(Day, Option<TimeOfDay>)>,
 ) -> Result<(), AllocError>
-    ensures ok { Writes result out.old out.new (spec.last_text active last) }
+    ensures ok { Writes result out.old out.new (last_text active last) }
 {
     let Some((day, time)) = last else {
         return Ok(());
@@ -150,7 +150,7 @@ fn push_last(
 /// one space between them; a range as two such stamps with two dashes between them (profile). What the grammar gives
 /// is read again as it was. `Memory` where memory is refused.
 pub fn print_stamp(alloc: Global, stamp: &Stamp) -> Result<String, Fault>
-    ensures value { GivesText result (spec.stamp_text stamp.now) }
+    ensures value { GivesText result (stamp_text stamp.now) }
     ensures again { IfOk result (λ text. IsReadAgain stamp.now (string_bytes text)) }
     ensures memory { IsOkUnless result memory_fault }
 {

@@ -1,7 +1,7 @@
 //! A stamp at a place of a line.
 ghost use Rattle.std.specs.Prelude.{◌≡◌, ◌+◌, ◌-◌, ◌≤◌, ◌<◌, ◌^◌, length, take, drop, position, Some, IfSome};
 ghost use Rattle.std.specs.List.{position_or_len};
-ghost use Rattle.org_stamp.specs.Read as spec;
+ghost use Rattle.org_stamp.specs.Read.{IsOnlySingle, NoneIsLonger, closed, ranged, ranged_len, single_of, stamp_of};
 ghost use Rattle.org_stamp.specs.CanPrint.{CanPrint};
 ghost use Rattle.org_stamp.specs.Stamp.{IsSingle, IsStamp, is_close, with_last};
 
@@ -9,16 +9,16 @@ use crate::inner::inner_of;
 use crate::stamp::Stamp;
 use memchr::memchr2;
 
-/// The longest stamp that begins at the place, and its length in bytes (Org manual 9.6, Timestamps). A range is longer
-/// than its first stamp. None where none begins there.
+/// The longest stamp that begins at the place, and its length in bytes (Org manual 9.6, "Timestamps"). A range is
+/// longer than its first stamp. None where none begins there.
 pub fn read_stamp(line: &[u8], at: usize) -> Option<(Stamp, usize)>
     requires { at ≤ length line.now }
-    ensures value { result ≡ spec.stamp_of (drop at line.now) }
+    ensures value { result ≡ stamp_of (drop at line.now) }
     ensures within { IfSome result (λ found. at + found.1 ≤ length line.now) }
     ensures found { IfSome result (λ found. IsStamp (take found.1 (drop at line.now)) found.0) }
 
     // Whatever stamp begins there is no longer than the answer, and is the answer where it is as long.
-    ensures longest { spec.NoneIsLonger (drop at line.now) result }
+    ensures longest { NoneIsLonger (drop at line.now) result }
     ensures bounds { IfSome result (λ found. CanPrint found.0) }
 {
     let (_, rest) = line.split_at(at);
@@ -29,12 +29,12 @@ pub fn read_stamp(line: &[u8], at: usize) -> Option<(Stamp, usize)>
 /// begins there.
 pub fn read_single(line: &[u8], at: usize) -> Option<(Stamp, usize)>
     requires { at ≤ length line.now }
-    ensures value { result ≡ spec.single_of (drop at line.now) }
+    ensures value { result ≡ single_of (drop at line.now) }
     ensures within { IfSome result (λ found. at + found.1 ≤ length line.now) }
     ensures found { IfSome result (λ found. IsSingle (take found.1 (drop at line.now)) found.0) }
 
     // At most one begins there.
-    ensures only { spec.IsOnlySingle (drop at line.now) result }
+    ensures only { IsOnlySingle (drop at line.now) result }
     ensures bounds { IfSome result (λ found. CanPrint found.0) }
 {
     let (_, rest) = line.split_at(at);
@@ -55,7 +55,7 @@ pub(crate) fn first_close(bytes: &[u8]) -> usize
 // The stamp whose bytes behind the opening bracket are these, with the first closing bracket at that place.
 fn closed(active: bool, bytes: &[u8], close: usize) -> Option<(Stamp, usize)>
     requires close { close ≡ position_or_len is_close bytes.now }
-    ensures value { result ≡ spec.closed active bytes.now (position is_close bytes.now) }
+    ensures value { result ≡ closed active bytes.now (position is_close bytes.now) }
     ensures within { IfSome result (λ found. found.1 ≤ length bytes.now + 1) }
 {
     let bracket = bytes.get(close)?;
@@ -70,7 +70,7 @@ fn closed(active: bool, bytes: &[u8], close: usize) -> Option<(Stamp, usize)>
 #[tactic(auto, unfolding(crate::specs::Read::single_of))]
 fn single_before(bytes: &[u8], close: usize) -> Option<(Stamp, usize)>
     requires close { close ≡ position_or_len is_close bytes.now }
-    ensures value { result ≡ spec.single_of bytes.now }
+    ensures value { result ≡ single_of bytes.now }
     ensures within { IfSome result (λ found. found.1 ≤ length bytes.now) }
 {
     match bytes {
@@ -83,7 +83,7 @@ fn single_before(bytes: &[u8], close: usize) -> Option<(Stamp, usize)>
 // The stamp of one day at the front, and its length.
 #[tactic(auto, unfolding(crate::specs::Read::single_of))]
 pub(crate) fn single_of(bytes: &[u8]) -> Option<(Stamp, usize)>
-    ensures value { result ≡ spec.single_of bytes.now }
+    ensures value { result ≡ single_of bytes.now }
     ensures within { IfSome result (λ found. found.1 ≤ length bytes.now) }
 {
     match bytes {
@@ -95,7 +95,7 @@ pub(crate) fn single_of(bytes: &[u8]) -> Option<(Stamp, usize)>
 // The longest stamp at the front, and its length, where the first closing bracket is known.
 pub(crate) fn stamp_before(bytes: &[u8], close: usize) -> Option<(Stamp, usize)>
     requires close { close ≡ position_or_len is_close bytes.now }
-    ensures value { result ≡ spec.stamp_of bytes.now }
+    ensures value { result ≡ stamp_of bytes.now }
     ensures within { IfSome result (λ found. found.1 ≤ length bytes.now) }
 {
     let (first, len) = single_before(bytes, close)?;
@@ -104,7 +104,7 @@ pub(crate) fn stamp_before(bytes: &[u8], close: usize) -> Option<(Stamp, usize)>
 
 // The longest stamp at the front, and its length.
 pub(crate) fn stamp_of(bytes: &[u8]) -> Option<(Stamp, usize)>
-    ensures value { result ≡ spec.stamp_of bytes.now }
+    ensures value { result ≡ stamp_of bytes.now }
     ensures within { IfSome result (λ found. found.1 ≤ length bytes.now) }
 {
     let (first, len) = single_of(bytes)?;
@@ -114,7 +114,7 @@ pub(crate) fn stamp_of(bytes: &[u8]) -> Option<(Stamp, usize)>
 // A stamp with its length, or the range that it begins with what follows it.
 fn ranged(first: Stamp, len: usize, rest: &[u8]) -> (Stamp, usize)
     requires { len + length rest.now < 2 ^ 63 }
-    ensures value { result ≡ spec.ranged first len rest.now }
+    ensures value { result ≡ ranged first len rest.now }
     ensures within { result.1 ≤ len + length rest.now }
 {
     match rest {
@@ -131,7 +131,7 @@ fn ranged(first: Stamp, len: usize, rest: &[u8]) -> (Stamp, usize)
 // The length of a stamp with what follows it, if it begins a range, else its own.
 pub(crate) fn ranged_len(active: bool, len: usize, rest: &[u8]) -> usize
     requires { len + length rest.now < 2 ^ 63 }
-    ensures value { result ≡ spec.ranged_len active len rest.now }
+    ensures value { result ≡ ranged_len active len rest.now }
     ensures within { result ≤ len + length rest.now }
 {
     match rest {

@@ -3,7 +3,7 @@
 use crate::mark::{Delay, Repeater};
 use org_cal::{Day, TimeOfDay};
 
-/// A timestamp or a range of two (Org manual 9.6, Timestamps). The name of the day isn't kept.
+/// A timestamp or a range of two (Org manual 9.6, "Timestamps"). The name of the day isn't kept.
 #[derive(Clone, Copy, Debug, PartialEq, Eq)]
 pub struct Stamp {
     /// In `<>`, and not in `[]`.

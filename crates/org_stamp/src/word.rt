@@ -2,7 +2,7 @@
 ghost use Rattle.std.specs.Prelude.{◌≡◌, ◌<◌, ◌≤◌, length, IfSome};
 ghost use Rattle.std.specs.List.{position_or_len, prefix_len};
 ghost use Rattle.org_base.specs.Words.{is_space};
-ghost use Rattle.org_stamp.specs.Word as spec;
+ghost use Rattle.org_stamp.specs.Word.{IsFirstWord};
 
 // Whether the byte is a space, a tab or a CR.
 pub(crate) fn is_space(byte: u8) -> bool
@@ -29,7 +29,7 @@ fn word_len(bytes: &[u8]) -> usize
 
 // The first word of the bytes, and what follows it.
 pub(crate) fn next_word(bytes: &[u8]) -> Option<(&[u8], &[u8])>
-    ensures word { spec.IsFirstWord bytes.now result }
+    ensures word { IsFirstWord bytes.now result }
     ensures shorter { IfSome result (λ found. length found.1.now < length bytes.now) }
 {
     let gap = leading_spaces(bytes);

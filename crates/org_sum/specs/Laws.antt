@@ -1,10 +1,13 @@
--- Laws of sums (Org manual 9.6, The clock table; Effort Estimates).
+-- Laws of sums (Org manual 9.6, "The clock table"; "Effort Estimates").
 use Rattle.std.specs.Prelude.{◌≡◌, ℕ, ◌+◌, ◌*◌, ◌<◌, ◌≤◌, Bool, List, length}
 use Rattle.std.specs.List.{sum_by}
 use Rattle.org_cal.specs.Pieces.{AreJoined}
+use Rattle.org_cal.specs.declared.day.TheConstants.{LAST_DAY}
+use Rattle.org_cal.specs.declared.minute.TheConstants.{CALENDAR_MINUTES}
 use Rattle.org_entry.specs.Entry.{entries_of}
 use Rattle.org_entry.specs.declared.entry.Entry.{Entry}
 use Rattle.org_settings.specs.Settings.{FileSettings}
+use Rattle.org_drawer.specs.declared.effort.TheConstants.{LONGEST_EFFORT}
 use Rattle.org_sum.specs.Measures.{clock_minutes, effort_minutes}
 use Rattle.org_sum.specs.Sums.{children_sum, own_at, subtree_sum, total}
 
@@ -25,9 +28,9 @@ PiecesMakeTheWhole = (first last : ℕ) (pieces : List (ℕ × ℕ)) (es : List 
 
 -- a text has at most the minutes of all years for every eighteen of its bytes
 abbrev pub ClocksAreSmall : Type 0
-ClocksAreSmall = (settings : FileSettings) (days : ℕ × ℕ) (text : List ℕ) → days.1 ≤ 3_652_059 →
-    18 * total (clock_minutes days) (entries_of settings text) ≤ 5_258_964_960 * length text
+ClocksAreSmall = (settings : FileSettings) (days : ℕ × ℕ) (text : List ℕ) → days.1 ≤ LAST_DAY →
+    18 * total (clock_minutes days) (entries_of settings text) ≤ CALENDAR_MINUTES * length text
 
 -- a text has at most the minutes of 9,999 years for every ten of its bytes
 abbrev pub EffortsAreSmall : Type 0
-EffortsAreSmall = (settings : FileSettings) (text : List ℕ) → 10 * total effort_minutes (entries_of settings text) ≤ 5_259_074_040 * length text
+EffortsAreSmall = (settings : FileSettings) (text : List ℕ) → 10 * total effort_minutes (entries_of settings text) ≤ LONGEST_EFFORT * length text

@@ -1,4 +1,4 @@
--- What is summed of an entry (Org manual 9.6, Clocking; Effort Estimates).
+-- What is summed of an entry (Org manual 9.6, "Clocking"; "Effort Estimates").
 use Rattle.std.specs.Prelude.{ℕ, List, codes, unwrap_or}
 use Rattle.std.specs.List.{sum_by}
 use Rattle.std.specs.Option.{option_and_then}

@@ -1,4 +1,4 @@
--- Sums over subtrees (Org manual 9.6, The clock table).
+-- Sums over subtrees (Org manual 9.6, "The clock table").
 use Rattle.std.specs.Prelude.{ℕ, zero, suc, ◌+◌, Bool, false, ◌&&◌, ◌||◌, ◌==◌, if◌then◌else◌, Option, None, Some, is_some, List, [], ◌∷◌, length, map}
 use Rattle.std.specs.List.{range_with_len}
 use Rattle.org_entry.specs.declared.entry.Entry.{Entry}

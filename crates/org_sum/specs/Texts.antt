@@ -1,5 +1,6 @@
--- Outlines of texts (Org Syntax, Headings and Sections).
+-- Outlines of texts (Org Syntax, "Headings and Sections").
 use Rattle.std.specs.Prelude.{◌≡◌, ◌≤◌, ℕ, List, length}
+use Rattle.org_cal.specs.declared.day.TheConstants.{LAST_DAY}
 use Rattle.org_entry.specs.Entry.{entries_of}
 use Rattle.org_entry.specs.declared.entry.Entry.{Entry}
 use Rattle.org_settings.specs.Settings.{FileSettings}
@@ -16,5 +17,5 @@ pub record AreOfText (es : List Entry) : Type 0 where
 
 -- a period that is measured ends within the calendar
 abbrev pub IsOfCalendar : Measure → Type 0
-IsOfCalendar (Clocks period) = period.last ≤ 3_652_059
+IsOfCalendar (Clocks period) = period.last ≤ LAST_DAY
 IsOfCalendar Efforts = Unit {0}

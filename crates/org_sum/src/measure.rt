@@ -4,7 +4,7 @@ ghost use Rattle.org_cal.specs.Periods.{days_of};
 ghost use Rattle.org_sum.specs.Measures.{amount, clock_minutes, effort_minutes, minutes_of};
 ghost use Rattle.org_sum.specs.Texts.{IsOfCalendar};
 
-use org_cal::Period;
+use org_cal::{LAST_DAY, Period};
 use org_drawer::{ClockLine, effort_minutes};
 use org_entry::Entry;
 
@@ -23,7 +23,7 @@ impl Measure {
         ensures within { IsOfCalendar self.now }
     {
         match self {
-            Measure::Clocks(period) => prove!(period.last.number() <= 3_652_059),
+            Measure::Clocks(period) => prove!(period.last.number() <= LAST_DAY),
             Measure::Efforts => (),
         }
     }

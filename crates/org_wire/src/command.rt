@@ -2,7 +2,7 @@
 ghost use Rattle.std.specs.Prelude.{◌≡◌};
 ghost use Rattle.org_wire.specs.Stream.{framed};
 
-use crate::expression::Expression;
+use crate::line_text::LineText;
 use org_base::{Bytes, Fault, Name, Texts};
 use org_cal::Moment;
 
@@ -41,11 +41,11 @@ pub enum Command {
     /// `todo` or `todo KW|KW`: asks for the TODO list of these keywords; of none, of those that aren't done.
     Todo(Option<u64>, Texts),
     /// `match EXPR`: asks for the match list of an expression, which is the rest of the line and may be empty.
-    Match(Option<u64>, Expression),
+    Match(Option<u64>, LineText),
     /// `agenda DATE DAYS`: asks for the agenda of so many days from a date on.
     Agenda(Option<u64>, Name, u64),
     /// `clock OPTIONS`: asks for the clock table of options, which are the rest of the line and may be empty.
-    Clock(Option<u64>, Expression),
+    Clock(Option<u64>, LineText),
 }
 
 // What the line of a command with a payload says.

@@ -4,9 +4,9 @@ ghost use Rattle.org_base.specs.Codes.{memory_fault};
 
 use crate::command::{Command, Frame, Next, framed};
 use crate::counted::Counted;
-use crate::expression::Expression;
 use crate::frames::{add_frame, complete_command, edit_frame};
 use crate::line::LineBuffer;
+use crate::line_text::LineText;
 use crate::names::words_in;
 use crate::parse::{Parsed, parse_line};
 use crate::room::{MOST_ROOM, Room};
@@ -284,11 +284,11 @@ impl<'a, R: Read> Input<'a, R> {
                 Ok(words) => Next::Given(Command::Todo(session, words)),
                 Err(_) => Next::Refused(Fault::Plain(Code::Memory)),
             },
-            Parsed::Match(session, text) => match Expression::new(self.alloc, text) {
+            Parsed::Match(session, text) => match LineText::new(self.alloc, text) {
                 Ok(text) => Next::Given(Command::Match(session, text)),
                 Err(_) => Next::Refused(Fault::Plain(Code::Memory)),
             },
-            Parsed::Clock(session, text) => match Expression::new(self.alloc, text) {
+            Parsed::Clock(session, text) => match LineText::new(self.alloc, text) {
                 Ok(text) => Next::Given(Command::Clock(session, text)),
                 Err(_) => Next::Refused(Fault::Plain(Code::Memory)),
             },
