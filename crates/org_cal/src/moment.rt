@@ -1,5 +1,5 @@
 //! A day and a time of it.
-ghost use Rattle.std.specs.Prelude.{◌≡◌, Some, None, IfOk, IfErr};
+ghost use Rattle.std.specs.Prelude.{◌≡◌, IfOk, IfErr};
 ghost use Rattle.org_cal.specs.Faults.{date_fault};
 ghost use Rattle.org_cal.specs.Minutes.{minute_of};
 ghost use Rattle.org_cal.specs.Texts.{IsMomentOf, IsNoMoment};

@@ -1,5 +1,5 @@
 //! What items add up to.
-ghost use Rattle.std.specs.Prelude.{◌≡◌, ◌+◌, ◌^◌, ◌<◌, ◌≤◌, [], ◌∷◌, length};
+ghost use Rattle.std.specs.Prelude.{◌≡◌, ◌+◌, ◌^◌, ◌<◌, [], ◌∷◌};
 ghost use Rattle.std.specs.List.{sum_by};
 ghost use Rattle.org_sequence.specs.Sums.{AreCovered, AreSums, sums_together};
 

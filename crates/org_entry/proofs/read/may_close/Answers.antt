@@ -1,5 +1,5 @@
 -- Without a closing bracket in what is lent of it, there is none in the rest of the section.
-use Rattle.std.proofs.Common.{◌∙◌, sym, ap}
+use Rattle.std.proofs.Common.{◌∙◌, sym, ap, rules}
 use Rattle.std.specs.List.{list_any}
 use Rattle.org_class.proofs.LineLemmas.{bytes_behind}
 use Rattle.org_stamp.specs.Stamp.{is_close}
@@ -14,3 +14,6 @@ returns-in-Some g c =
           ap (list_any is_close) (bytes_behind t c.args.section c.args.at c.requires.place ∙ sym c.in-Some.ensures.value)
           ∙ unclosed c.in-Some.bytes.now c.memchr2.result c.memchr2.ensures (sym c.is_some.ensures ∙ unmet);
     }
+
+pub returns-in-None : goal.returns-in-None
+returns-in-None g c = search rules

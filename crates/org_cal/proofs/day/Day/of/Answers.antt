@@ -1,4 +1,4 @@
-use Rattle.std.proofs.Common.{◌≡◌, ◌∙◌, refl, sym, true≢false, arith, pos}
+use Rattle.std.proofs.Common.{◌≡◌, ◌∙◌, refl, sym, true≢false, arith, pos, rules}
 use Rattle.std.proofs.lemmas.Int.{ints}
 use Rattle.jiff_core.proofs.SignedLemmas.{signed_arith}
 use Rattle.org_cal.proofs.DayLemmas.{of_number, of_parts, from_first}
@@ -20,3 +20,6 @@ returns-in-None-clause-date c =
     let parts = c.in-Ok.ensures.value in
     let year : c.in-Ok.date.year ≡ pos c.args.year = parts.0 ∙ omega (arith, ints) in
     (refl, λ h. true≢false (sym (c.in-None.ensures.succeeds.1 (from_first c.in-Ok.date c.args.year year h.0.0))))
+
+pub returns-then-year-lt1-clause-date : goal.returns-then-year-lt1-clause-date
+returns-then-year-lt1-clause-date c = search rules

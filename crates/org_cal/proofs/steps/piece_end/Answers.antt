@@ -1,0 +1,9 @@
+-- Written out, so that an edit that breaks it is refused sooner.
+use Rattle.std.proofs.Common.{rules}
+use Rattle.org_cal.proofs.steps.piece_end.Goals as goal
+
+pub returns-in-Some-clause-value : goal.returns-in-Some-clause-value
+returns-in-Some-clause-value c = search rules
+
+pub returns-in-None-clause-value : goal.returns-in-None-clause-value
+returns-in-None-clause-value c = search rules

@@ -1,0 +1,6 @@
+-- Written out, so that an edit that breaks it is refused sooner.
+use Rattle.std.proofs.Common.{rules}
+use Rattle.org_match.proofs.item_matcher.ItemMatcher.begins_part.Goals as goal
+
+pub returns : goal.returns
+returns c = search rules
