@@ -6,7 +6,7 @@ use Rattle.org_drawer.specs.Clock.{minutes_in}
 use Rattle.org_drawer.specs.declared.clock.ClockLine.{ClockLine}
 use Rattle.org_entry.specs.declared.entry.Entry.{Entry}
 use Rattle.org_outline.specs.Levels.{level_of}
-use Rattle.org_sum.specs.Measures.{amount, clock_minutes}
+use Rattle.org_sum.specs.Measures.{clock_minutes}
 use Rattle.org_sum.specs.Measures as measures
 use Rattle.org_sum.specs.Sums.{own, own_at, sum_below, total}
 use Rattle.org_sum.specs.Texts.{AreOfText}
