@@ -1,0 +1,15 @@
+pub mod AllLemmas
+pub mod BegunLemmas
+pub mod ChangeLemmas
+pub mod FlagLemmas
+pub mod FreshLemmas
+pub mod KeptLemmas
+pub mod LineLemmas
+pub mod OutlineLemmas
+pub mod PlaceLemmas
+pub mod QuietLemmas
+pub mod ReadLemmas
+pub mod RenewLemmas
+pub mod SingleLemmas
+pub mod StartLemmas
+pub mod TouchedLemmas

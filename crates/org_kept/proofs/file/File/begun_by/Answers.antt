@@ -1,0 +1,28 @@
+-- A section begins with the line, or the line stands inside one, or behind the last.
+use Rattle.std.proofs.Common.{◌≡◌, ◌+◌, ◌≤◌, arith}
+use Rattle.std.specs.List.{sum_by}
+use Rattle.org_kept.specs.Sections.{line_count}
+use Rattle.org_kept.proofs.BegunLemmas.{begins, none_begins, none_behind}
+use Rattle.org_kept.proofs.file.File.begun_by.Goals as goal
+
+pub returns-then-before-from-clause-none : goal.returns-then-before-from-clause-none
+returns-then-before-from-clause-none g c =
+    let t = g.T.Text.content c.self.inside.text in
+    let list = c.self.inside.list in
+    let is : c.args.line ≡ c.in_ok-before.before + 1 = omega (arith, c.in_ok-before.ensures) in
+    let past : sum_by line_count list ≤ c.in_ok-before.before = omega (arith, c.lines.ensures.value, c.from.ensures, c.if-before-from.true) in
+    rw (← c.self.view_is) (λ _. none_behind t list c.args.line c.in_ok-before.before c.self.invariant.kept.list_is is past)
+
+pub returns-then-before-from-2-clause-some : goal.returns-then-before-from-2-clause-some
+returns-then-before-from-2-clause-some g c =
+    let t = g.T.Text.content c.self.inside.text in
+    let list = c.self.inside.list in
+    let is : c.args.line ≡ c.in_ok-before.before + 1 = omega (arith, c.in_ok-before.ensures) in
+    rw (← c.self.view_is) (begins t list c.args.line c.in_ok-before.before c.find_line-place.result.0 c.find_line-place.result.1 c.self.invariant.kept.list_is is c.find_line-place.ensures.value (omega (arith, c.from-2.ensures, c.if-before-from-2.true)))
+
+pub returns-else-before-from-2-clause-none : goal.returns-else-before-from-2-clause-none
+returns-else-before-from-2-clause-none g c =
+    let t = g.T.Text.content c.self.inside.text in
+    let list = c.self.inside.list in
+    let is : c.args.line ≡ c.in_ok-before.before + 1 = omega (arith, c.in_ok-before.ensures) in
+    rw (← c.self.view_is) (λ _. none_begins t list c.args.line c.in_ok-before.before c.find_line-place.result.0 c.find_line-place.result.1 c.self.invariant.kept.list_is is c.find_line-place.ensures.value (λ e. omega (arith, e, c.from-2.ensures, c.if-before-from-2.false)))

@@ -1,0 +1,25 @@
+-- None of the sections was read.
+use Rattle.std.proofs.Common.{◌∙◌, ap, sym, subst, map}
+use Rattle.org_class.specs.Sections.{sections}
+use Rattle.org_kept.specs.File.{IsKept, bare}
+use Rattle.org_kept.specs.Sections.{is_read}
+use Rattle.org_kept.proofs.ChangeLemmas.{kept_fresh}
+use Rattle.org_kept.proofs.KeptLemmas.{bare_fresh, marks_fresh}
+use Rattle.org_kept.proofs.file.File.new.Goals as goal
+
+pub shared_settings-requires : goal.shared_settings-requires
+shared_settings-requires g c = record { kept = ap (map bare) c.in_ok-list.ensures.value ∙ bare_fresh (sections (g.T.Text.content c.args.text)) }
+
+pub invariant_of-result : goal.invariant_of-result
+invariant_of-result g c =
+    let t = g.T.Text.content c.args.text in
+    record {
+      kept = subst (λ xs. IsKept t xs c.in_ok-settings.settings.value) (sym c.in_ok-list.ensures.value) (kept_fresh t c.in_ok-settings.settings.value c.in_ok-settings.ensures.value);
+      outline_is = tt;
+    }
+
+pub returns-clause-value : goal.returns-clause-value
+returns-clause-value g c =
+    let t = g.T.Text.content c.args.text in
+    let marks = ap (map is_read) c.in_ok-list.ensures.value ∙ marks_fresh (sections t) in
+    λ i. record { text = t; serial = c.args.serial; marks = marks i }

@@ -1,0 +1,10 @@
+-- A section begins where those before it end.
+use Rattle.std.proofs.Common.{◌∙◌}
+use Rattle.org_kept.proofs.KeptLemmas.{size_before}
+use Rattle.org_kept.proofs.file.File.start.Goals as goal
+
+pub returns : goal.returns
+returns g c =
+    let t = g.T.Text.content c.self.inside.text in
+    let list = c.self.inside.list in
+    rw (← c.self.view_is) record { value = c.size_before.ensures.value ∙ size_before t list c.args.place c.self.invariant.kept.list_is }

@@ -1,0 +1,18 @@
+-- What was read is right, and as many were counted as are no longer pending.
+use Rattle.std.proofs.Common.{◌≤◌}
+use Rattle.std.specs.List.{count_by}
+use Rattle.org_kept.specs.File.{AllSay, AreOf}
+use Rattle.org_kept.specs.Sections.{is_pending}
+use Rattle.org_kept.proofs.SingleLemmas.{HaveRead}
+use Rattle.org_kept.proofs.read.read_singly.Given as goal
+
+abbrev pub invariant-loop-place : goal.invariant-loop-place
+invariant-loop-place g l = record {
+  kept : AreOf (g.T.Text.content l.text) l.read;
+  says : AllSay l.settings (g.T.Text.content l.text) l.read;
+  few : count_by is_pending l.read ≤ count_by is_pending l.list;
+  counts : HaveRead l.list l.read l.fn.meter l.meter;
+}
+
+abbrev pub decreases-loop-place : goal.decreases-loop-place
+decreases-loop-place g l = count_by is_pending l.read

@@ -1,0 +1,63 @@
+-- What is kept of a section (profile).
+use Rattle.std.specs.Prelude.{◌≡◌, ◌<◌, ◌≤◌, ℕ, Bool, List, [], ◌∷◌, ◌++◌, length, map, drop, Option, None, Some, is_none, is_some, ◌+◌, ◌-◌}
+use Rattle.std.specs.List.{list_any, position_or_len}
+use Rattle.org_class.specs.Classes.{section_classes, is_setting_class}
+use Rattle.org_class.specs.Sections.{sections}
+use Rattle.org_class.specs.declared.class.Class.{Class}
+use Rattle.org_entry.specs.declared.entry.Entry.{Entry}
+
+-- how long it is, the classes of its lines, and what it says, where it was read
+pub record SectionView : Type 0 where
+  pub len : ℕ
+  pub classes : List Class
+  pub entry : Option Entry
+
+-- how long it is
+abbrev pub section_len : SectionView → ℕ
+section_len s = s.len
+
+-- how many lines it has
+abbrev pub line_count : SectionView → ℕ
+line_count s = length s.classes
+
+-- it is still to be read
+abbrev pub is_pending : SectionView → Bool
+is_pending s = is_none s.entry
+
+-- it was read
+abbrev pub is_read : SectionView → Bool
+is_read s = is_some s.entry
+
+-- one of its lines is a setting line
+abbrev pub has_setting : SectionView → Bool
+has_setting s = list_any is_setting_class s.classes
+
+-- the first section from one place up to another that has a setting line, or none where none has
+abbrev pub IsFirstSetting : List SectionView → ℕ → ℕ → Option ℕ → Type 0
+IsFirstSetting list from to None = to - from ≤ position_or_len has_setting (drop from list)
+IsFirstSetting list from to (Some i) = (i ≡ from + position_or_len has_setting (drop from list)) × (i < to)
+
+-- these numbers are those of the classes of some bytes
+pub record AreCounts (len lines : ℕ) (sets : Bool) (classes : List Class) : Type 0 where
+  pub some : 0 < len
+  pub lines_are : lines ≡ length classes
+  pub covered : lines ≤ len
+  pub sets_is : sets ≡ list_any is_setting_class classes
+
+-- a section of these bytes that wasn't read
+abbrev pub fresh_section : List ℕ → SectionView
+fresh_section s = record { len = length s; classes = section_classes s; entry = None }
+
+-- all sections of a text, none of them read
+abbrev pub fresh_sections : List ℕ → List SectionView
+fresh_sections text = map fresh_section (sections text)
+
+-- what it says, where it was read
+abbrev pub said : Option Entry → List Entry
+said None = []
+said (Some entry) = entry ∷ []
+
+-- the entries of those that were read, in order
+abbrev pub entries_in : List SectionView → List Entry
+entries_in [] = []
+entries_in (s ∷ list) = said s.entry ++ entries_in list

@@ -1,0 +1,338 @@
+//! A file: its text, its serial, and what is kept of its sections.
+ghost use Rattle.std.specs.Prelude.{◌≡◌, ◌<◌, ◌≢◌, false, true, cond, length, get_or, IfOk, IfSome, OnOk, OnErr, IsOkUnless, nat_lt, is_some, None};
+ghost use Rattle.org_base.specs.Codes.{memory_fault};
+ghost use Rattle.org_base.specs.Counts.{ticked};
+ghost use Rattle.org_base.specs.Results.{Gives};
+ghost use Rattle.org_base.specs.declared.meter.Tick.TheVariants.{Read};
+ghost use Rattle.org_class.specs.Ticks.{AllClassified, SomeClassified};
+ghost use Rattle.org_kept.specs.Begun.{IsBegunBy, entry_there, has_heading, section_start};
+ghost use Rattle.org_kept.specs.Change.{IsChangedBy, LiesIn, edited};
+ghost use Rattle.org_kept.specs.Counts.{NewClassified, FewNewClassified, SomeRead, have_read};
+ghost use Rattle.org_kept.specs.File.{AreOf, IsReady, all_marked, fresh_file, marked, read_sections, unread, unread_at, with_first_read};
+ghost use Rattle.org_kept.specs.Outline.{file_entries, file_settings, outline_of};
+ghost use Rattle.org_kept.specs.Renewed.{IsRenewed};
+
+use crate::change::Change;
+use crate::fresh::{all_pending, list_of};
+use crate::outline::{FileOutline, outline_in, shared};
+use crate::quiet::leaves_lines;
+use crate::read::{all_read, read_in};
+use crate::section::Section;
+use crate::settings::{settings_of, shared_settings};
+use crate::touched::changed_list;
+use org_base::{Fault, Meter};
+use org_class::Settings;
+use org_entry::Entry;
+use org_outline::Outline;
+use org_sequence::Sequence;
+use org_text::Text;
+use std::alloc::{AllocError, Global};
+use std::marker::Model;
+use std::rc::Rc;
+
+/// A file: its text, the serial of its last change, and what is kept of its sections: the classes of their lines, and what
+/// those that were read say. Contracts see the text, the serial and one mark for each section, true where it was read.
+///
+/// A clone shares all of it by one count each, and no later change of one file reaches the other.
+#[derive(Debug, Drop)]
+pub struct File<T: Text> {
+    text: T,
+    serial: u64,
+    list: Sequence<Section>,
+    settings: Rc<Settings>,
+    // Of all sections, once all were read; a change forgets it.
+    outline: Option<Outline>,
+}
+
+impl<T: Text> Model for File<T> {
+    ghost use Rattle.std.specs.Prelude.{map};
+    ghost use Rattle.org_kept.specs.File.{FileView, IsFile};
+    ghost use Rattle.org_kept.specs.Sections.{is_read};
+
+    ghost Value = { FileView };
+
+    ghost view = { λ f. record { text = T.content f.text; serial = f.serial; marks = map is_read f.list } };
+
+    ghost invariant = { λ f. IsFile (T.content f.text) f.list f.settings.value f.outline };
+}
+
+impl<T: Text> File<T> {
+    /// A file of a text, none of whose sections was read. The meter counts each section as classified once. Want of memory
+    /// is the only refusal; then some of the sections may have been counted.
+    pub fn new(alloc: Global, meter: &mut Meter, text: T, serial: u64) -> Result<File<T>, Fault>
+        ensures value { Gives result (fresh_file (T.content text) serial) }
+        ensures counts { OnOk result (AllClassified (T.content text) meter.old meter.new) }
+        ensures few { OnErr result (SomeClassified (T.content text) meter.old meter.new) }
+        ensures memory { IsOkUnless result memory_fault }
+    {
+        let list = list_of(alloc, meter, &text)?;
+        let settings = shared_settings(alloc, &text, &list)?;
+        Ok(File {
+            text,
+            serial,
+            list,
+            settings,
+            outline: None,
+        })
+    }
+
+    /// The text, lent.
+    pub fn text(&self) -> &T
+        ensures value { T.content result.now ≡ self.now.text }
+    {
+        &self.text
+    }
+
+    /// The serial of the last change.
+    pub fn serial(&self) -> u64
+        ensures value { result ≡ self.now.serial }
+    {
+        self.serial
+    }
+
+    /// The file's settings, wherever its setting lines stand.
+    pub fn settings(&self) -> &Settings
+        ensures value { result.now ≡ file_settings self.now.text }
+    {
+        self.settings.as_ref()
+    }
+
+    /// How many sections are still to be read, which is kept.
+    pub fn pending(&self) -> u32
+        ensures value { result ≡ unread self.now.marks }
+    {
+        self.list.marks()
+    }
+
+    /// The place of the section that begins with a line, from 0; None where none does, and then no heading stands on the
+    /// line either. Lines count from 1. It takes as many steps as the logarithm of the number of sections.
+    pub fn begun_by(&self, line: u64) -> Option<u32>
+        ensures some { IfSome result (λ place. IsBegunBy self.now.text line place) }
+        ensures none { result ≡ None → has_heading self.now.text line ≡ false }
+    {
+        let before = line.checked_sub(1)?;
+        if before >= u64::from(self.list.lines()) {
+            return None;
+        }
+        let (place, first) = self.list.find_line(before as u32);
+        if before == u64::from(first) {
+            Some(place)
+        } else {
+            None
+        }
+    }
+
+    /// Where the section at a place begins in the text, in bytes.
+    pub fn start(&self, place: u32) -> u32
+        requires { place < length self.now.marks }
+        ensures value { result ≡ section_start self.now.text place }
+    {
+        self.list.size_before(place)
+    }
+
+    /// What the section at a place says, lent; None where it is still to be read.
+    pub fn entry(&self, place: u32) -> Option<&Entry>
+        requires { place < length self.now.marks }
+        ensures mark { is_some result ≡ get_or self.now.marks place false }
+        ensures value { IfSome result (λ e. e.now ≡ entry_there self.now.text place) }
+    {
+        self.list.get(place).entry()
+    }
+
+    /// Reads the section at a place, if it is still to be read; then the meter counts one as read. Want of memory is the
+    /// only refusal, and leaves the file as before; then the section was counted too.
+    pub fn read(&mut self, alloc: Global, meter: &mut Meter, place: u32) -> Result<(), Fault>
+        requires within { place < length self.old.marks }
+        ensures ok { OnOk result (self.new ≡ record self.old { marks = marked place self.old.marks }) }
+        ensures err { OnErr result (self.new ≡ self.old) }
+        ensures counts { meter.new ≡ have_read (unread_at self.old.marks place) meter.old }
+        ensures memory { IsOkUnless result memory_fault }
+    {
+        if self.entry(place).is_some() {
+            return Ok(());
+        }
+        self.read_anew(alloc, meter, place)
+    }
+
+    // Reads the section at a place once, as the meter counts. Want of memory is the only refusal, and leaves the file as
+    // before; then it is counted too.
+    fn read_anew(&mut self, alloc: Global, meter: &mut Meter, place: u32) -> Result<(), Fault>
+        requires within { place < length self.old.marks }
+        ensures ok { OnOk result (self.new ≡ record self.old { marks = marked place self.old.marks }) }
+        ensures err { OnErr result (self.new ≡ self.old) }
+        ensures counts { meter.new ≡ ticked Read meter.old }
+        ensures memory { IsOkUnless result memory_fault }
+    {
+        let settings = self.settings.as_ref();
+        read_in(alloc, meter, &self.text, &mut self.list, settings, place)?;
+        Ok(())
+    }
+
+    /// Reads the first section that is still to be read, and says whether there was one; then the meter counts one as
+    /// read. Want of memory is the only refusal, and leaves the file as before; then the section was counted too.
+    pub fn work(&mut self, alloc: Global, meter: &mut Meter) -> Result<bool, Fault>
+        ensures value { Gives result (nat_lt 0 (unread self.old.marks)) }
+        ensures some { IfOk result (λ b. b ≡ true → self.new ≡ with_first_read self.old) }
+        ensures none { IfOk result (λ b. b ≡ false → self.new ≡ self.old) }
+        ensures err { OnErr result (self.new ≡ self.old) }
+        ensures counts { IfOk result (λ b. meter.new ≡ cond b (ticked Read meter.old) meter.old) }
+        ensures few { OnErr result (meter.new ≡ ticked Read meter.old) }
+        ensures memory { IsOkUnless result memory_fault }
+    {
+        let Some(place) = self.list.first_marked(0) else {
+            return Ok(false);
+        };
+        self.read_anew(alloc, meter, place)?;
+        Ok(true)
+    }
+
+    /// Reads all sections that are still to be read: the meter counts each once as read. Few of them are read one by one,
+    /// many in one pass. Want of memory is the only refusal, and leaves the file as before; then some of them may have been
+    /// counted.
+    pub fn read_all(&mut self, alloc: Global, meter: &mut Meter) -> Result<(), Fault>
+        ensures ok { OnOk result (self.new ≡ record self.old { marks = all_marked self.old.marks }) }
+        ensures err { OnErr result (self.new ≡ self.old) }
+        ensures counts { OnOk result (meter.new ≡ have_read (unread self.old.marks) meter.old) }
+        ensures few { OnErr result (SomeRead (unread self.old.marks) meter.old meter.new) }
+        ensures memory { IsOkUnless result memory_fault }
+    {
+        let settings = self.settings.as_ref();
+        let list = all_read(alloc, meter, &self.text, &self.list, settings)?;
+        self.list = list;
+        Ok(())
+    }
+
+    /// What the file says, shared with it. All sections that are still to be read are read first: the meter counts each
+    /// once. The outline is kept until the next change, so with nothing pending a second call takes two counts and no pass.
+    /// Want of memory is the only refusal, and leaves the file as before; then some of the sections may have been counted.
+    pub fn outlined(&mut self, alloc: Global, meter: &mut Meter) -> Result<FileOutline, Fault>
+        ensures value { Gives result (outline_of self.old.text) }
+        ensures ok { OnOk result (self.new ≡ record self.old { marks = all_marked self.old.marks }) }
+        ensures err { OnErr result (self.new ≡ self.old) }
+        ensures counts { OnOk result (meter.new ≡ have_read (unread self.old.marks) meter.old) }
+        ensures few { OnErr result (SomeRead (unread self.old.marks) meter.old meter.new) }
+        ensures memory { IsOkUnless result memory_fault }
+    {
+        if let Some(file) = self.ready()? {
+            return Ok(file);
+        }
+        let settings = self.settings.as_ref();
+        let list = all_read(alloc, meter, &self.text, &self.list, settings)?;
+        self.keep(alloc, list)
+    }
+
+    // What the file says, where nothing is pending and the outline is kept. Want of memory is the only refusal.
+    fn ready(&self) -> Result<Option<FileOutline>, Fault>
+        ensures value { IfOk result (IsReady self.now) }
+        ensures memory { IsOkUnless result memory_fault }
+    {
+        if self.list.marks() > 0 {
+            return Ok(None);
+        }
+        match &self.outline {
+            None => Ok(None),
+            Some(outline) => Ok(Some(FileOutline::of(outline, &self.settings)?)),
+        }
+    }
+
+    // Takes over the list of the sections, which were all read, and keeps its outline; what the file says. Want of memory
+    // is the only refusal, and leaves the file as before.
+    fn keep(&mut self, alloc: Global, list: Sequence<Section>) -> Result<FileOutline, Fault>
+        requires read { list ≡ read_sections (file_settings self.old.text) self.old.text }
+        ensures value { Gives result (outline_of self.old.text) }
+        ensures ok { OnOk result (self.new ≡ record self.old { marks = all_marked self.old.marks }) }
+        ensures err { OnErr result (self.new ≡ self.old) }
+        ensures memory { IsOkUnless result memory_fault }
+    {
+        let outline = outline_in(alloc, &list)?;
+        let file = FileOutline::of(&outline, &self.settings)?;
+        self.list = list;
+        self.outline = Some(outline);
+        Ok(file)
+    }
+
+    /// Gives the file a text that is its own with a change, and a serial. The sections of the new text that stand in the
+    /// place of those that the change touches are to be read anew: the meter counts each once as classified. Where the
+    /// file's settings stay, all others are as before; else they are to be read anew too, and are not counted. Want of memory
+    /// is the only refusal, and leaves the file as before; then some of the new sections may have been counted.
+    pub fn set_text(
+        &mut self,
+        alloc: Global,
+        meter: &mut Meter,
+        text: T,
+        change: Change<'_>,
+        serial: u64,
+    ) -> Result<(), Fault>
+        requires within { LiesIn self.old.text change }
+        requires changed { T.content text ≡ edited self.old.text change }
+        ensures ok { OnOk result (IsChangedBy self.old change.entry serial self.new) }
+        ensures err { OnErr result (self.new ≡ self.old) }
+        ensures counts { OnOk result (NewClassified self.old.text change.entry meter.old meter.new) }
+        ensures few { OnErr result (FewNewClassified self.old.text change.entry meter.old meter.new) }
+        ensures memory { IsOkUnless result memory_fault }
+    {
+        let list = changed_list(alloc, meter, &self.list, &self.text, &text, change)?;
+        let renewed = self.renewed(alloc, &text, &list, change)?;
+        let Some(settings) = renewed else {
+            self.text = text;
+            self.serial = serial;
+            self.list = list;
+            self.outline = None;
+            return Ok(());
+        };
+        let pending = all_pending(alloc, &list)?;
+        self.text = text;
+        self.serial = serial;
+        self.list = pending;
+        self.settings = settings;
+        self.outline = None;
+        Ok(())
+    }
+
+    // The settings of a text that is the file's with a change, and of whose sections this is kept; None where they stay.
+    // Only where the change doesn't leave the setting lines as they are, those of all sections are gone over.
+    fn renewed(
+        &self,
+        alloc: Global,
+        text: &T,
+        list: &Sequence<Section>,
+        change: Change<'_>,
+    ) -> Result<Option<Rc<Settings>>, Fault>
+        requires kept { AreOf (T.content text.now) list.now }
+        requires within { LiesIn self.now.text change }
+        requires changed { T.content text.now ≡ edited self.now.text change }
+        ensures value { IfOk result (IsRenewed self.now.text (T.content text.now)) }
+        ensures memory { IsOkUnless result memory_fault }
+    {
+        if leaves_lines(alloc, &self.list, &self.text, list, text, change)? {
+            return Ok(None);
+        }
+        let settings = settings_of(alloc, text, list)?;
+        if self.settings.as_ref().same(&settings) {
+            return Ok(None);
+        }
+        Ok(Some(Rc::new(alloc, settings)?))
+    }
+}
+
+impl<T: Text> Clone for File<T> {
+    ghost is_clone = { λ s t. t ≡ s };
+
+    fn clone(&self) -> Result<File<T>, AllocError> {
+        match self.text.share() {
+            Ok(text) => {
+                let list = self.list.share()?;
+                let settings = self.settings.clone()?;
+                let outline = shared(&self.outline)?;
+                Ok(File {
+                    text,
+                    serial: self.serial,
+                    list,
+                    settings,
+                    outline,
+                })
+            }
+            Err(_) => Err(AllocError),
+        }
+    }
+}

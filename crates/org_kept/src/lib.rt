@@ -1,0 +1,20 @@
+//! The kept sections of a file.
+//!
+//! Of each section of a text stands how long it is, the classes of its lines and, where it was read, what it says. An edit
+//! makes those anew that it touches; all others stay as they are. What all of them say is one outline, kept until the next
+//! edit and shared with those who ask.
+#![tactic(auto)]
+
+mod change;
+mod file;
+mod fresh;
+mod outline;
+mod quiet;
+mod read;
+mod section;
+mod settings;
+mod touched;
+
+pub use change::Change;
+pub use file::File;
+pub use outline::FileOutline;

@@ -1,0 +1,190 @@
+//! Kept sections, read.
+ghost use Rattle.std.specs.Prelude.{◌≡◌, ◌+◌, ◌<◌, ◌≤◌, length, OnOk, OnErr, IsOkUnless};
+ghost use Rattle.std.specs.List.{count_by};
+ghost use Rattle.org_base.specs.Codes.{memory_fault};
+ghost use Rattle.org_base.specs.Counts.{ticked};
+ghost use Rattle.org_base.specs.Results.{Gives, GivesItems};
+ghost use Rattle.org_base.specs.Spans.{bytes_in};
+ghost use Rattle.org_base.specs.declared.meter.Tick.TheVariants.{Read};
+ghost use Rattle.org_class.specs.Classes.{section_classes};
+ghost use Rattle.org_kept.specs.Begun.{section_of};
+ghost use Rattle.org_kept.specs.Counts.{SomeRead, have_read};
+ghost use Rattle.org_kept.specs.File.{AllSay, AreOf, Says, with_read, pending_one, read_section, read_sections, read_part};
+ghost use Rattle.org_kept.specs.Sections.{is_pending};
+
+use crate::section::Section;
+use crate::settings::span_at;
+use org_base::{Fault, Meter, Span};
+use org_class::Settings;
+use org_entry::read_entry;
+use org_sequence::{Measured, Sequence};
+use org_text::Text;
+use std::alloc::Global;
+
+// Where at most one section in so many is still to be read, they are read one by one; a pass over all costs more then.
+const ONE_IN: u32 = 16;
+
+// A section of a text, read once as the meter counts, where memory is refused too.
+fn read_one<T: Text>(
+    alloc: Global,
+    meter: &mut Meter,
+    text: &T,
+    span: Span,
+    section: &Section,
+    settings: &Settings,
+) -> Result<Section, Fault>
+    requires within { span.at + span.len ≤ length (T.content text.now) }
+    requires belongs { section.now.classes ≡ section_classes (bytes_in (T.content text.now) span) }
+    ensures value { Gives result (read_part settings.now (T.content text.now) span section.now) }
+    ensures counts { meter.new ≡ ticked Read meter.old }
+    ensures memory { IsOkUnless result memory_fault }
+{
+    let classes = section.classes().as_slice();
+    let entry = read_entry(alloc, meter, text, span, classes, settings)?;
+    Ok(section.read(alloc, entry)?)
+}
+
+// The section at a place of a text, read once as the meter counts, where memory is refused too.
+fn read_at<T: Text>(
+    alloc: Global,
+    meter: &mut Meter,
+    text: &T,
+    list: &Sequence<Section>,
+    settings: &Settings,
+    place: u32,
+) -> Result<Section, Fault>
+    requires kept { AreOf (T.content text.now) list.now }
+    requires within { place < length list.now }
+    ensures value { Gives result (read_section settings.now (section_of (T.content text.now) place)) }
+    ensures counts { meter.new ≡ ticked Read meter.old }
+    ensures memory { IsOkUnless result memory_fault }
+{
+    let span = span_at(text, list, place);
+    read_one(alloc, meter, text, span, list.get(place), settings)
+}
+
+// Reads the section at a place of a text once, as the meter counts. Want of memory is the only refusal, and leaves the list
+// as before; then it is counted too.
+pub(crate) fn read_in<T: Text>(
+    alloc: Global,
+    meter: &mut Meter,
+    text: &T,
+    list: &mut Sequence<Section>,
+    settings: &Settings,
+    place: u32,
+) -> Result<(), Fault>
+    requires kept { AreOf (T.content text.now) list.old }
+    requires within { place < length list.old }
+    ensures ok { OnOk result (list.new ≡ with_read settings.now (T.content text.now) place list.old) }
+    ensures err { OnErr result (list.new ≡ list.old) }
+    ensures counts { meter.new ≡ ticked Read meter.old }
+    ensures memory { IsOkUnless result memory_fault }
+{
+    // For the proof alone: its contract says that the text is not too long.
+    let _len = text.len();
+    let section = read_at(alloc, meter, text, list, settings, place)?;
+    Ok(list.set(place, section)?)
+}
+
+// The sections of a text, all of them read: each that wasn't before is read once, as the meter counts. Want of memory is the
+// only refusal; then some of them may have been counted.
+pub(crate) fn all_read<T: Text>(
+    alloc: Global,
+    meter: &mut Meter,
+    text: &T,
+    list: &Sequence<Section>,
+    settings: &Settings,
+) -> Result<Sequence<Section>, Fault>
+    requires kept { AreOf (T.content text.now) list.now }
+    requires says { AllSay settings.now (T.content text.now) list.now }
+    ensures value { Gives result (read_sections settings.now (T.content text.now)) }
+    ensures counts { OnOk result (meter.new ≡ have_read (count_by is_pending list.now) meter.old) }
+    ensures few { OnErr result (SomeRead (count_by is_pending list.now) meter.old meter.new) }
+    ensures memory { IsOkUnless result memory_fault }
+{
+    if list.marks() <= list.len() / ONE_IN {
+        return read_singly(alloc, meter, text, list, settings);
+    }
+    // For the proof alone: its contract says that the text is not too long.
+    let _len = text.len();
+    let read = read_in_order(alloc, meter, text, list, settings)?;
+    Ok(Sequence::of(alloc, read.as_slice())?)
+}
+
+// The same, where few are still to be read: all others stay where they are.
+fn read_singly<T: Text>(
+    alloc: Global,
+    meter: &mut Meter,
+    text: &T,
+    list: &Sequence<Section>,
+    settings: &Settings,
+) -> Result<Sequence<Section>, Fault>
+    requires kept { AreOf (T.content text.now) list.now }
+    requires says { AllSay settings.now (T.content text.now) list.now }
+    ensures value { Gives result (read_sections settings.now (T.content text.now)) }
+    ensures counts { OnOk result (meter.new ≡ have_read (count_by is_pending list.now) meter.old) }
+    ensures few { OnErr result (SomeRead (count_by is_pending list.now) meter.old meter.new) }
+    ensures memory { IsOkUnless result memory_fault }
+{
+    let mut read = list.share()?;
+    loop {
+        let Some(place) = read.first_marked(0) else {
+            return Ok(read);
+        };
+        read_in(alloc, meter, text, &mut read, settings, place)?;
+    }
+}
+
+// The same in one pass over all.
+fn read_in_order<T: Text>(
+    alloc: Global,
+    meter: &mut Meter,
+    text: &T,
+    list: &Sequence<Section>,
+    settings: &Settings,
+) -> Result<Vec<Section>, Fault>
+    requires kept { AreOf (T.content text.now) list.now }
+    requires says { AllSay settings.now (T.content text.now) list.now }
+    ensures value { GivesItems result (read_sections settings.now (T.content text.now)) }
+    ensures counts { OnOk result (meter.new ≡ have_read (count_by is_pending list.now) meter.old) }
+    ensures few { OnErr result (SomeRead (count_by is_pending list.now) meter.old meter.new) }
+    ensures memory { IsOkUnless result memory_fault }
+{
+    // For the proof alone: its contract says that the text is not too long.
+    let _len = text.len();
+    let mut all = Vec::with_capacity(alloc, list.len() as usize)?;
+    let mut at = 0;
+    for section in list {
+        let span = Span {
+            at,
+            len: section.len(),
+        };
+        let read = read_or_shared(alloc, meter, text, span, section, settings)?;
+        all.push(read)?;
+        at += span.len;
+    }
+    Ok(all)
+}
+
+// The section, read: where it was read already, it is shared, and not counted.
+fn read_or_shared<T: Text>(
+    alloc: Global,
+    meter: &mut Meter,
+    text: &T,
+    span: Span,
+    section: &Section,
+    settings: &Settings,
+) -> Result<Section, Fault>
+    requires within { span.at + span.len ≤ length (T.content text.now) }
+    requires len { section.now.len ≡ length (bytes_in (T.content text.now) span) }
+    requires belongs { section.now.classes ≡ section_classes (bytes_in (T.content text.now) span) }
+    requires says { Says settings.now (bytes_in (T.content text.now) span) section.now }
+    ensures value { Gives result (read_section settings.now (bytes_in (T.content text.now) span)) }
+    ensures counts { meter.new ≡ have_read (pending_one section.now) meter.old }
+    ensures memory { IsOkUnless result memory_fault }
+{
+    if section.entry().is_some() {
+        return Ok(section.share()?);
+    }
+    read_one(alloc, meter, text, span, section, settings)
+}

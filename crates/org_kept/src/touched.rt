@@ -1,0 +1,133 @@
+//! The sections that a change of a text touches.
+ghost use Rattle.std.specs.Prelude.{◌≡◌, ◌+◌, ◌≤◌, length, map, OnOk, OnErr, IsOkUnless};
+ghost use Rattle.std.specs.List.{sum_by};
+ghost use Rattle.org_base.specs.Codes.{memory_fault};
+ghost use Rattle.org_base.specs.Results.{Gives};
+ghost use Rattle.org_class.specs.Changes.{ended_before, begun_by, first_touched_by};
+ghost use Rattle.org_kept.specs.Change.{AreEdited, LiesIn, edited, edited_end, edited_list, first_edited};
+ghost use Rattle.org_kept.specs.Counts.{NewClassified, FewNewClassified};
+ghost use Rattle.org_kept.specs.File.{AreOf};
+ghost use Rattle.org_kept.specs.Sections.{section_len};
+
+use crate::change::Change;
+use crate::fresh::classified;
+use crate::section::Section;
+use org_base::{Fault, Meter, Span};
+use org_class::has_heading_at;
+use org_sequence::Sequence;
+use org_text::Text;
+use std::alloc::Global;
+
+// How many sections end before a place.
+#[tactic(auto, using(crate::proofs::PlaceLemmas::ended_item, crate::proofs::PlaceLemmas::ended_none))]
+fn ended_before(list: &Sequence<Section>, at: u32) -> u32
+    requires within { at ≤ sum_by section_len list.now }
+    ensures value { result ≡ ended_before at (map section_len list.now) }
+{
+    if at == 0 {
+        return 0;
+    }
+    let (place, _) = list.find(at - 1);
+    place
+}
+
+// How many sections begin at a place or before it.
+#[tactic(auto, using(crate::proofs::PlaceLemmas::begun_item, crate::proofs::PlaceLemmas::begun_all))]
+fn begun_by(list: &Sequence<Section>, at: u32) -> u32
+    requires within { at ≤ sum_by section_len list.now }
+    ensures value { result ≡ begun_by at (map section_len list.now) }
+{
+    if at >= list.size() {
+        return list.len();
+    }
+    let (place, _) = list.find(at);
+    place + 1
+}
+
+// The first section that a change touches.
+fn first_touched<T: Text>(list: &Sequence<Section>, new: &T, at: u32) -> u32
+    requires within { at ≤ sum_by section_len list.now }
+    requires there { at ≤ length (T.content new.now) }
+    ensures value { result ≡ first_touched_by (map section_len list.now) (T.content new.now) at }
+{
+    let first = ended_before(list, at);
+    if first == 0 {
+        return 0;
+    }
+    let start = list.size_before(first);
+    if has_heading_at(new, start as usize) {
+        return first;
+    }
+    first - 1
+}
+
+// The touched sections, from `first` to before `end`, and the part of the new text in their place.
+#[derive(Clone, Copy)]
+pub(crate) struct Stretch {
+    pub(crate) first: u32,
+    pub(crate) end: u32,
+    pub(crate) part: Span,
+}
+
+// What a change of a text touches; the sections of the new text's part stand in the place of the touched ones.
+pub(crate) fn touched<T: Text>(
+    list: &Sequence<Section>,
+    old: &T,
+    new: &T,
+    change: Change<'_>,
+) -> Stretch
+    requires kept { AreOf (T.content old.now) list.now }
+    requires within { LiesIn (T.content old.now) change }
+    requires changed { T.content new.now ≡ edited (T.content old.now) change }
+    ensures first { result.first ≡ first_edited (T.content old.now) change.entry }
+    ensures end { result.end ≡ edited_end (T.content old.now) change.entry }
+    ensures order { result.first ≤ result.end }
+    ensures last { result.end ≤ length list.now }
+    ensures inside { result.part.at + result.part.len ≤ length (T.content new.now) }
+    ensures part { AreEdited (T.content old.now) change.entry (T.content new.now) result.part }
+{
+    // For the proof alone: their contracts say that the texts are not too long.
+    let _old = old.len();
+    let _new = new.len();
+    let first = first_touched(list, new, change.at);
+    let end = begun_by(list, change.at + change.del);
+    let from = list.size_before(first);
+    let stop = list.size_before(end);
+    let to = stop - change.del + change.ins.len() as u32;
+    Stretch {
+        first,
+        end,
+        part: Span {
+            at: from,
+            len: to - from,
+        },
+    }
+}
+
+// The sections of a text that is another one with a change: those that the change touches are classified anew, each once as
+// the meter counts. Want of memory is the only refusal; then some of them may have been counted.
+pub(crate) fn changed_list<T: Text>(
+    alloc: Global,
+    meter: &mut Meter,
+    list: &Sequence<Section>,
+    old: &T,
+    new: &T,
+    change: Change<'_>,
+) -> Result<Sequence<Section>, Fault>
+    requires kept { AreOf (T.content old.now) list.now }
+    requires within { LiesIn (T.content old.now) change }
+    requires changed { T.content new.now ≡ edited (T.content old.now) change }
+    ensures value { Gives result (edited_list list.now (T.content old.now) change.entry) }
+    ensures counts { OnOk result (NewClassified (T.content old.now) change.entry meter.old meter.new) }
+    ensures few { OnErr result (FewNewClassified (T.content old.now) change.entry meter.old meter.new) }
+    ensures memory { IsOkUnless result memory_fault }
+{
+    // For the proof alone: their contracts say that the texts are not too long.
+    let _old = old.len();
+    let _new = new.len();
+    let touched = touched(list, old, new, change);
+    let fresh = classified(alloc, meter, new, touched.part)?;
+    let mut list = list.share()?;
+    list.replace(touched.first, touched.end, fresh.as_slice())?;
+    Ok(list)
+}
