@@ -1,66 +1,55 @@
 //! Which rows a stamp gives on a day.
-ghost use Rattle.std.specs.Prelude.{◌≡◌, ◌<◌, ◌-◌, nat_lt, ◌&&◌, length, OnOk};
-ghost use Rattle.org_agenda.specs.Days.{days_in, delay_or, is_due, is_in_range, is_shown, kind_rows, numbers, occurs_delayed, occurs_later, range_times, source_rows, times};
+ghost use Rattle.std.specs.Prelude.{◌≡◌, ◌<◌, ◌≤◌, ◌+◌, ◌-◌, nat_le, nat_lt, ◌&&◌, length, unwrap_or, OnOk};
+ghost use Rattle.org_cal.specs.declared.day.TheConstants.{LAST_DAY};
+ghost use Rattle.org_agenda.specs.Days.{due_day, is_due, is_shown, kind_rows, numbers, occurs_delayed, occurs_later, range_numbers, range_times, shown_from, source_rows, times};
 ghost use Rattle.org_agenda.specs.Results.{Gathers};
 ghost use Rattle.org_agenda.specs.declared.lists.TheConstants.{PRIORITIES};
-ghost use Rattle.org_agenda.specs.declared.shows.TheConstants.{DELAY_LIMIT};
+ghost use Rattle.org_index.specs.Delays.{delay_or};
+ghost use Rattle.org_index.specs.declared.delays.TheConstants.{DELAY_LIMIT};
 ghost use Rattle.org_repeat.specs.Decided.{occurs};
 
 use crate::buckets::Buckets;
 use crate::row::{Row, RowKind};
 use crate::source::{Role, Source};
-use org_cal::{Day, TimeOfDay, Unit};
-use org_repeat::occurs_on;
+use org_base::Profile;
+use org_cal::{Day, TimeOfDay};
+use org_index::{days_in, delay_or};
+use org_repeat::{next_after, occurs_on, range_start};
 use org_stamp::{Delay, Stamp};
 use std::alloc::AllocError;
 
-// No delay has so many days: the largest number of years makes some 24 million.
-const DELAY_LIMIT: u32 = 30_000_000;
-
-// The days that so many units count as.
-pub(crate) fn days(unit: Unit, n: u16) -> u32
-    ensures value { result ≡ days_in unit n }
-    ensures small { result < DELAY_LIMIT }
-{
-    let n = n as u32;
-    match unit {
-        Unit::Hour => n / 24,
-        Unit::Day => n,
-        Unit::Week => 7 * n,
-        Unit::Month => 304 * n / 10,
-        Unit::Year => (36525 * n as u64 / 100) as u32,
-    }
-}
-
-fn occurs_delayed(stamp: &Stamp, delay: Option<Delay>, day: Day) -> bool
-    ensures value { result ≡ occurs_delayed stamp.now delay day }
+fn occurs_delayed(stamp: &Stamp, profile: Profile, delay: Option<Delay>, day: Day) -> bool
+    ensures value { result ≡ occurs_delayed profile stamp.now delay day }
 {
     match delay {
-        Some(delay) => occurs_later(stamp, delay.first_only, days(delay.unit, delay.n), day),
-        None => occurs_on(stamp, day),
+        Some(delay) => {
+            let later = days_in(delay.unit, delay.n);
+            occurs_later(stamp, profile, delay.first_only, later, day)
+        }
+        None => occurs_on(stamp, profile, day),
     }
 }
 
-fn occurs_later(stamp: &Stamp, first_only: bool, later: u32, day: Day) -> bool
+fn occurs_later(stamp: &Stamp, profile: Profile, first_only: bool, later: u32, day: Day) -> bool
     requires { later < DELAY_LIMIT }
-    ensures value { result ≡ occurs_later first_only stamp.now later day }
+    ensures value { result ≡ occurs_later profile first_only stamp.now later day }
 {
     match first_only {
         true => day.number() == stamp.day.number() + later
-            || (!(day.number() == stamp.day.number()) && occurs_on(stamp, day)),
-        false => occurs_before(stamp, later, day),
+            || (!(day.number() == stamp.day.number()) && occurs_on(stamp, profile, day)),
+        false => occurs_before(stamp, profile, later, day),
     }
 }
 
 // Whether the stamp occurs so many days before.
-fn occurs_before(stamp: &Stamp, later: u32, day: Day) -> bool
-    ensures value { result ≡ (nat_lt later day && occurs stamp.now (day - later)) }
+fn occurs_before(stamp: &Stamp, profile: Profile, later: u32, day: Day) -> bool
+    ensures value { result ≡ (nat_lt later day && occurs profile stamp.now (day - later)) }
 {
     if later >= day.number() {
         return false;
     }
     match Day::of_number((day.number() - later) as u64) {
-        Some(from) => occurs_on(stamp, from),
+        Some(from) => occurs_on(stamp, profile, from),
         None => false,
     }
 }
@@ -71,71 +60,90 @@ fn is_due(source: &Source, today: Day, day: Day) -> bool
     day.number() == today.number() && source.owner.is_open
 }
 
-fn is_in_range(stamp: &Stamp, last: Option<(Day, Option<TimeOfDay>)>, day: Day) -> bool
-    ensures value { result ≡ is_in_range stamp.now last day }
+// The number of the day of which a deadline warns, or 0 where there is none.
+fn due_day(stamp: &Stamp, profile: Profile, today: Day) -> u32
+    ensures value { result ≡ due_day profile stamp.now today }
 {
-    match last {
-        Some((last, _)) => stamp.day.number() <= day.number() && day.number() <= last.number(),
-        None => false,
+    match profile {
+        Profile::One => stamp.day.number(),
+        Profile::Two => number_or_none(next_after(stamp, today)),
     }
 }
 
-fn delay_of(other: u32, delay: Option<Delay>) -> u32
-    requires { other < 100 }
-    ensures value { result ≡ delay_or other delay }
-    ensures small { result < DELAY_LIMIT }
+// The number of the first day of the copy of a range that the day shows, or 0 where it shows none.
+fn shown_from(stamp: &Stamp, profile: Profile, day: Day) -> u32
+    ensures value { result ≡ shown_from profile stamp.now day }
+    ensures small { result ≤ LAST_DAY }
 {
-    match delay {
-        Some(delay) => days(delay.unit, delay.n),
-        None => other,
+    number_or_none(range_start(stamp, profile, day))
+}
+
+fn number_or_none(day: Option<Day>) -> u32
+    ensures value { result ≡ unwrap_or day 0 }
+    ensures small { result ≤ LAST_DAY }
+{
+    match day {
+        Some(day) => day.number(),
+        None => 0,
     }
 }
 
 // Whether the stamp, if its role has rows of that kind, gives one on the day.
-fn is_shown(kind: RowKind, source: &Source, today: Day, day: Day) -> bool
-    ensures { result ≡ is_shown kind source.now today day }
+fn is_shown(kind: RowKind, source: &Source, profile: Profile, today: Day, day: Day) -> bool
+    ensures { result ≡ is_shown profile kind source.now today day }
 {
     let stamp = &source.stamp;
     match kind {
         RowKind::Listed => false,
-        RowKind::OnDay => stamp.last.is_none() && occurs_on(stamp, day),
-        RowKind::InRange => is_in_range(stamp, stamp.last, day),
-        RowKind::OnSchedule => occurs_delayed(stamp, stamp.delay, day),
+        RowKind::OnDay => stamp.last.is_none() && occurs_on(stamp, profile, day),
+        RowKind::InRange => range_start(stamp, profile, day).is_some(),
+        RowKind::OnSchedule => occurs_delayed(stamp, profile, stamp.delay, day),
         RowKind::LateSchedule => {
             is_due(source, today, day)
-                && stamp.day.number() + delay_of(0, stamp.delay) < today.number()
+                && stamp.day.number() + delay_or(0, stamp.delay) < today.number()
         }
-        RowKind::OnDeadline => occurs_on(stamp, day),
-        RowKind::Warning => {
-            is_due(source, today, day)
-                && stamp.day.number() <= today.number() + delay_of(14, stamp.delay)
-                && today.number() < stamp.day.number()
-        }
+        RowKind::OnDeadline => occurs_on(stamp, profile, day),
+        RowKind::Warning => is_due(source, today, day) && warns(stamp, profile, today),
         RowKind::LateDeadline => {
             is_due(source, today, day) && stamp.day.number() < today.number()
         }
     }
 }
 
-fn times_of(kind: RowKind, stamp: &Stamp, day: Day) -> (Option<TimeOfDay>, Option<TimeOfDay>)
-    ensures value { result ≡ times kind stamp.now day }
+// Whether the day of which a deadline warns is near.
+fn warns(stamp: &Stamp, profile: Profile, today: Day) -> bool
+    ensures { result ≡ (nat_le (due_day profile stamp.now today) (today + delay_or 14 stamp.now.delay) && nat_lt today (due_day profile stamp.now today)) }
+{
+    let due = due_day(stamp, profile, today);
+    due <= today.number() + delay_or(14, stamp.delay) && today.number() < due
+}
+
+fn times_of(
+    kind: RowKind,
+    stamp: &Stamp,
+    profile: Profile,
+    day: Day,
+) -> (Option<TimeOfDay>, Option<TimeOfDay>)
+    ensures value { result ≡ times profile kind stamp.now day }
 {
     match kind {
         RowKind::OnDay | RowKind::OnSchedule | RowKind::OnDeadline => (stamp.time, stamp.end_time),
-        RowKind::InRange => range_times_of(stamp, day),
+        RowKind::InRange => range_times_of(stamp, shown_from(stamp, profile, day), day),
         RowKind::Listed | RowKind::LateSchedule | RowKind::Warning | RowKind::LateDeadline => (
             None, None,
         ),
     }
 }
 
-fn range_times_of(stamp: &Stamp, day: Day) -> (Option<TimeOfDay>, Option<TimeOfDay>)
-    ensures value { result ≡ range_times stamp.now stamp.now.last day }
+// The times that a copy of a range shows that begins on the day of a number.
+fn range_times_of(stamp: &Stamp, begins: u32, day: Day) -> (Option<TimeOfDay>, Option<TimeOfDay>)
+    requires small { begins ≤ LAST_DAY }
+    ensures value { result ≡ range_times stamp.now stamp.now.last begins day }
 {
     let Some((last, start)) = stamp.last else {
         return (None, None);
     };
-    if day.number() == stamp.day.number() {
+    if day.number() == begins {
         let end = if last.number() == stamp.day.number() {
             start
         } else {
@@ -143,28 +151,34 @@ fn range_times_of(stamp: &Stamp, day: Day) -> (Option<TimeOfDay>, Option<TimeOfD
         };
         return (stamp.time, end);
     }
-    if day.number() == last.number() {
+    if day.number() + stamp.day.number() == begins + last.number() {
         (start, None)
     } else {
         (None, None)
     }
 }
 
-fn numbers_of(kind: RowKind, stamp: &Stamp, day: Day) -> (u32, u32)
-    ensures value { result ≡ numbers kind stamp.now day }
+// The numbers of a range's copy that begins on the day of a number.
+fn range_numbers_of(stamp: &Stamp, begins: u32, day: Day) -> (u32, u32)
+    ensures value { result ≡ range_numbers stamp.now stamp.now.last begins day }
 {
-    let base = stamp.day.number();
+    match stamp.last {
+        Some((last, _)) => (
+            day.number().saturating_sub(begins) + 1,
+            last.number().saturating_sub(stamp.day.number()) + 1,
+        ),
+        None => (0, 0),
+    }
+}
+
+fn numbers_of(kind: RowKind, stamp: &Stamp, profile: Profile, day: Day) -> (u32, u32)
+    ensures value { result ≡ numbers profile kind stamp.now day }
+{
     let on = day.number();
     match kind {
-        RowKind::InRange => match stamp.last {
-            Some((last, _)) => (
-                on.saturating_sub(base) + 1,
-                last.number().saturating_sub(base) + 1,
-            ),
-            None => (0, 0),
-        },
-        RowKind::LateSchedule | RowKind::LateDeadline => (on.saturating_sub(base), 0),
-        RowKind::Warning => (base.saturating_sub(on), 0),
+        RowKind::InRange => range_numbers_of(stamp, shown_from(stamp, profile, day), day),
+        RowKind::LateSchedule | RowKind::LateDeadline => (on.saturating_sub(stamp.day.number()), 0),
+        RowKind::Warning => (due_day(stamp, profile, day).saturating_sub(on), 0),
         RowKind::Listed | RowKind::OnDay | RowKind::OnSchedule | RowKind::OnDeadline => (0, 0),
     }
 }
@@ -174,18 +188,19 @@ fn push_kind(
     rows: &mut Buckets,
     kind: RowKind,
     source: &Source,
+    profile: Profile,
     today: Day,
     day: Day,
 ) -> Result<(), AllocError>
     requires room { length rows.old ≡ PRIORITIES }
-    ensures ok { Gathers result rows.old rows.new (kind_rows kind source.now today day) }
+    ensures ok { Gathers result rows.old rows.new (kind_rows profile kind source.now today day) }
     ensures room { OnOk result (length rows.new ≡ PRIORITIES) }
 {
-    if !is_shown(kind, source, today, day) {
+    if !is_shown(kind, source, profile, today, day) {
         return Ok(());
     }
-    let (start, end) = times_of(kind, &source.stamp, day);
-    let (number, of) = numbers_of(kind, &source.stamp, day);
+    let (start, end) = times_of(kind, &source.stamp, profile, day);
+    let (number, of) = numbers_of(kind, &source.stamp, profile, day);
     let owner = source.owner;
     rows.add(
         owner.priority.number() as usize,
@@ -207,25 +222,26 @@ fn push_kind(
 pub(crate) fn push_source(
     rows: &mut Buckets,
     source: &Source,
+    profile: Profile,
     today: Day,
     day: Day,
 ) -> Result<(), AllocError>
     requires room { length rows.old ≡ PRIORITIES }
-    ensures ok { Gathers result rows.old rows.new (source_rows today day source.now) }
+    ensures ok { Gathers result rows.old rows.new (source_rows profile today day source.now) }
 {
     match source.role {
         Role::Plain => {
-            push_kind(rows, RowKind::OnDay, source, today, day)?;
-            push_kind(rows, RowKind::InRange, source, today, day)?;
+            push_kind(rows, RowKind::OnDay, source, profile, today, day)?;
+            push_kind(rows, RowKind::InRange, source, profile, today, day)?;
         }
         Role::Scheduled => {
-            push_kind(rows, RowKind::OnSchedule, source, today, day)?;
-            push_kind(rows, RowKind::LateSchedule, source, today, day)?;
+            push_kind(rows, RowKind::OnSchedule, source, profile, today, day)?;
+            push_kind(rows, RowKind::LateSchedule, source, profile, today, day)?;
         }
         Role::Deadline => {
-            push_kind(rows, RowKind::OnDeadline, source, today, day)?;
-            push_kind(rows, RowKind::Warning, source, today, day)?;
-            push_kind(rows, RowKind::LateDeadline, source, today, day)?;
+            push_kind(rows, RowKind::OnDeadline, source, profile, today, day)?;
+            push_kind(rows, RowKind::Warning, source, profile, today, day)?;
+            push_kind(rows, RowKind::LateDeadline, source, profile, today, day)?;
         }
     }
     Ok(())

@@ -1,15 +1,16 @@
 //! Stamps by the days on which they may give rows.
 ghost use Rattle.std.specs.Prelude.{◌≡◌, ℕ, ◌+◌, ◌<◌, ◌≤◌, Some, true, false, IfOk, OnOk, length, slice_get};
 ghost use Rattle.org_agenda.specs.Days.{is_due, occurs_delayed, occurs_later};
-ghost use Rattle.org_agenda.specs.declared.shows.TheConstants.{DELAY_LIMIT};
+ghost use Rattle.org_index.specs.declared.delays.TheConstants.{DELAY_LIMIT};
 ghost use Rattle.org_agenda.specs.declared.spread.TheConstants.{NEVER};
 ghost use Rattle.org_agenda.specs.Spread.{AreSpread, GiveMore, GivesNone, NoDayHas};
 ghost use Rattle.org_repeat.specs.Decided.{occurs};
 
 use crate::places::Places;
-use crate::shows::days;
 use crate::source::{Role, Source};
+use org_base::Profile;
 use org_cal::{Day, LAST_DAY};
+use org_index::days_in;
 use org_repeat::first_on;
 use org_stamp::{Delay, Stamp};
 use std::alloc::{AllocError, Global};
@@ -21,17 +22,18 @@ const NEVER: u32 = LAST_DAY + 1;
 pub(crate) fn spread(
     alloc: Global,
     sources: &[Source],
+    profile: Profile,
     today: Day,
     first: Day,
     count: u32,
 ) -> Result<Places, AllocError>
     requires { first + count ≤ NEVER }
-    ensures value { IfOk result (λ places. AreSpread sources.now today first places sources.now) }
+    ensures value { IfOk result (λ places. AreSpread profile sources.now today first places sources.now) }
     ensures count { IfOk result (λ places. length places ≡ count) }
 {
     let mut places = Places::new(alloc, count as usize)?;
     for (place, source) in sources.iter().enumerate() {
-        give(&mut places, sources, place, source, today, first)?;
+        give(&mut places, sources, place, source, profile, today, first)?;
     }
     Ok(places)
 }
@@ -42,17 +44,18 @@ fn give(
     sources: &[Source],
     place: usize,
     source: &Source,
+    profile: Profile,
     today: Day,
     first: Day,
 ) -> Result<(), AllocError>
     requires is { slice_get sources.now place ≡ Some source.now }
     requires within { first + length places.old ≤ NEVER }
-    ensures ok { OnOk result (GiveMore sources.now today first places.old places.new source.now) }
+    ensures ok { OnOk result (GiveMore profile sources.now today first places.old places.new source.now) }
     ensures count { OnOk result (length places.new ≡ length places.old) }
 {
     let mut next = first.number();
     for _turn in 0..places.count() {
-        let day = next_shown(source, today, next);
+        let day = next_shown(source, profile, today, next);
         let ahead = (day - first.number()) as usize;
         if ahead >= places.count() {
             return Ok(());
@@ -64,19 +67,19 @@ fn give(
 }
 
 // The first day, from one on, on which the stamp may give a row.
-fn next_shown(source: &Source, today: Day, from: u32) -> u32
+fn next_shown(source: &Source, profile: Profile, today: Day, from: u32) -> u32
     requires { (1 ≤ from) × (from ≤ NEVER) }
     ensures late { from ≤ result }
-    ensures none { GivesNone source.now today from result }
+    ensures none { GivesNone profile source.now today from result }
 {
     let stamp = &source.stamp;
     match source.role {
-        Role::Plain => next_on(stamp, from),
+        Role::Plain => next_on(stamp, profile, from),
         Role::Scheduled => earlier(
-            next_delayed(stamp, stamp.delay, from),
+            next_delayed(stamp, profile, stamp.delay, from),
             next_due(source, today, from),
         ),
-        Role::Deadline => earlier(next_on(stamp, from), next_due(source, today, from)),
+        Role::Deadline => earlier(next_on(stamp, profile, from), next_due(source, today, from)),
     }
 }
 
@@ -89,48 +92,48 @@ fn earlier(a: u32, b: u32) -> u32
 }
 
 // The first day, from one on, on which the stamp occurs.
-fn next_on(stamp: &Stamp, from: u32) -> u32
+fn next_on(stamp: &Stamp, profile: Profile, from: u32) -> u32
     requires { (1 ≤ from) × (from ≤ NEVER) }
     ensures late { from ≤ result }
     ensures most { result ≤ NEVER }
-    ensures none { NoDayHas (occurs stamp.now) from result }
+    ensures none { NoDayHas (occurs profile stamp.now) from result }
 {
     // For the proof alone: the stamp's own day is a day.
     let _base = stamp.day.number();
     let Some(from) = Day::of_number(from as u64) else {
         return NEVER;
     };
-    match first_on(stamp, from) {
+    match first_on(stamp, profile, from) {
         Some(day) => day.number(),
         None => NEVER,
     }
 }
 
 // The same with the stamp's delay.
-fn next_delayed(stamp: &Stamp, delay: Option<Delay>, from: u32) -> u32
+fn next_delayed(stamp: &Stamp, profile: Profile, delay: Option<Delay>, from: u32) -> u32
     requires { (1 ≤ from) × (from ≤ NEVER) }
     ensures late { from ≤ result }
-    ensures none { NoDayHas (occurs_delayed stamp.now delay) from result }
+    ensures none { NoDayHas (occurs_delayed profile stamp.now delay) from result }
 {
     let Some(delay) = delay else {
-        return next_on(stamp, from);
+        return next_on(stamp, profile, from);
     };
-    let later = days(delay.unit, delay.n);
+    let later = days_in(delay.unit, delay.n);
     match delay.first_only {
-        true => next_but_base(stamp, later, from),
-        false => next_later(stamp, later, from),
+        true => next_but_base(stamp, profile, later, from),
+        false => next_later(stamp, profile, later, from),
     }
 }
 
 // The same where the base day alone is so many days later.
-fn next_but_base(stamp: &Stamp, later: u32, from: u32) -> u32
+fn next_but_base(stamp: &Stamp, profile: Profile, later: u32, from: u32) -> u32
     requires from { (1 ≤ from) × (from ≤ NEVER) }
     requires small { later < DELAY_LIMIT }
     ensures late { from ≤ result }
-    ensures none { NoDayHas (occurs_later true stamp.now later) from result }
+    ensures none { NoDayHas (occurs_later profile true stamp.now later) from result }
 {
     let base = stamp.day.number() + later;
-    let next = next_on(stamp, from);
+    let next = next_on(stamp, profile, from);
     if base < from {
         return next;
     }
@@ -138,16 +141,16 @@ fn next_but_base(stamp: &Stamp, later: u32, from: u32) -> u32
 }
 
 // The same where each occurrence is so many days later.
-fn next_later(stamp: &Stamp, later: u32, from: u32) -> u32
+fn next_later(stamp: &Stamp, profile: Profile, later: u32, from: u32) -> u32
     requires from { (1 ≤ from) × (from ≤ NEVER) }
     requires small { later < DELAY_LIMIT }
     ensures late { from ≤ result }
-    ensures none { NoDayHas (occurs_later false stamp.now later) from result }
+    ensures none { NoDayHas (occurs_later profile false stamp.now later) from result }
 {
     if from <= later {
-        return next_on(stamp, 1) + later;
+        return next_on(stamp, profile, 1) + later;
     }
-    next_on(stamp, from - later) + later
+    next_on(stamp, profile, from - later) + later
 }
 
 // Today, from a day on, if the heading is open.

@@ -1,23 +1,51 @@
 //! Which stamps an agenda looks at.
-ghost use Rattle.std.specs.Prelude.{List, IfOk, IsOkUnless};
+ghost use Rattle.std.specs.Prelude.{◌≡◌, ◌≤◌, ◌+◌, ℕ, List, IfOk, OnErr, OnOk, IsOkUnless, length};
 ghost use Rattle.org_base.specs.Codes.{memory_fault};
+ghost use Rattle.org_base.specs.declared.profile.Profile.{Profile as AnyProfile};
+ghost use Rattle.org_index.specs.Near.{candidate_count, touching_count};
+ghost use Rattle.org_index.specs.Ticks.{Examines, examined};
 ghost use Rattle.org_agenda.specs.Days.{GiveAllRows};
+ghost use Rattle.org_agenda.specs.Indexed.{AreIndexed};
+ghost use Rattle.org_agenda.specs.Sources.{sources_of};
 ghost use Rattle.org_agenda.specs.declared.source.Source.{Source as AnySource};
 
+use crate::indexed::{Asked, Owners, add_near, add_touching, near_of};
 use crate::source::Source;
-use org_base::Fault;
+use org_base::{Fault, Meter, Profile, Tick};
 use org_cal::Day;
+use org_index::DayIndex;
+use org_inherit::Inherits;
 use std::alloc::Global;
+use std::collections::BTreeSet;
 
 /// Which stamps an agenda of some days looks at.
 pub trait Stamps {
     // All stamps, in order.
     ghost sources: { Self → List AnySource };
 
+    // What has to hold of it in a profile.
+    ghost stands: { Self → AnyProfile → Type 0 };
+
+    // How many stamps are examined for the days from one to another, with a today.
+    ghost examines: { Self → ℕ → ℕ → ℕ → ℕ };
+
     /// The stamps to look at for the days from one to another, in order: on each of these days they give the rows that all
-    /// stamps give. Want of memory is the only refusal.
-    fn near(&self, alloc: Global, from: Day, to: Day, today: Day) -> Result<Vec<Source>, Fault>
-        ensures rows { IfOk result (λ found. GiveAllRows (sources self.now) today from to found.items) }
+    /// stamps give. Each stamp that is examined is counted. Want of memory is the only refusal, and then some may have been
+    /// counted.
+    fn near(
+        &self,
+        alloc: Global,
+        meter: &mut Meter,
+        profile: Profile,
+        from: Day,
+        to: Day,
+        today: Day,
+    ) -> Result<Vec<Source>, Fault>
+        requires stands { stands self.now profile }
+        requires order { from ≤ to }
+        ensures rows { IfOk result (λ found. GiveAllRows profile (sources self.now) today from to found.items) }
+        ensures counts { OnOk result (meter.new ≡ examined (examines self.now from to today) meter.old) }
+        ensures few { OnErr result (Examines meter.old meter.new) }
         ensures memory { IsOkUnless result memory_fault };
 }
 
@@ -30,8 +58,64 @@ pub struct AllStamps<'a> {
 impl<'a> Stamps for AllStamps<'a> {
     ghost sources = { λ s. s.sources.now };
 
-    fn near(&self, alloc: Global, from: Day, to: Day, today: Day) -> Result<Vec<Source>, Fault> {
-        let _ = (from, to, today);
-        Ok(Vec::from_slice(alloc, self.sources)?)
+    ghost stands = { λ s p. Unit {0} };
+
+    ghost examines = { λ s from to today. length s.sources.now };
+
+    fn near(
+        &self,
+        alloc: Global,
+        meter: &mut Meter,
+        profile: Profile,
+        from: Day,
+        to: Day,
+        today: Day,
+    ) -> Result<Vec<Source>, Fault> {
+        let _ = (profile, from, to, today);
+        let sources = Vec::from_slice(alloc, self.sources)?;
+        for _ in 0..self.sources.len() {
+            meter.tick(Tick::Examine);
+        }
+        Ok(sources)
+    }
+}
+
+/// The stamps of files' headings, by two indexes: one of those in the planning line of headings without a done keyword, one
+/// of all others.
+#[derive(Drop)]
+pub struct IndexedStamps<'a, O: Owners> {
+    pub inherits: &'a Inherits<'a>,
+    pub pressing: &'a DayIndex,
+    pub others: &'a DayIndex,
+    pub owners: &'a O,
+}
+
+impl<'a, O: Owners> Stamps for IndexedStamps<'a, O> {
+    ghost sources = { λ s. sources_of 0 s.inherits.now };
+
+    ghost stands = { λ s p. AreIndexed p (O.place s.owners.now) s.pressing.now s.others.now s.inherits.now };
+
+    ghost examines = { λ s from to today. candidate_count from to today s.pressing.now + touching_count from to s.others.now };
+
+    fn near(
+        &self,
+        alloc: Global,
+        meter: &mut Meter,
+        profile: Profile,
+        from: Day,
+        to: Day,
+        today: Day,
+    ) -> Result<Vec<Source>, Fault> {
+        let mut places: BTreeSet<(usize, usize)> = BTreeSet::new(alloc);
+        let owners = self.owners;
+        add_near(&mut places, meter, self.pressing, owners, from, to, today)?;
+        add_touching(&mut places, meter, self.others, owners, from, to)?;
+        let asked = Asked {
+            profile,
+            from: from.number(),
+            to: to.number(),
+            today: today.number(),
+        };
+        Ok(near_of(alloc, self.inherits, &places, asked)?)
     }
 }

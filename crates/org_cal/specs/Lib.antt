@@ -3,6 +3,7 @@ pub mod Blocks
 pub mod Days
 pub mod Faults
 pub mod Laws
+pub mod Limits
 pub mod Minutes
 pub mod Named
 pub mod Parts

@@ -1,5 +1,6 @@
 //! Laws of the definitions. Each is a function without parameters whose contract is the law.
 ghost use Rattle.org_cal.specs.Laws.{BlocksAreNamed, DatesHaveNumbers, FirstWeekHasFourth, FirstWeekHasThursday, NumbersHaveDates, WeeksGoOn, WeeksHaveMondays, WeeksHaveSevenDays};
+ghost use Rattle.org_cal.specs.Limits.{LimitsAreNamed};
 
 /// Each day's number is that of its year, month and day of the month.
 pub fn numbers_have_dates()
@@ -41,4 +42,9 @@ pub fn weeks_go_on()
 /// month, the quarter, the week or the day that it names (Org manual 9.6, "The clock table"; ISO 8601).
 pub fn blocks_are_named()
     ensures { BlocksAreNamed }
+{}
+
+/// The years are 1 to 9999, of 119,988 months and 3,652,059 days, and a day has 1440 minutes.
+pub fn limits_are_named()
+    ensures { LimitsAreNamed }
 {}

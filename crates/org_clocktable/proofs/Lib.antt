@@ -5,3 +5,5 @@ pub mod LawLemmas
 pub mod ClockedLemmas
 pub mod MarkLemmas
 pub mod WalkLemmas
+pub mod TotalLemmas
+pub mod LevelLemmas

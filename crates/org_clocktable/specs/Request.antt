@@ -9,7 +9,7 @@ use Rattle.org_cal.specs.Faults.{option_fault}
 use Rattle.org_cal.specs.declared.steps.Step.{Step}
 use Rattle.org_cal.specs.declared.steps.Step.TheVariants.{Whole}
 use Rattle.org_expression.specs.Grammar.{Expr, Reads}
-use Rattle.org_match.specs.Refusal.{IsRefusal}
+use Rattle.org_match.specs.Refusal.{AreReadable, IsRefusal, patterns}
 use Rattle.org_clocktable.specs.Options.{options_of, word_len}
 use Rattle.org_clocktable.specs.declared.options.Draft.{Draft}
 
@@ -63,12 +63,12 @@ asked_by text today options = option_and_then (λ expression. option_and_then (�
 abbrev pub asked_of : List ℕ → ℕ → Option (TableRequest (List ℕ))
 asked_of text today = option_and_then (asked_by text today) (options_of text)
 
--- an expression is read, if there is one
+-- an expression is read, if there is one, and the dialect's grammar reads each of its patterns
 abbrev pub IsRead : Option (List ℕ) → Option Expr → Type 0
 IsRead None None = Unit {0}
 IsRead None (Some expr) = ⊥
 IsRead (Some text) None = ⊥
-IsRead (Some text) (Some expr) = Reads (chars text) expr
+IsRead (Some text) (Some expr) = Reads (chars text) expr × AreReadable (patterns expr)
 
 -- what is asked for, with its expression read
 abbrev pub with_read : TableRequest (List ℕ) → Option Expr → TableRequest Expr

@@ -1,5 +1,5 @@
 //! Laws of clock tables. Each is a function without parameters whose contract is the law.
-ghost use Rattle.org_clocktable.specs.Laws.{StepsMakeTheWhole, TotalsAreOfFiles};
+ghost use Rattle.org_clocktable.specs.Laws.{LevelsAreSpelled, StepsMakeTheWhole, TotalsAreOfAllThatCount, TotalsAreOfFiles};
 
 /// What a heading has in the steps of a period adds up to what it has in the whole, whichever the step.
 pub fn steps_make_the_whole()
@@ -9,4 +9,14 @@ pub fn steps_make_the_whole()
 /// The total, which is the first row of a step, is the sum of the clock sums of the rows of files.
 pub fn totals_are_of_files()
     ensures { TotalsAreOfFiles }
+{}
+
+/// The first row of a step has the clocks and the efforts of all headings that count, in all files of the table.
+pub fn totals_are_of_all_that_count()
+    ensures { TotalsAreOfAllThatCount }
+{}
+
+/// The word behind `maxlevel=` is a level exactly where it is the decimal text of 1 to 99.
+pub fn levels_are_spelled()
+    ensures { LevelsAreSpelled }
 {}

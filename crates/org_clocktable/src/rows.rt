@@ -2,6 +2,7 @@
 ghost use Rattle.std.specs.Prelude.{◌≡◌, ◌<◌, ◌≤◌, ◌^◌, length, reverse, IfOk, IsOkUnless};
 ghost use Rattle.org_base.specs.Codes.{memory_fault};
 ghost use Rattle.org_base.specs.Results.{Adds, Gives, GivesItems};
+ghost use Rattle.org_base.specs.declared.limits.TheConstants.{MOST_FILES};
 ghost use Rattle.org_cal.specs.Periods.{days_of};
 ghost use Rattle.org_clocktable.specs.Clocked.{AreOf, IsHeadingOrEnd, IsLastClocked};
 ghost use Rattle.org_clocktable.specs.Counted.{file_sum, total};
@@ -18,7 +19,7 @@ use org_entry::Entry;
 use std::alloc::{AllocError, Global};
 
 /// The rows of a clock table over a period (Org manual 9.6, "The clock table"): the total; then each file with clocks in the
-/// period, followed by its headings of at most this level that have some. They are at most 256 files. Each clock is looked at
+/// period, followed by its headings of at most this level that have some. They are at most as many files as an engine has. Each clock is looked at
 /// once, and then only headings with minutes in the period, their own or below them. Want of memory is the only refusal.
 pub fn step_rows(
     alloc: Global,
@@ -26,7 +27,7 @@ pub fn step_rows(
     most: u32,
     files: &[CountedFile<'_>],
 ) -> Result<Vec<TableRow>, Fault>
-    requires few { length files.now ≤ 256 }
+    requires few { length files.now ≤ MOST_FILES }
     ensures value { GivesItems result (step_rows (days_of period.now) most files.now) }
     ensures memory { IsOkUnless result memory_fault }
 {
@@ -42,7 +43,7 @@ fn rows_of(
     most: u32,
     files: &[CountedFile<'_>],
 ) -> Result<Vec<TableRow>, AllocError>
-    requires few { length files.now ≤ 256 }
+    requires few { length files.now ≤ MOST_FILES }
     ensures { GivesItems result (step_rows (days_of period.now) most files.now) }
 {
     let effort = total_effort(files);
@@ -61,7 +62,7 @@ fn rows_of(
 
 // The efforts of all files.
 fn total_effort(files: &[CountedFile<'_>]) -> u64
-    requires few { length files.now ≤ 256 }
+    requires few { length files.now ≤ MOST_FILES }
     ensures { result ≡ total effort_minutes files.now }
 {
     let mut sum = 0;
@@ -80,7 +81,7 @@ fn push_files(
     most: u32,
     files: &[CountedFile<'_>],
 ) -> Result<u64, AllocError>
-    requires few { length files.now ≤ 256 }
+    requires few { length files.now ≤ MOST_FILES }
     ensures sum { Gives result (total (clock_minutes (days_of period.now)) files.now) }
     ensures rows { Adds result rows.old rows.new (files_rows (days_of period.now) most 0 files.now) }
 {

@@ -3,6 +3,7 @@ use Rattle.std.proofs.Common.{◌≡◌, ◌∙◌, ℕ, zero, suc, ◌+◌, ◌
 use Rattle.std.specs.Prelude.{Option, None, Some}
 use Rattle.std.proofs.lemmas.Bool.{lt-leb, le-leb}
 use Rattle.std.specs.List.{concat, range_with_len}
+use Rattle.org_base.specs.declared.profile.Profile.{Profile}
 use Rattle.org_agenda.specs.Days.{AgendaView, day_rows}
 use Rattle.org_agenda.specs.Sources.{sources_of}
 use Rattle.org_agenda.specs.declared.source.Source.{Source}
@@ -11,10 +12,12 @@ use Rattle.org_layout.specs.Days.{agenda_lines, day_line, day_lines, row_lines}
 use Rattle.org_engine.specs.Outlines.{scopes_of}
 use Rattle.org_cal.specs.Faults.{date_fault}
 use Rattle.org_cal.specs.Texts.{date_of}
-use Rattle.org_engine.specs.declared.agenda.TheConstants.{MOST_DAYS}
+use Rattle.org_engine.specs.declared.limits.TheConstants.{MOST_DAYS}
 use Rattle.org_engine.specs.Questions.{asked_agenda, asked_days, asked_from, days_fault}
 use Rattle.org_engine.specs.Step.{DayAgenda, Unread}
-use Rattle.org_engine.specs.Views.{agenda_view, days_over}
+use Rattle.org_engine.specs.Views.{agenda_view, days_over, scopes_named}
+use Rattle.org_engine.proofs.ListLemmas.{all_named}
+use Rattle.org_cal.specs.declared.moment.Moment.{Moment}
 use Rattle.org_engine.specs.World.{WorldView}
 
 same_texts : (f g : ℕ → List ℕ) (first n : ℕ) → ((day : ℕ) → first ≤ day → day < first + n → f day ≡ g day) → concat (map f (range_with_len first n)) ≡ concat (map g (range_with_len first n))
@@ -22,21 +25,25 @@ same_texts f g first zero same = refl
 same_texts f g first (suc n) same =
     ap₂ (λ a b. a ++ b) (same first (omega arith) (omega arith)) (same_texts f g (first + 1) n (λ day late early. same day (omega (arith, late)) (omega (arith, early))))
 
-same_day : (scopes : List Scope) (some all : List Source) (today day : ℕ) → day_rows some today day ≡ day_rows all today day → day_lines scopes some today day ≡ day_lines scopes all today day
+same_day : (p : Profile) (scopes : List Scope) (some all : List Source) (today day : ℕ) → day_rows p some today day ≡ day_rows p all today day → day_lines p scopes some today day ≡ day_lines p scopes all today day
 unfolding day_lines
-same_day scopes some all today day same = λ i. day_line day ++ row_lines scopes (same i)
+same_day p scopes some all today day same = λ i. day_line day ++ row_lines scopes (same i)
 
 -- stamps that give the rows of all stamps on each day of a period
-pub same_days : (scopes : List Scope) (some all : List Source) (today first count last : ℕ) → all ≡ sources_of 0 scopes → last + 1 ≡ first + count → ((day : ℕ) → first ≤ day → day ≤ last → day_rows some today day ≡ day_rows all today day) →
-    (agenda : AgendaView) → agenda ≡ record { sources = some; today = today; first = first; count = count } → agenda_lines scopes agenda ≡ days_over scopes today first count
-same_days scopes some all today first count last are end same agenda is =
+pub same_days : (p : Profile) (scopes : List Scope) (some all : List Source) (today first count last : ℕ) → all ≡ sources_of 0 scopes → last + 1 ≡ first + count → ((day : ℕ) → first ≤ day → day ≤ last → day_rows p some today day ≡ day_rows p all today day) →
+    (agenda : AgendaView) → agenda ≡ record { profile = p; sources = some; today = today; first = first; count = count } → agenda_lines scopes agenda ≡ days_over p scopes today first count
+same_days p scopes some all today first count last are end same agenda is =
     (λ i. agenda_lines scopes (is i))
-    ∙ same_texts (day_lines scopes some today) (day_lines scopes all today) first count (λ day late early. same_day scopes some all today day (same day late (omega (arith, early, end))))
-    ∙ (λ i. agenda_lines scopes (record { sources = are i; today = today; first = first; count = count }))
+    ∙ same_texts (day_lines p scopes some today) (day_lines p scopes all today) first count (λ day late early. same_day p scopes some all today day (same day late (omega (arith, early, end))))
+    ∙ (λ i. agenda_lines scopes (record { profile = p; sources = are i; today = today; first = first; count = count }))
 
-pub view_is : (first count : ℕ) (world : WorldView) (scopes : List Scope) (text : List ℕ) → scopes ≡ scopes_of world → text ≡ days_over scopes world.moment.day first count → text ≡ agenda_view first count world
+-- the text of an agenda over all files, in the profile and at the moment of a world
+pub days_are : (first count : ℕ) (world : WorldView) (p : Profile) (moment : Moment) → p ≡ world.profile → moment ≡ world.moment →
+    days_over p (scopes_named None (scopes_of world)) moment.day first count ≡ agenda_view first count world
 unfolding agenda_view
-view_is first count world scopes text over is = is ∙ (λ i. days_over (over i) world.moment.day first count)
+days_are first count world p moment same is =
+    ap (λ scopes. days_over p scopes moment.day first count) (all_named (scopes_of world))
+    ∙ (λ i. days_over (same i) (scopes_of world) (is i).day first count)
 
 module _ (date : List ℕ) (days : ℕ) where
   -- the calendar has no such day

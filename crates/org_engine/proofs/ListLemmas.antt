@@ -1,24 +1,105 @@
 -- What a list over the files of a world shows.
-use Rattle.std.proofs.Common.{◌≡◌, ◌≢◌, ◌∙◌, ℕ, List, inl, inr}
-use Rattle.org_agenda.specs.Lists.{Listing, list_rows}
-use Rattle.org_agenda.specs.declared.row.Row.{Row}
+use Rattle.std.proofs.Common.{◌≡◌, ◌≢◌, ◌∙◌, ◌+◌, ℕ, List, [], ◌∷◌, Bool, Bor, ap, inl, inr, refl, sym}
+use Rattle.org_agenda.specs.Lists.{Listing, Matching, list_rows, todo_listing}
 use Rattle.org_base.specs.Codes.{memory_fault}
 use Rattle.org_base.specs.declared.fault.Fault.{Fault}
 use Rattle.org_inherit.specs.Scope.{Scope}
 use Rattle.org_layout.specs.Lines.{list_lines}
 use Rattle.org_match.specs.Refusal.{IsRefusal}
-use Rattle.std.specs.Prelude.{chars}
+use Rattle.std.specs.Prelude.{None, Option, Result, Ok, Err, IfErr, IfOk, Some, bytes_eq, chars, cond, false, is_some, not, true}
 use Rattle.org_engine.specs.Outlines.{scopes_of}
-use Rattle.org_engine.specs.Questions.{IsUnread}
-use Rattle.org_engine.specs.Views.{list_view}
-use Rattle.org_engine.specs.World.{WorldView}
-
-pub view_is : (listing : Listing) (world : WorldView) (scopes : List Scope) (rows : List Row) (text : List ℕ) → scopes ≡ scopes_of world → rows ≡ list_rows listing scopes → text ≡ list_lines scopes rows → text ≡ list_view listing world
-unfolding list_view
-view_is listing world scopes rows text over are is = is ∙ (λ i. list_lines (over i) (are i)) ∙ (λ i. list_lines (scopes_of world) (list_rows listing (over i)))
+use Rattle.std.specs.Option.{option_copied, option_map}
+use Rattle.org_cal.specs.declared.moment.Moment.{Moment}
+use Rattle.org_base.specs.declared.code.Code.TheVariants as code
+use Rattle.org_base.specs.declared.fault.Fault.TheVariants.{Plain}
+use Rattle.org_expression.specs.Grammar.{Expr, Reads}
+use Rattle.org_engine.specs.Questions.{IsMissingFault, IsPlaceOver, IsReadAs, IsUnread, TellsOf}
+use Rattle.org_engine.specs.Step.{MatchList, Refused, Reply, Shown, TodoList, file_named, is_missing, over_file, place_named, view_of}
+use Rattle.org_engine.specs.declared.question.View.TheVariants.{Match, Todo}
+use Rattle.org_engine.specs.Views.{list_view, scopes_named}
+use Rattle.org_engine.specs.World.{FileView, WorldView}
 
 -- a refusal that doesn't stand for memory
 pub unread : (text : List ℕ) (fault : Fault) → IsRefusal (chars text) fault → fault ≢ memory_fault → IsUnread text fault
 unread text fault (inl none) other = inl none
 unread text fault (inr (expr, reads, inl memory)) other = absurd (other memory)
 unread text fault (inr (expr, reads, inr refused)) other = inr (refused.0, (expr, reads, refused.1))
+
+-- a view over all files
+pub all_named : (scopes : List Scope) → scopes_named None scopes ≡ scopes
+all_named [] = refl
+all_named (scope ∷ scopes) = ap (λ xs. scope ∷ xs) (all_named scopes)
+
+pub list_are : (listing : Listing) (over : Option ℕ) (world : WorldView) → list_lines (scopes_named None (scopes_of world)) (list_rows listing over (scopes_named None (scopes_of world))) ≡ list_view listing over world
+unfolding list_view
+list_are listing over world = ap (λ scopes. list_lines scopes (list_rows listing over scopes)) (all_named (scopes_of world))
+
+-- the same of a match list, at the moment of the world
+pub matching_are : (expr : Expr) (moment : Moment) (over : Option ℕ) (world : WorldView) → moment ≡ world.moment →
+    list_lines (scopes_named None (scopes_of world)) (list_rows (Matching expr moment) over (scopes_named None (scopes_of world))) ≡ list_view (Matching expr world.moment) over world
+matching_are expr moment over world is = list_are (Matching expr moment) over world ∙ ap (λ m. list_view (Matching expr m) over world) is
+
+-- where a file is found it is there, and where none is found it isn't
+mapped : (place : Option ℕ) → is_some (option_map (λ (n : ℕ). n + 1) place) ≡ is_some place
+mapped None = refl
+mapped (Some n) = refl
+
+place_known : (name : List ℕ) (files : List FileView) → is_some (place_named name files) ≡ is_some (file_named name files)
+place_known name [] = refl
+place_known name (file ∷ files) = by (bytes_eq name file.name) (place_known name files)
+  where
+    by : (b : Bool) → is_some (place_named name files) ≡ is_some (file_named name files) →
+        is_some (cond b (Some 0) (option_map (λ (n : ℕ). n + 1) (place_named name files))) ≡ is_some (cond b (Some file) (file_named name files))
+    by true rest = refl
+    by false rest = mapped (place_named name files) ∙ rest
+
+pub over_there : (name : List ℕ) (world : WorldView) (place : ℕ) → place_named name world.files ≡ Some place → IsPlaceOver (Some name) world (Some place)
+over_there name world place at = (ap not (sym (place_known name world.files)) ∙ ap (λ o. not (is_some o)) at, sym at)
+
+pub over_gone : (name : List ℕ) (world : WorldView) → place_named name world.files ≡ None → IsMissingFault (Some name) world (Plain code.Unknown)
+over_gone name world at = (ap not (sym (place_known name world.files)) ∙ ap (λ o. not (is_some o)) at, refl)
+
+-- the file that a list is over is there, or it isn't
+there_is : (file : Option (List ℕ)) (world : WorldView) (reply shown : Reply) → is_missing file world.files ≡ false → reply ≡ shown → over_file file world reply ≡ shown
+there_is file world reply shown there is = ap (λ b. cond b (Refused (Plain code.Unknown)) reply) there ∙ is
+
+is_gone : (file : Option (List ℕ)) (world : WorldView) (reply : Reply) (fault : Fault) → IsMissingFault file world fault → over_file file world reply ≡ Refused fault
+is_gone file world reply fault (missing, is) = ap (λ b. cond b (Refused (Plain code.Unknown)) reply) missing ∙ ap Refused (sym is)
+
+-- the answers to a TODO list
+pub todo_shown : (file : Option (Bor (List ℕ))) (words : Bor (List (List ℕ))) (world : WorldView) (over : Option ℕ) (text : List ℕ) →
+    IsPlaceOver (option_copied file) world over → text ≡ list_view (todo_listing words.now) over world → TellsOf (Todo file words) world (Shown text)
+todo_shown file words world over text (there, place) is =
+    (TodoList (option_copied file) words.now, refl, there_is (option_copied file) world _ _ there (ap Shown (sym (is ∙ ap (λ o. list_view (todo_listing words.now) o world) place))))
+
+pub todo_declined : (file : Option (Bor (List ℕ))) (words : Bor (List (List ℕ))) (world : WorldView) (fault : Fault) →
+    IsMissingFault (option_copied file) world fault → TellsOf (Todo file words) world (Refused fault)
+todo_declined file words world fault why = (TodoList (option_copied file) words.now, refl, is_gone (option_copied file) world _ fault why)
+
+-- the answers to a match list
+pub match_shown : (file : Option (Bor (List ℕ))) (asked : Bor (List ℕ)) (world : WorldView) (over : Option ℕ) (expr : Expr) (text : List ℕ) →
+    IsPlaceOver (option_copied file) world over → Reads (chars asked.now) expr → text ≡ list_view (Matching expr world.moment) over world → TellsOf (Match file asked) world (Shown text)
+match_shown file asked world over expr text (there, place) reads is =
+    (MatchList (option_copied file) (Ok expr), (refl, reads), there_is (option_copied file) world _ _ there (ap Shown (sym (is ∙ ap (λ o. list_view (Matching expr world.moment) o world) place))))
+
+pub match_declined : (file : Option (Bor (List ℕ))) (asked : Bor (List ℕ)) (world : WorldView) (over : Option ℕ) (fault : Fault) →
+    IsPlaceOver (option_copied file) world over → IsUnread asked.now fault → TellsOf (Match file asked) world (Refused fault)
+match_declined file asked world over fault (there, place) why =
+    (MatchList (option_copied file) (Err fault), (refl, why), there_is (option_copied file) world _ _ there refl)
+
+-- a file that isn't there is told, whatever the text is read as
+gone_either : (file : Option (List ℕ)) (world : WorldView) (read : Result Expr Fault) (fault : Fault) → IsMissingFault file world fault → view_of (MatchList file read) world ≡ Refused fault
+gone_either file world (Ok expr) fault why = is_gone file world _ fault why
+gone_either file world (Err f) fault why = is_gone file world _ fault why
+
+-- a text is read as something
+read_as : (text : List ℕ) (r : Result Expr Fault) → IfOk r (Reads (chars text)) → IfErr r (IsRefusal (chars text)) → (read : Result Expr Fault) × IsReadAs text read
+read_as text (Ok expr) reads why = (Ok expr, reads)
+read_as text (Err fault) reads (inl none) = (Err fault, inl none)
+read_as text (Err fault) reads (inr (expr, there, refused)) = (Ok expr, there)
+
+pub match_gone : (file : Option (Bor (List ℕ))) (asked : Bor (List ℕ)) (world : WorldView) (r : Result Expr Fault) (fault : Fault) →
+    IfOk r (Reads (chars asked.now)) → IfErr r (IsRefusal (chars asked.now)) → IsMissingFault (option_copied file) world fault → TellsOf (Match file asked) world (Refused fault)
+match_gone file asked world r fault reads why gone =
+    let read = read_as asked.now r reads why in
+    (MatchList (option_copied file) read.0, (refl, read.1), gone_either (option_copied file) world read.0 fault gone)

@@ -3,6 +3,7 @@
 use Rattle.std.specs.Prelude.{◌≡◌, ℕ, List, Bool, true, if◌then◌else◌, [], ◌∷◌, map, Option, None, Some, filter, bytes_eq}
 use Rattle.std.specs.Borrow.{Bor}
 use Rattle.std.specs.Option.{option_copied}
+use Rattle.org_base.specs.declared.profile.Profile.{Profile}
 use Rattle.org_agenda.specs.Days.{AgendaView}
 use Rattle.org_agenda.specs.Sources.{sources_of}
 use Rattle.org_agenda.specs.Lists.{Listing, list_rows}
@@ -23,36 +24,32 @@ use Rattle.org_layout.specs.Tables.{step_lines}
 use Rattle.org_engine.specs.Outlines.{scopes_of}
 use Rattle.org_engine.specs.World.{WorldView}
 
--- the text of a list: the lines of its rows
-unfoldable pub list_view : Listing → WorldView → List ℕ
-list_view listing world = list_lines (scopes_of world) (list_rows listing (scopes_of world))
+-- the text of a list over all files, or over the one at a place: the lines of its rows
+unfoldable pub list_view : Listing → Option ℕ → WorldView → List ℕ
+list_view listing over world = list_lines (scopes_of world) (list_rows listing over (scopes_of world))
 
 -- the text of so many days from a first one on, over all stamps
-abbrev pub days_over : List Scope → ℕ → ℕ → ℕ → List ℕ
-days_over scopes today first count = agenda_lines scopes (record { sources = sources_of 0 scopes; today = today; first = first; count = count })
+abbrev pub days_over : Profile → List Scope → ℕ → ℕ → ℕ → List ℕ
+days_over p scopes today first count = agenda_lines scopes (record { profile = p; sources = sources_of 0 scopes; today = today; first = first; count = count })
 
 -- an agenda shows so many days from a first one on, over all stamps
-abbrev pub ShowsDays : List Scope → ℕ → ℕ → ℕ → AgendaView → Type 0
-ShowsDays scopes today first count agenda = agenda_lines scopes agenda ≡ days_over scopes today first count
+abbrev pub ShowsDays : Profile → List Scope → ℕ → ℕ → ℕ → AgendaView → Type 0
+ShowsDays p scopes today first count agenda = agenda_lines scopes agenda ≡ days_over p scopes today first count
 
--- the text of an agenda at the world's moment
+-- the text of an agenda at the world's moment and in its profile
 unfoldable pub agenda_view : ℕ → ℕ → WorldView → List ℕ
-agenda_view first count world = days_over (scopes_of world) world.moment.day first count
+agenda_view first count world = days_over world.profile (scopes_of world) world.moment.day first count
 
--- a table is over this file: over all, or over the one that it names
+-- a view is over this file: over all, or over the one that it names
 abbrev pub is_wanted : Option (List ℕ) → List ℕ → Bool
 is_wanted None name = true
 is_wanted (Some wanted) name = bytes_eq wanted name
 
--- a file, if a table is over it
+-- a file, if a view is over it
 abbrev pub wanted_scope : Option (List ℕ) → Scope → List Scope
 wanted_scope file scope = if is_wanted file scope.file then scope ∷ [] else []
 
--- a file of a world by what it says and its name, if a table is over it
-abbrev pub wanted_in : Option (Bor (List ℕ)) → OutlineView → List ℕ → WorldView → List Scope
-wanted_in file outline name world = wanted_scope (option_copied file) (scope_in outline name world.inherited)
-
--- the files that a table is over
+-- the files that a view is over
 abbrev pub scopes_named : Option (List ℕ) → List Scope → List Scope
 scopes_named file scopes = filter (λ (scope : Scope). is_wanted file scope.file) scopes
 

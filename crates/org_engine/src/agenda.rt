@@ -1,28 +1,24 @@
 //! Agendas over the files of a world.
-ghost use Rattle.std.specs.Prelude.{◌≡◌, ◌+◌, ◌≤◌, string_bytes, IfErr, IfOk, OnOk, OnErr, IsOkUnless};
+ghost use Rattle.std.specs.Prelude.{◌≡◌, ◌+◌, ◌≤◌, None, string_bytes, IfErr, IfOk, OnOk, OnErr, IsOkUnless};
 ghost use Rattle.org_base.specs.Codes.{memory_fault};
 ghost use Rattle.org_base.specs.Results.{GivesText, IfRefused};
 ghost use Rattle.org_agenda.specs.Headings.{AllHaveHeads};
 ghost use Rattle.org_cal.specs.declared.day.TheConstants.{LAST_DAY};
-ghost use Rattle.org_engine.specs.Outlines.{outlines_of};
 ghost use Rattle.org_engine.specs.Questions.{IsAgendaText, asked_agenda};
 ghost use Rattle.org_engine.specs.Sections.{ReadsEach, ReadsSome};
 ghost use Rattle.org_engine.specs.Step.{DayAgenda, Unread};
-ghost use Rattle.org_engine.specs.Views.{agenda_view, ShowsDays};
+ghost use Rattle.org_engine.specs.Views.{agenda_view, days_over, ShowsDays};
 
-use crate::outlines::{inherits_of, read_world};
+use crate::limits::MOST_DAYS;
+use crate::shows::{Shows, view_of};
 use crate::world::World;
 use org_agenda::{Agenda, AllStamps, Stamps, sources_of};
-use org_base::{Code, Fault, Meter};
+use org_base::{Code, Fault, Meter, Profile};
 use org_cal::{Day, LAST_DAY};
-use org_file::FileOutline;
 use org_inherit::Inherits;
 use org_layout::agenda_text;
 use org_text::Text;
 use std::alloc::Global;
-
-/// The most days that an agenda has.
-pub const MOST_DAYS: u32 = 366;
 
 // The text of the agenda of so many days from a date on. `Date` exactly where the calendar has no such day, `Days` exactly
 // where it has and the days are none, more than [`MOST_DAYS`], or end past 9999-12-31, both before anything is looked at;
@@ -62,6 +58,33 @@ fn read_days(date: &str, days: u64) -> Result<(Day, u32), Fault>
     Ok((first, count))
 }
 
+// So many days from a first one on, in a profile, and the one that is today.
+#[derive(Drop)]
+struct Days {
+    profile: Profile,
+    today: Day,
+    first: Day,
+    count: u32,
+    ghost within: { (1 ≤ count) × (first + count ≤ LAST_DAY + 1) },
+}
+
+impl Shows for Days {
+    ghost named = { λ d. None };
+
+    ghost shown = { λ d scopes. days_over d.profile scopes d.today d.first d.count };
+
+    fn file(&self) -> Option<&[u8]> {
+        None
+    }
+
+    fn text(&self, alloc: Global, inherits: &Inherits<'_>) -> Result<String, Fault> {
+        let agenda = agenda_of(alloc, inherits, self)?;
+        let mut text = String::new(alloc);
+        agenda_text(alloc, &mut text, inherits, &agenda)?;
+        Ok(text)
+    }
+}
+
 fn days_text<T: Text>(
     alloc: Global,
     meter: &mut Meter,
@@ -75,48 +98,42 @@ fn days_text<T: Text>(
     ensures few { OnErr result (ReadsSome world.now.files meter.old meter.new) }
     ensures memory { IsOkUnless result memory_fault }
 {
-    let outlines = read_world(alloc, meter, world)?;
-    days_of(alloc, world, outlines.as_slice(), first, count)
-}
-
-fn days_of<T: Text>(
-    alloc: Global,
-    world: &World<T>,
-    outlines: &[FileOutline],
-    first: Day,
-    count: u32,
-) -> Result<String, Fault>
-    requires read { outlines.now ≡ outlines_of world.now }
-    requires within { (1 ≤ count) × (first + count ≤ LAST_DAY + 1) }
-    ensures value { GivesText result (agenda_view first count world.now) }
-    ensures memory { IsOkUnless result memory_fault }
-{
-    let inherits = inherits_of(alloc, world, outlines)?;
-    let agenda = agenda_of(alloc, &inherits, world.moment().day, first, count)?;
-    let mut text = String::new(alloc);
-    agenda_text(alloc, &mut text, &inherits, &agenda)?;
-    Ok(text)
+    let view = Days {
+        profile: world.profile(),
+        today: world.moment().day,
+        first,
+        count,
+    };
+    view_of(alloc, meter, world, &view)
 }
 
 // The agenda of these days over all stamps.
-fn agenda_of(
-    alloc: Global,
-    inherits: &Inherits<'_>,
-    today: Day,
-    first: Day,
-    count: u32,
-) -> Result<Agenda, Fault>
+fn agenda_of(alloc: Global, inherits: &Inherits<'_>, days: &Days) -> Result<Agenda, Fault>
     requires heads { AllHaveHeads inherits.now }
-    requires within { (1 ≤ count) × (first + count ≤ LAST_DAY + 1) }
-    ensures value { IfOk result (ShowsDays inherits.now today first count) }
+    ensures value { IfOk result (ShowsDays days.now.profile inherits.now days.now.today days.now.first days.now.count) }
     ensures memory { IsOkUnless result memory_fault }
 {
+    let Days {
+        profile,
+        today,
+        first,
+        count,
+    } = *days;
     let sources = sources_of(alloc, inherits)?;
     let stamps = AllStamps {
         sources: sources.as_slice(),
     };
-    let near = stamps.near(alloc, first, last_of(first, count), today)?;
-    Agenda::new(alloc, near, today, first, count)
+    // The engine counts no examined stamps.
+    let mut examined = Meter::new();
+    let near = stamps.near(
+        alloc,
+        &mut examined,
+        profile,
+        first,
+        last_of(first, count),
+        today,
+    )?;
+    Agenda::new(alloc, near, profile, today, first, count)
 }
 
 fn last_of(first: Day, count: u32) -> Day

@@ -1,113 +1,170 @@
 //! Lists over the files of a world.
-ghost use Rattle.std.specs.Prelude.{◌≡◌, ◌<◌, ◌^◌, length, string_bytes, IfOk, OnOk, OnErr, IsOkUnless};
+ghost use Rattle.std.specs.Prelude.{◌≡◌, ◌<◌, ◌^◌, None, length, string_bytes, IfErr, IfOk, OnOk, OnErr, IsOkUnless};
+ghost use Rattle.std.specs.Option.{option_copied};
 ghost use Rattle.org_base.specs.Codes.{memory_fault};
 ghost use Rattle.org_base.specs.Results.{GivesText, IfRefused};
-ghost use Rattle.org_agenda.specs.Lists.{todo_listing, Matching};
+ghost use Rattle.org_agenda.specs.Lists.{list_rows, todo_listing, Matching};
 ghost use Rattle.org_layout.specs.Lines.{list_lines};
-ghost use Rattle.org_engine.specs.Outlines.{outlines_of};
-ghost use Rattle.org_engine.specs.Questions.{IsMatchText, IsUnread};
+ghost use Rattle.org_engine.specs.Questions.{IsMissingFault, IsPlaceOver, TellsOf};
+ghost use Rattle.org_engine.specs.Step.{Refused, Shown};
+ghost use Rattle.org_engine.specs.declared.question.View.TheVariants.{Match as MatchView, Todo as TodoView};
 ghost use Rattle.org_engine.specs.Sections.{ReadsEach, ReadsSome};
 ghost use Rattle.org_engine.specs.Views.{list_view};
 
-use crate::outlines::{inherits_of, read_world};
+use crate::shows::{Shows, view_of};
 use crate::world::World;
 use org_agenda::{Row, match_rows, todo_rows};
-use org_base::{Fault, Meter, Texts};
-use org_file::FileOutline;
+use org_base::{Code, Fault, Meter, Texts};
+use org_cal::Moment;
 use org_inherit::Inherits;
 use org_layout::list_text;
 use org_match::Match;
 use org_text::Text;
 use std::alloc::Global;
 
-// The text of the list of the headings that have one of these keywords, or of none, one that isn't done. Each section of
-// each file is classified once and read once, as the meter counts. Want of memory is the only refusal; then some of the
-// sections may have been counted.
-pub(crate) fn todo_text<T: Text>(
-    alloc: Global,
-    meter: &mut Meter,
-    world: &World<T>,
-    words: &Texts,
-) -> Result<String, Fault>
-    ensures value { GivesText result (list_view (todo_listing words.now) world.now) }
-    ensures counts { OnOk result (ReadsEach world.now.files meter.old meter.new) }
-    ensures few { OnErr result (ReadsSome world.now.files meter.old meter.new) }
-    ensures memory { IsOkUnless result memory_fault }
-{
-    let outlines = read_world(alloc, meter, world)?;
-    todo_of(alloc, world, outlines.as_slice(), words)
+// The headings that have one of these keywords, or of none, one that isn't done; of all files, or of the one at a place.
+#[derive(Drop)]
+struct TodoList<'a> {
+    over: Option<usize>,
+    words: &'a Texts,
 }
 
-fn todo_of<T: Text>(
-    alloc: Global,
-    world: &World<T>,
-    outlines: &[FileOutline],
-    words: &Texts,
-) -> Result<String, Fault>
-    requires read { outlines.now ≡ outlines_of world.now }
-    ensures value { GivesText result (list_view (todo_listing words.now) world.now) }
-    ensures memory { IsOkUnless result memory_fault }
-{
-    let inherits = inherits_of(alloc, world, outlines)?;
-    let rows = todo_rows(alloc, &inherits, words)?;
-    text_of(alloc, &inherits, rows.as_slice())
+impl<'a> Shows for TodoList<'a> {
+    ghost named = { λ l. None };
+
+    ghost shown = { λ l scopes. list_lines scopes (list_rows (todo_listing l.words.now) l.over scopes) };
+
+    fn file(&self) -> Option<&[u8]> {
+        None
+    }
+
+    fn text(&self, alloc: Global, inherits: &Inherits<'_>) -> Result<String, Fault> {
+        let rows = todo_rows(alloc, inherits, self.over, self.words)?;
+        lines_of(alloc, inherits, rows.as_slice())
+    }
 }
 
-// The text of the list of the headings of which the expression holds at the world's moment. `MatchAt` exactly where the
-// text is none, before anything else is looked at; then `Regexp` where `regex` refuses a pattern; want of memory may come
-// at any time. Sections are classified and read as by [`todo_text`].
-pub(crate) fn match_text<T: Text>(
-    alloc: Global,
-    meter: &mut Meter,
-    world: &World<T>,
-    text: &str,
-) -> Result<String, Fault>
-    requires short { length text.now < 2 ^ 32 }
-    ensures value { IfOk result (λ list. IsMatchText text.now world.now (string_bytes list)) }
-    ensures refused { IfRefused result (λ fault. IsUnread text.now fault) }
-    ensures counts { OnOk result (ReadsEach world.now.files meter.old meter.new) }
-    ensures few { OnErr result (ReadsSome world.now.files meter.old meter.new) }
-{
-    let expression = Match::read(alloc, text)?;
-    matching_text(alloc, meter, world, &expression)
+// The headings of which an expression holds at a moment; of all files, or of the one at a place.
+#[derive(Drop)]
+struct MatchList<'a> {
+    over: Option<usize>,
+    expression: &'a Match,
+    moment: Moment,
 }
 
-fn matching_text<T: Text>(
-    alloc: Global,
-    meter: &mut Meter,
-    world: &World<T>,
-    expression: &Match,
-) -> Result<String, Fault>
-    ensures value { GivesText result (list_view (Matching expression.now world.now.moment) world.now) }
-    ensures counts { OnOk result (ReadsEach world.now.files meter.old meter.new) }
-    ensures few { OnErr result (ReadsSome world.now.files meter.old meter.new) }
-    ensures memory { IsOkUnless result memory_fault }
-{
-    let outlines = read_world(alloc, meter, world)?;
-    matching_of(alloc, world, outlines.as_slice(), expression)
+impl<'a> Shows for MatchList<'a> {
+    ghost named = { λ l. None };
+
+    ghost shown = { λ l scopes. list_lines scopes (list_rows (Matching l.expression.now l.moment) l.over scopes) };
+
+    fn file(&self) -> Option<&[u8]> {
+        None
+    }
+
+    fn text(&self, alloc: Global, inherits: &Inherits<'_>) -> Result<String, Fault> {
+        let rows = match_rows(alloc, inherits, self.over, self.expression, self.moment)?;
+        lines_of(alloc, inherits, rows.as_slice())
+    }
 }
 
-fn matching_of<T: Text>(
-    alloc: Global,
-    world: &World<T>,
-    outlines: &[FileOutline],
-    expression: &Match,
-) -> Result<String, Fault>
-    requires read { outlines.now ≡ outlines_of world.now }
-    ensures value { GivesText result (list_view (Matching expression.now world.now.moment) world.now) }
-    ensures memory { IsOkUnless result memory_fault }
-{
-    let inherits = inherits_of(alloc, world, outlines)?;
-    let rows = match_rows(alloc, &inherits, expression, world.moment())?;
-    text_of(alloc, &inherits, rows.as_slice())
-}
-
-// The text of rows over the files that they are of.
-fn text_of(alloc: Global, inherits: &Inherits<'_>, rows: &[Row]) -> Result<String, Fault>
+// The lines of rows over the files that they are of.
+fn lines_of(alloc: Global, inherits: &Inherits<'_>, rows: &[Row]) -> Result<String, Fault>
     ensures value { GivesText result (list_lines inherits.now rows.now) }
     ensures memory { IsOkUnless result memory_fault }
 {
     let mut text = String::new(alloc);
     list_text(alloc, &mut text, rows, inherits)?;
     Ok(text)
+}
+
+// The place of the file that a list is over, if it is over one; `Unknown` where there is none of that name.
+fn place_over<T: Text>(world: &World<T>, file: Option<&str>) -> Result<Option<usize>, Fault>
+    ensures ok { IfOk result (IsPlaceOver (option_copied file.entry) world.now) }
+    ensures err { IfErr result (IsMissingFault (option_copied file.entry) world.now) }
+{
+    let Some(name) = file else {
+        return Ok(None);
+    };
+    match world.place(name) {
+        Some(place) => Ok(Some(place)),
+        None => Err(Fault::Plain(Code::Unknown)),
+    }
+}
+
+// The text of the list of the headings that have one of these keywords, or of none, one that isn't done; of all files, or of
+// the one of a name. `Unknown` exactly where there is none of that name, before anything is looked at; else want of memory is
+// the only refusal. Each section of each file is classified once and read once, as the meter counts; after a refusal some
+// of the sections may have been counted.
+pub(crate) fn todo_text<T: Text>(
+    alloc: Global,
+    meter: &mut Meter,
+    world: &World<T>,
+    file: Option<&str>,
+    words: &Texts,
+) -> Result<String, Fault>
+    ensures ok { IfOk result (λ list. TellsOf (TodoView file.entry words.entry) world.now (Shown (string_bytes list))) }
+    ensures err { IfRefused result (λ fault. TellsOf (TodoView file.entry words.entry) world.now (Refused fault)) }
+    ensures counts { OnOk result (ReadsEach world.now.files meter.old meter.new) }
+    ensures few { OnErr result (ReadsSome world.now.files meter.old meter.new) }
+{
+    let over = place_over(world, file)?;
+    let text = keyword_text(alloc, meter, world, &TodoList { over, words })?;
+    Ok(text)
+}
+
+fn keyword_text<T: Text>(
+    alloc: Global,
+    meter: &mut Meter,
+    world: &World<T>,
+    list: &TodoList<'_>,
+) -> Result<String, Fault>
+    ensures value { GivesText result (list_view (todo_listing list.now.words.now) list.now.over world.now) }
+    ensures counts { OnOk result (ReadsEach world.now.files meter.old meter.new) }
+    ensures few { OnErr result (ReadsSome world.now.files meter.old meter.new) }
+    ensures memory { IsOkUnless result memory_fault }
+{
+    view_of(alloc, meter, world, list)
+}
+
+// The text of the list of the headings of which the expression holds at the world's moment; of all files, or of the one of a
+// name. `Unknown` exactly where there is none of that name, then `MatchAt` exactly where the text is no expression, before a
+// file is read; then `Regexp` where `regex` refuses a pattern; want of memory may come at any time. Sections are classified
+// and read as by [`todo_text`].
+pub(crate) fn match_text<T: Text>(
+    alloc: Global,
+    meter: &mut Meter,
+    world: &World<T>,
+    file: Option<&str>,
+    text: &str,
+) -> Result<String, Fault>
+    requires short { length text.now < 2 ^ 32 }
+    ensures ok { IfOk result (λ list. TellsOf (MatchView file.entry text.entry) world.now (Shown (string_bytes list))) }
+    ensures err { IfRefused result (λ fault. TellsOf (MatchView file.entry text.entry) world.now (Refused fault)) }
+    ensures counts { OnOk result (ReadsEach world.now.files meter.old meter.new) }
+    ensures few { OnErr result (ReadsSome world.now.files meter.old meter.new) }
+{
+    let read = Match::read(alloc, text);
+    let over = place_over(world, file)?;
+    let expression = read?;
+    matching_text(alloc, meter, world, over, &expression)
+}
+
+fn matching_text<T: Text>(
+    alloc: Global,
+    meter: &mut Meter,
+    world: &World<T>,
+    over: Option<usize>,
+    expression: &Match,
+) -> Result<String, Fault>
+    ensures value { GivesText result (list_view (Matching expression.now world.now.moment) over world.now) }
+    ensures counts { OnOk result (ReadsEach world.now.files meter.old meter.new) }
+    ensures few { OnErr result (ReadsSome world.now.files meter.old meter.new) }
+    ensures memory { IsOkUnless result memory_fault }
+{
+    let view = MatchList {
+        over,
+        expression,
+        moment: world.moment(),
+    };
+    view_of(alloc, meter, world, &view)
 }

@@ -1,11 +1,11 @@
 //! The worlds that sessions keep.
-ghost use Rattle.std.specs.Prelude.{◌≡◌, ◌++◌, ◌∷◌, [], IfNone, IfOk, IfSome, OnErr, OnOk, None, Ok};
+ghost use Rattle.std.specs.Prelude.{◌≡◌, ◌++◌, ◌∷◌, [], IfNone, IfOk, IfSome, OnErr, OnOk, None, Ok, length};
 ghost use Rattle.std.specs.Option.{option_copied};
 ghost use Rattle.org_engine.specs.Computed.{FailsAs};
 ghost use Rattle.org_engine.specs.Pins.{IsPlaceOf};
 ghost use Rattle.org_engine.specs.Step.{is_session, released, world_asked, world_of};
 
-use crate::engine::MOST_SESSIONS;
+use crate::limits::MOST_SESSIONS;
 use crate::world::World;
 use org_base::{Code, Fault};
 use org_text::Text;
@@ -63,6 +63,13 @@ impl<T: Text> Pins<T> {
         Pins {
             pins: Vec::new(alloc),
         }
+    }
+
+    // How many worlds there are.
+    pub(crate) fn count(&self) -> usize
+        ensures value { result ≡ length self.now }
+    {
+        self.pins.len()
     }
 
     // The world that a session keeps.

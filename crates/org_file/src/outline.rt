@@ -9,10 +9,10 @@ ghost use Rattle.org_file.specs.Outline.{outline_of, scope_in};
 use crate::sections::Sections;
 use org_base::{Fault, Meter, Texts};
 use org_inherit::Inherit;
-use org_outline::{Entries, Outline};
+use org_outline::Outline;
 use org_settings::Settings;
 use org_text::Text;
-use std::alloc::{AllocError, Global};
+use std::alloc::Global;
 use std::marker::Model;
 
 /// What a file says: its outline, and the settings by which it was read.
@@ -41,7 +41,7 @@ impl FileOutline {
     {
         let sections = Sections::of(alloc, meter, text)?;
         let entries = sections.entries(alloc, meter)?;
-        let outline = outline_of(alloc, entries)?;
+        let outline = Outline::of(alloc, entries)?;
         Ok(FileOutline {
             outline,
             settings: sections.into_settings(),
@@ -60,15 +60,5 @@ impl FileOutline {
         ensures memory { IsOkUnless result memory_fault }
     {
         Inherit::new(alloc, &self.outline, &self.settings, name, inherited)
-    }
-}
-
-fn outline_of(alloc: Global, entries: Entries) -> Result<Outline, AllocError>
-    ensures value { Gives result entries }
-{
-    let mut outline = Outline::new(alloc);
-    match outline.replace(0..0, entries) {
-        Ok(()) => Ok(outline),
-        Err(_) => Err(AllocError),
     }
 }

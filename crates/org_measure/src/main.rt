@@ -1,4 +1,5 @@
-//! Parts of the engine at work on their own, so that `make bench` can time them. Its words say which:
+//! Parts of the engine at work on their own, so that `make bench` can time them, and single calls for
+//! `make faults`. Its words say which:
 //!
 //!     org_measure stamps < TEXT             how many timestamps stand in the text, taken as one line
 //!     org_measure occurrences UNIT near     of a million questions whether a stamp of 0001-01-01 that repeats by one
@@ -10,19 +11,27 @@
 //!                                           `typed`, one byte behind the other from the middle on
 //!     org_measure sequence ITEMS COUNT      the size of a sequence of so many items, of which so many were replaced
 //!     org_measure stream DATE TIME          the replies to the commands of standard input, over texts in one string each
+//!     org_measure calls                     single calls, and each again where it finds no memory: the exit status is 0 where
+//!                                           none was refused, 9 where one was and all was well, and 1 where one gave something
+//!                                           else, whose name is printed
 #![tactic(auto)]
 
+mod calls;
+mod engine_calls;
+mod outline_calls;
 mod sequences;
 mod streams;
+mod text_calls;
 mod texts;
 
 ghost use Rattle.std.specs.Prelude.{◌≡◌, length};
 ghost use Rattle.org_stamp.specs.Line.{stamps_of};
 
+use crate::calls::try_calls;
 use crate::sequences::size_after;
 use crate::streams::answer;
 use crate::texts::{Place, Work, lines_after};
-use org_base::Fault;
+use org_base::{Fault, Profile};
 use org_cal::Day;
 use org_pieces::Pieces;
 use org_repeat::occurs_on;
@@ -59,6 +68,9 @@ fn main(rt: HostRuntime) -> ExitCode {
     let Ok(words) = words.collect::<Vec<String>>(rt.alloc()) else {
         return ExitCode::from(2);
     };
+    if asks_calls(words.as_slice()) {
+        return ExitCode::from(try_calls(&rt));
+    }
     let Some(part) = asked(words.as_slice()) else {
         let _ = eprintln!(rt; "org_measure: no such part, see the head of its source");
         return ExitCode::from(2);
@@ -67,6 +79,10 @@ fn main(rt: HostRuntime) -> ExitCode {
         return ExitCode::from(3);
     }
     ExitCode::from(0)
+}
+
+fn asks_calls(words: &[String]) -> bool {
+    words.len() == 2 && words[1].as_str() == "calls"
 }
 
 // Does a part of the work, and prints what came out; None where it can't be done.
@@ -192,7 +208,7 @@ fn daily(unit: &str) -> Option<Stamp> {
 
 fn is_on(stamp: &Stamp, number: u64) -> bool {
     match Day::of_number(number) {
-        Some(day) => occurs_on(stamp, day),
+        Some(day) => occurs_on(stamp, Profile::One, day),
         None => false,
     }
 }

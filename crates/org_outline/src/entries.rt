@@ -60,6 +60,17 @@ impl Entries {
         Ok(())
     }
 
+    /// Puts an entry that others hold too at the end, at the cost of one count. Want of memory is the only refusal, and
+    /// leaves the entries as before.
+    pub fn push_shared(&mut self, entry: &Rc<Entry>) -> Result<(), Fault>
+        ensures ok { OnOk result (self.new ≡ self.old ++ entry.now.value ∷ []) }
+        ensures err { OnErr result (self.new ≡ self.old) }
+        ensures memory { IsOkUnless result memory_fault }
+    {
+        self.list.push(entry.clone()?)?;
+        Ok(())
+    }
+
     /// How many entries there are.
     pub fn count(&self) -> usize
         ensures value { result ≡ length self.now }

@@ -60,6 +60,20 @@ impl Outline {
         Outline { alloc, body: None }
     }
 
+    /// An outline of these entries. Want of memory is the only refusal.
+    pub fn of(alloc: Global, entries: Entries) -> Result<Outline, Fault>
+        ensures value { Gives result entries }
+        ensures memory { IsOkUnless result memory_fault }
+    {
+        match shared(alloc, entries.into_list()) {
+            Ok(body) => Ok(Outline {
+                alloc,
+                body: Some(body),
+            }),
+            Err(_) => Err(Fault::Plain(Code::Memory)),
+        }
+    }
+
     /// How many entries there are.
     pub fn count(&self) -> usize
         ensures value { result ≡ length self.now }

@@ -201,3 +201,22 @@ fn edited_beside_bytes(rt: HostRuntime) -> Result<(), Fail> {
     assert!(rt; goes_with_bytes(rt.alloc(), 600)?);
     Ok(())
 }
+
+// What a short text holds, and in how many pieces, once 65,000 bytes came into it and all but ten of them went.
+fn held_behind_a_large_edit(alloc: Global) -> Result<(u64, u32), Fault> {
+    let mut text = Pieces::of(alloc, FRONT)?;
+    let mut ins = String::with_capacity(alloc, 65_000)?;
+    for _byte in 0..65_000 {
+        ins.push_str("x")?;
+    }
+    text.edit(FRONT.len() as u64, 0, ins.as_str())?;
+    text.edit(FRONT.len() as u64, 64_990, "")?;
+    Ok((text.held(), text.count()))
+}
+
+#[test]
+fn held_by_what_is_said(rt: HostRuntime) -> Result<(), Fail> {
+    let (held, pieces) = held_behind_a_large_edit(rt.alloc())?;
+    assert!(rt; held >= 16 && held <= 64 && pieces == 1);
+    Ok(())
+}

@@ -1,7 +1,9 @@
 //! On which days stamps occur, and where a completed task's stamp shifts to.
-use org_base::{Code, Fault};
+use org_base::{Code, Fault, Profile};
 use org_cal::{Day, Moment, TimeOfDay, push_date};
-use org_repeat::{Occurrences, first_on, occurrences_in, occurs_on, shifted};
+use org_repeat::{
+    Occurrences, first_on, next_after, occurrences_in, occurs_on, range_start, shifted,
+};
 use org_stamp::{Stamp, print_stamp, read_stamp};
 use std::alloc::Global;
 use std::test::Fail;
@@ -35,7 +37,7 @@ const DAYS: &str = "<2024-01-31 Wed +1m>=2024-01-30 no
 
 fn occurs_at(text: &str, day: Day) -> Option<bool> {
     match read_stamp(text.as_bytes(), 0) {
-        Some((stamp, _)) => Some(occurs_on(&stamp, day)),
+        Some((stamp, _)) => Some(occurs_on(&stamp, Profile::One, day)),
         None => None,
     }
 }
@@ -84,7 +86,7 @@ fn days_in(alloc: Global, days: Occurrences) -> Result<String, Fault> {
 fn window(text: &str, from: &str, to: &str) -> Option<Occurrences> {
     let stamp = stamp_of(text)?;
     let from = Day::spelled(from.as_bytes())?;
-    Some(occurrences_in(&stamp, from, Day::spelled(to.as_bytes())?))
+    Some(occurrences_in(&stamp, Profile::One, from, Day::spelled(to.as_bytes())?))
 }
 
 // A row as its window, and the text of its days.
@@ -123,7 +125,7 @@ fn most_left(from: &str, to: &str) -> Option<usize> {
 
 fn first_from(text: &str, from: Day) -> Option<Day> {
     match read_stamp(text.as_bytes(), 0) {
-        Some((stamp, _)) => first_on(&stamp, from),
+        Some((stamp, _)) => first_on(&stamp, Profile::One, from),
         None => None,
     }
 }
@@ -138,6 +140,69 @@ fn bounds(rt: HostRuntime) {
     assert_eq!(rt; most_left("2024-03-02", "2024-03-01"), Some(0));
     assert_eq!(rt; first_in_march("<2024-01-31 Wed +1m>"), Some((2024, 3, 31)));
     assert_eq!(rt; first_in_march("<2024-02-28 Wed>"), None);
+}
+
+// Ranges that repeat, a day, and where the copy begins that the day shows in the second profile; then stamps, a day, and where
+// they begin next behind it.
+const STARTS: &str = "<2024-02-20 Tue +1w>--<2024-02-22 Thu>=2024-02-28=2024-02-27
+<2024-02-20 Tue +1w>--<2024-02-22 Thu>=2024-02-26=
+<2024-02-26 Mon +1d>--<2024-02-28 Wed>=2024-02-28=2024-02-28
+<2024-01-31 Wed +1m>--<2024-02-02 Fri>=2024-03-02=2024-02-29
+<2024-01-31 Wed +1m>--<2024-02-02 Fri>=2024-03-03=
+<2024-02-29 Thu +1y>--<2024-03-01 Fri>=2025-03-01=2025-02-28
+<2024-02-27 Tue 22:00 +36h>--<2024-02-28 Wed 2:00>=2024-03-01=2024-03-01
+<2024-02-28 Wed +1w>--<2024-02-26 Mon>=2024-02-28=
+<2024-02-28 Wed>=2024-02-28=";
+
+const NEXT: &str = "<2024-01-31 Wed +1m>=2024-02-28=2024-02-29
+<2024-01-31 Wed +1m>=2024-02-29=2024-03-31
+<2024-02-28 Wed>=2024-02-27=2024-02-28
+<2024-02-28 Wed>=2024-02-28=
+<2024-02-26 Mon 20:00 +30h>=2024-02-28=2024-02-29
+<9999-12-30 Thu +1d>=9999-12-31=";
+
+// What a row of these asks: a stamp and a day; and the day that is wanted.
+fn asked(row: &str) -> Option<(Stamp, Day, Option<Day>)> {
+    let (text, rest) = row.split_once('=')?;
+    let (day, want) = rest.split_once('=')?;
+    Some((
+        stamp_of(text)?,
+        Day::spelled(day.as_bytes())?,
+        Day::spelled(want.as_bytes()),
+    ))
+}
+
+fn is_start(row: &str) -> bool {
+    match asked(row) {
+        Some((stamp, day, want)) => range_start(&stamp, Profile::Two, day) == want,
+        None => false,
+    }
+}
+
+fn is_next(row: &str) -> bool {
+    match asked(row) {
+        Some((stamp, day, want)) => next_after(&stamp, day) == want,
+        None => false,
+    }
+}
+
+fn wrong_start() -> Option<&'static str> {
+    for row in STARTS.lines() {
+        if !is_start(row) {
+            return Some(row);
+        }
+    }
+    for row in NEXT.lines() {
+        if !is_next(row) {
+            return Some(row);
+        }
+    }
+    None
+}
+
+#[test]
+fn copies(rt: HostRuntime) {
+    assert_eq!(rt; wrong_start(), None);
 }
 
 // A moment, a stamp, and where it shifts to; first the examples of the Org manual, "Repeated tasks".

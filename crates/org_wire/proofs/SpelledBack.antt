@@ -7,12 +7,14 @@ use Rattle.std.proofs.lemmas.List.Elements.{All-cons, All-head, All-nil, All-tai
 use Rattle.std.proofs.lemmas.Str.{is_utf8-from_IsUtf8}
 use Rattle.org_base.specs.FileName.{is_name_byte}
 use Rattle.org_cal.specs.Texts.{date_of, time_of}
+use Rattle.org_base.specs.declared.profile.Profile.{Profile as AnyProfile}
+use Rattle.org_base.specs.declared.profile.Profile.TheVariants.{One, Two}
 use Rattle.org_wire.specs.Laws.{LinesAreSpelled}
 use Rattle.org_wire.specs.Lines.{cut_at}
-use Rattle.org_wire.specs.Spelled.{AreKeywords, AreNames, IsFrameLine, IsLineOf, IsName, IsNumber, IsSeen, IsView, IsViewWith, IsWord, keyword_parts, parted, seen_parts, spaced}
-use Rattle.org_wire.specs.Stream.{Bad, Framed, Line, Plainly, add_line, agenda_line, at_line, complete_at, complete_line, dated_line, edit_at, edit_del, edit_line, first_number, inherit_line, is_name, is_one_word, line_of, moment_of, number_of, pin_line, pinned_line, seen_name, seen_of, seen_serial, seen_session, sized, todo_line, unpin_line, view_line, words_from}
+use Rattle.org_wire.specs.Spelled.{AreKeywords, AreNames, IsFileOf, IsFrameLine, IsLineOf, IsName, IsNumber, IsSeen, IsView, IsViewWith, IsWord, file_parts, keyword_parts, parted, profile_word, seen_parts, spaced}
+use Rattle.org_wire.specs.Stream.{Bad, Framed, Line, Plainly, add_line, agenda_line, at_line, complete_at, complete_line, dated_line, edit_at, edit_del, edit_line, file_line, first_number, inherit_line, is_name, is_one_word, line_of, list_line, match_line, moment_of, number_of, pin_line, pinned_line, profile_line, seen_name, seen_of, seen_serial, seen_session, sized, todo_line, unpin_line, view_line, view_words, words_from, words_line}
 use Rattle.org_wire.specs.declared.command.Command.{Command}
-use Rattle.org_wire.specs.declared.command.Command.TheVariants.{Add, Agenda, At, Clock, Complete, Drop, Edit, Inherit, Match, Pin, Text, Todo, Unpin}
+use Rattle.org_wire.specs.declared.command.Command.TheVariants.{Add, Agenda, At, Clock, Complete, Drop, Edit, Inherit, Match, Pin, Profile, Text, Todo, Unpin}
 use Rattle.org_wire.specs.declared.command.Frame.{Frame}
 use Rattle.org_wire.specs.declared.command.Frame.TheVariants as frame
 use Rattle.org_wire.specs.declared.command.Seen.{Seen}
@@ -51,6 +53,12 @@ bytes_apart (b ∷ word) e =
 name_apart : (word : List ℕ) → IsName word → All (λ b. b ≢ 32) word
 name_apart word is = bytes_apart word (both _ _ is.0).1
 
+file_apart : (name : List ℕ) → IsName name → All (λ b. b ≢ 32) (codes "file=" ++ name)
+file_apart name is =
+    let P : ℕ → Type 0 = λ b. b ≢ 32 in
+    All-cons P 102 (105 ∷ 108 ∷ 101 ∷ 61 ∷ name) (grind arith) (All-cons P 105 (108 ∷ 101 ∷ 61 ∷ name) (grind arith) (All-cons P 108 (101 ∷ 61 ∷ name) (grind arith)
+    (All-cons P 101 (61 ∷ name) (grind arith) (All-cons P 61 name (grind arith) (name_apart name is)))))
+
 -- commands of one name or one number
 name_line : (command : List ℕ → Command) (name : List ℕ) → IsName name → (if is_name name then Plainly (command name) else Bad) ≡ Plainly (command name)
 name_line command name is = rw (name_so name is) refl
@@ -66,6 +74,11 @@ text_back name is = name_line Text name is
 pin_back : (n : ℕ) → IsNumber n → line_of (codes "pin" ++ (32 ∷ decimal n)) ≡ Plainly (Pin n)
 unfolding line_of
 pin_back n le = ap pin_line (number_so n le)
+
+profile_back : (p : AnyProfile) → line_of (codes "profile" ++ (32 ∷ profile_word p)) ≡ Plainly (Profile p)
+unfolding line_of
+profile_back One = refl
+profile_back Two = refl
 
 unpin_back : (n : ℕ) → IsNumber n → line_of (codes "unpin" ++ (32 ∷ decimal n)) ≡ Plainly (Unpin n)
 unfolding line_of
@@ -135,24 +148,47 @@ view_back (Some session) parts line l some first says is =
     let whole : line ≡ codes "pinned" ++ (32 ∷ (decimal session ++ (32 ∷ spaced parts))) = is.0 ∙ ap (λ t. codes "pinned" ++ (32 ∷ t)) (parted_more 32 (decimal session) parts some) in
     ap line_of whole ∙ pinned_back session (spaced parts) is.1 ∙ says
 
-todo_back : (session : Option ℕ) (keywords : List (List ℕ)) (line : List ℕ) → IsView session (codes "todo" ∷ keyword_parts keywords) line → AreKeywords keywords → line_of line ≡ Plainly (Todo session keywords)
+-- a list over the file of a name, and over all files
+named_first : (name rest : List ℕ) → IsName name → cut_at 32 ((codes "file=" ++ name) ++ (32 ∷ rest)) ≡ Some (record { before = codes "file=" ++ name; after = rest })
+named_first name rest is = cut_back 32 (codes "file=" ++ name) rest (file_apart name is)
+
+named_list : (session : Option ℕ) (name list : List ℕ) → IsName name → view_line session ((codes "file=" ++ name) ++ (32 ∷ list)) ≡ list_line session (Some name) list
+named_list session name list is =
+    let named : file_line session name list ≡ list_line session (Some name) list = rw (name_so name is) refl in
+    ap (view_words session) (named_first name list is) ∙ named
+
+named_line : (name list : List ℕ) → IsName name → line_of ((codes "file=" ++ name) ++ (32 ∷ list)) ≡ view_line None ((codes "file=" ++ name) ++ (32 ∷ list))
 unfolding line_of
-todo_back session [] line is all = view_back session (codes "todo" ∷ []) line (Plainly (Todo session [])) (omega arith) refl refl is
-todo_back session (k ∷ ks) line is all =
+named_line name list is = ap (words_line ((codes "file=" ++ name) ++ (32 ∷ list))) (named_first name list is)
+
+list_back : (session : Option ℕ) (file : Option (List ℕ)) (parts : List (List ℕ)) (line : List ℕ) (l : Line) → 0 < length parts → IsFileOf file → line_of (spaced parts) ≡ view_line None (spaced parts) →
+    view_line session (spaced parts) ≡ list_line session None (spaced parts) → list_line session file (spaced parts) ≡ l → IsView session (file_parts file ++ parts) line → line_of line ≡ l
+list_back session None parts line l some named first plain says is = view_back session parts line l some first (plain ∙ says) is
+list_back session (Some name) parts line l some named first plain says is =
+    let whole : spaced (file_parts (Some name) ++ parts) ≡ (codes "file=" ++ name) ++ (32 ∷ spaced parts) = parted_more 32 (codes "file=" ++ name) parts some in
+    view_back session (file_parts (Some name) ++ parts) line l (omega arith)
+    (ap line_of whole ∙ named_line name (spaced parts) named ∙ ap (view_line None) (sym whole))
+    (ap (view_line session) whole ∙ named_list session name (spaced parts) named ∙ says) is
+
+todo_back : (session : Option ℕ) (file : Option (List ℕ)) (keywords : List (List ℕ)) (line : List ℕ) → IsView session (file_parts file ++ (codes "todo" ∷ keyword_parts keywords)) line → AreKeywords keywords → IsFileOf file →
+    line_of line ≡ Plainly (Todo session file keywords)
+unfolding line_of
+todo_back session file [] line is all named = list_back session file (codes "todo" ∷ []) line (Plainly (Todo session file [])) (omega arith) named refl refl refl is
+todo_back session file (k ∷ ks) line is all named =
     let text : List ℕ = parted 124 (k ∷ ks) in
     let w = words_back 124 (k ∷ ks) (omega arith) all.0 in
-    let read : todo_line session text ≡ Plainly (Todo session (words_from 124 [] text)) = rw (is_utf8-from_IsUtf8 text all.2, all_pass text all.1, w.0) refl in
-    view_back session (codes "todo" ∷ (text ∷ [])) line (Plainly (Todo session (k ∷ ks))) (omega arith) refl (read ∙ ap (λ ns. Plainly (Todo session ns)) w.1) is
+    let read : todo_line session file text ≡ Plainly (Todo session file (words_from 124 [] text)) = rw (is_utf8-from_IsUtf8 text all.2, all_pass text all.1, w.0) refl in
+    list_back session file (codes "todo" ∷ (text ∷ [])) line (Plainly (Todo session file (k ∷ ks))) (omega arith) named refl refl (read ∙ ap (λ ns. Plainly (Todo session file ns)) w.1) is
 
-match_back : (session : Option ℕ) (text line : List ℕ) → IsViewWith session (codes "match") text line → line_of line ≡ Plainly (Match session text)
+match_back : (session : Option ℕ) (file : Option (List ℕ)) (text line : List ℕ) → IsViewWith session (file_parts file) (codes "match") text line → IsFileOf file → line_of line ≡ Plainly (Match session file text)
 unfolding line_of
-match_back session text line (inl is) =
-    let read : view_line session (codes "match" ++ (32 ∷ text)) ≡ Plainly (Match session text) = rw (is_utf8-from_IsUtf8 text is.1) refl in
-    view_back session (codes "match" ∷ (text ∷ [])) line (Plainly (Match session text)) (omega arith) refl read is.0
-match_back session text line (inr is) =
-    view_back session (codes "match" ∷ []) line (Plainly (Match session [])) (omega arith) refl refl is.0 ∙ ap (λ t. Plainly (Match session t)) (sym is.1)
+match_back session file text line (inl is) named =
+    let read : match_line session file text ≡ Plainly (Match session file text) = rw (is_utf8-from_IsUtf8 text is.1) refl in
+    list_back session file (codes "match" ∷ (text ∷ [])) line (Plainly (Match session file text)) (omega arith) named refl refl read is.0
+match_back session file text line (inr is) named =
+    list_back session file (codes "match" ∷ []) line (Plainly (Match session file [])) (omega arith) named refl refl refl is.0 ∙ ap (λ t. Plainly (Match session file t)) (sym is.1)
 
-clock_back : (session : Option ℕ) (text line : List ℕ) → IsViewWith session (codes "clock") text line → line_of line ≡ Plainly (Clock session text)
+clock_back : (session : Option ℕ) (text line : List ℕ) → IsViewWith session [] (codes "clock") text line → line_of line ≡ Plainly (Clock session text)
 unfolding line_of
 clock_back session text line (inl is) =
     let read : view_line session (codes "clock" ++ (32 ∷ text)) ≡ Plainly (Clock session text) = rw (is_utf8-from_IsUtf8 text is.1) refl in
@@ -176,11 +212,12 @@ plain_back line (Edit seen at del bytes) is = absurd is
 plain_back line (Complete seen place keyword) is = ap line_of is.0 ∙ complete_back seen place keyword is.1 is.2 is.3
 plain_back line (Inherit names) is = ap line_of is.0 ∙ inherit_back names is.1
 plain_back line (At moment) is = ap line_of is.2 ∙ at_back is.0 is.1 is.3 is.4 ∙ ap (λ m. Plainly (At m)) (sym is.5)
+plain_back line (Profile p) is = ap line_of is ∙ profile_back p
 plain_back line (Pin session) is = ap line_of is.0 ∙ pin_back session is.1
 plain_back line (Unpin session) is = ap line_of is.0 ∙ unpin_back session is.1
 plain_back line (Text name) is = ap line_of is.0 ∙ text_back name is.1
-plain_back line (Todo session keywords) is = todo_back session keywords line is.0 is.1
-plain_back line (Match session text) is = match_back session text line is
+plain_back line (Todo session file keywords) is = todo_back session file keywords line is.0 is.1 is.2
+plain_back line (Match session file text) is = match_back session file text line is.0 is.1
 plain_back line (Agenda session date days) is = agenda_back session date line days is.0 is.1 is.2
 plain_back line (Clock session text) is = clock_back session text line is
 

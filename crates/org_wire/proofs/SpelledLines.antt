@@ -1,17 +1,20 @@
 -- What the reader says of a line is spelled on it.
-use Rattle.std.proofs.Common.{◌≡◌, ◌≢◌, ◌∙◌, ℕ, ◌<◌, Bool, true, false, not, inl, inr, List, [], ◌∷◌, ◌++◌, length, refl, sym, ap, subst, arith}
-use Rattle.std.specs.Prelude.{◌==◌, ◌&&◌, if◌then◌else◌, codes, decimal, Option, Some, None}
+use Rattle.std.proofs.Common.{◌≡◌, ◌≢◌, ◌∙◌, ℕ, ◌<◌, Bool, true, false, not, inl, inr, List, [], ◌∷◌, ◌++◌, length, drop, refl, sym, ap, subst, arith}
+use Rattle.std.specs.Prelude.{◌==◌, ◌&&◌, if◌then◌else◌, codes, decimal, nat_eq, Option, Some, None}
 use Rattle.std.specs.Cmp.Lexicographic.{same_text}
-use Rattle.std.specs.List.{All, list_all}
+use Rattle.std.specs.List.{All, list_all, starts_with}
 use Rattle.std.specs.Str.{IsUtf8, bytes_eq, is_utf8}
 use Rattle.std.proofs.lemmas.Bool.{cases_Bool, eqb-false}
+use Rattle.std.proofs.lemmas.Bool.Decides.{Decides-eqb}
 use Rattle.std.proofs.lemmas.List.Elements.{All-cons, All-nil}
+use Rattle.std.proofs.lemmas.Slice.Eq.{starts_is}
 use Rattle.std.proofs.lemmas.Str.{IsUtf8-from_is_utf8, IsUtf8-nil}
 use Rattle.org_base.specs.FileName.{is_file_name}
 use Rattle.org_wire.specs.Lines.{Cut, cut_at}
-use Rattle.org_wire.specs.Spelled.{IsFrameLine, IsLineOf, IsName, IsNumber, IsSeen, IsView, IsWord, keyword_parts, parted, spaced}
-use Rattle.org_wire.specs.Stream.{Bad, Framed, Line, Plainly, add_line, agenda_line, are_words, at_line, clock_line, complete_at, complete_line, dated_line, drop_line, edit_at, edit_del, edit_line, first_number, inherit_line, is_name, is_one_word, is_word, line_of, match_line, moment_of, number_of, pin_line, pinned_line, seen_name, seen_of, seen_serial, seen_session, sized, text_line, todo_line, unpin_line, view_line, view_words, words_from, words_line}
-use Rattle.org_wire.specs.declared.command.Command.TheVariants.{At, Clock, Complete, Drop, Inherit, Match, Text, Todo}
+use Rattle.org_wire.specs.Spelled.{IsFileOf, IsFrameLine, IsLineOf, IsName, IsNumber, IsSeen, IsView, IsWord, file_parts, keyword_parts, parted, profile_word, spaced}
+use Rattle.org_wire.specs.Stream.{Bad, Framed, Line, Plainly, add_line, agenda_line, are_words, at_line, clock_line, complete_at, complete_line, dated_line, drop_line, edit_at, edit_del, edit_line, file_line, first_number, inherit_line, is_name, is_one_word, is_word, line_of, list_line, list_words, match_line, moment_of, number_of, pin_line, pinned_line, profile_line, seen_name, seen_of, seen_serial, seen_session, sized, text_line, todo_line, unpin_line, view_line, view_words, words_from, words_line}
+use Rattle.org_wire.specs.declared.command.Command.TheVariants.{At, Clock, Complete, Drop, Inherit, Match, Profile, Text, Todo}
+use Rattle.org_base.specs.declared.profile.Profile.TheVariants.{One, Two}
 use Rattle.org_wire.specs.declared.command.Frame.{Frame}
 use Rattle.org_wire.specs.declared.command.Frame.TheVariants as frame
 use Rattle.org_wire.specs.declared.command.Seen.{Seen}
@@ -79,6 +82,12 @@ number_is line front word n e k =
 pin_says : (line word : List ℕ) (n : Option ℕ) → number_of word ≡ n → line ≡ codes "pin" ++ (32 ∷ word) → Spelled (pin_line n) line
 pin_says line word None k e = tt
 pin_says line word (Some n) k e = number_is line (codes "pin") word n e k
+
+-- a last word that is one of two
+profile_says : (line word : List ℕ) → line ≡ codes "profile" ++ (32 ∷ word) → Spelled (profile_line word) line
+profile_says line word e =
+    choose line (bytes_eq word (codes "1")) (Plainly (Profile One)) _ (λ y. e ∙ ap (λ w. codes "profile" ++ (32 ∷ w)) (same word (codes "1") y))
+    (choose line (bytes_eq word (codes "2")) (Plainly (Profile Two)) Bad (λ y. e ∙ ap (λ w. codes "profile" ++ (32 ∷ w)) (same word (codes "2") y)) tt)
 
 unpin_says : (line word : List ℕ) (n : Option ℕ) → number_of word ≡ n → line ≡ codes "unpin" ++ (32 ∷ word) → Spelled (unpin_line n) line
 unpin_says line word None k e = tt
@@ -190,20 +199,68 @@ keywords_parted : (keywords : List (List ℕ)) → 0 < length keywords → keywo
 keywords_parted [] any = absurd (omega (arith, any))
 keywords_parted (k ∷ ks) any = refl
 
-todo_says : (session : Option ℕ) (view line words : List ℕ) → Whole session view line → view ≡ codes "todo" ++ (32 ∷ words) → Spelled (todo_line session words) line
-todo_says session view line words whole e = choose line (is_utf8 words && is_word words && are_words 124 true words) (Plainly (Todo session (words_from 124 [] words))) Bad (λ y.
+-- a list's own part of a view, behind the name of the file that it is over
+abbrev pub Behind : Option (List ℕ) → List ℕ → List ℕ → Type 0
+Behind None list view = view ≡ list
+Behind (Some name) list view = (view ≡ (codes "file=" ++ name) ++ (32 ∷ list)) × IsName name
+
+behind_is : (file : Option (List ℕ)) (parts : List (List ℕ)) (list view : List ℕ) → 0 < length parts → Behind file list view → list ≡ spaced parts → view ≡ spaced (file_parts file ++ parts)
+behind_is None parts list view any behind e = behind ∙ e
+behind_is (Some name) parts list view any behind e =
+    behind.0 ∙ ap (λ t. (codes "file=" ++ name) ++ (32 ∷ t)) e ∙ sym (parted_more 32 (codes "file=" ++ name) parts any)
+
+some_parts : (file : Option (List ℕ)) (parts : List (List ℕ)) → 0 < length parts → 0 < length (file_parts file ++ parts)
+some_parts None parts any = any
+some_parts (Some name) parts any = omega arith
+
+file_of : (file : Option (List ℕ)) (list view : List ℕ) → Behind file list view → IsFileOf file
+file_of None list view behind = tt
+file_of (Some name) list view behind = behind.1
+
+list_is : (session : Option ℕ) (file : Option (List ℕ)) (parts : List (List ℕ)) (list view line : List ℕ) → 0 < length parts → Whole session view line → Behind file list view → list ≡ spaced parts →
+    IsView session (file_parts file ++ parts) line
+list_is session file parts list view line any whole behind e =
+    view_is session (file_parts file ++ parts) view line (some_parts file parts any) whole (behind_is file parts list view any behind e)
+
+todo_says : (session : Option ℕ) (file : Option (List ℕ)) (list view line words : List ℕ) → Whole session view line → Behind file list view → list ≡ codes "todo" ++ (32 ∷ words) → Spelled (todo_line session file words) line
+todo_says session file list view line words whole behind e = choose line (is_utf8 words && is_word words && are_words 124 true words) (Plainly (Todo session file (words_from 124 [] words))) Bad (λ y.
     let keywords : List (List ℕ) = words_from 124 [] words in
     let a = both (is_utf8 words && is_word words) (are_words 124 true words) y in
     let b = both (is_utf8 words) (is_word words) a.0 in
     let w = words_there 124 words a.1 in
     let parts : codes "todo" ∷ keyword_parts keywords ≡ codes "todo" ∷ (parted 124 keywords ∷ []) = ap (λ p. codes "todo" ∷ p) (keywords_parted keywords (some_word 124 [] words)) in (
-      subst (λ (p : List (List ℕ)). IsView session p line) (sym parts) (view_is session (codes "todo" ∷ (parted 124 keywords ∷ [])) view line (omega arith) whole (e ∙ ap (λ t. codes "todo" ++ (32 ∷ t)) w.0)),
+      subst (λ (p : List (List ℕ)). IsView session (file_parts file ++ p) line) (sym parts)
+          (list_is session file (codes "todo" ∷ (parted 124 keywords ∷ [])) list view line (omega arith) whole behind (e ∙ ap (λ t. codes "todo" ++ (32 ∷ t)) w.0)),
       (w.1, subst (λ (t : List ℕ). All (λ b. b ≢ 32) t) w.0 (others 32 words b.1), subst IsUtf8 w.0 (IsUtf8-from_is_utf8 words b.0)),
+      file_of file list view behind,
     )) tt
 
-match_says : (session : Option ℕ) (view line text : List ℕ) → Whole session view line → view ≡ codes "match" ++ (32 ∷ text) → Spelled (match_line session text) line
-match_says session view line text whole e = choose line (is_utf8 text) (Plainly (Match session text)) Bad (λ y.
-    inl (view_is session (codes "match" ∷ (text ∷ [])) view line (omega arith) whole e, IsUtf8-from_is_utf8 text y)) tt
+match_says : (session : Option ℕ) (file : Option (List ℕ)) (list view line text : List ℕ) → Whole session view line → Behind file list view → list ≡ codes "match" ++ (32 ∷ text) → Spelled (match_line session file text) line
+match_says session file list view line text whole behind e = choose line (is_utf8 text) (Plainly (Match session file text)) Bad (λ y.
+    (inl (list_is session file (codes "match" ∷ (text ∷ [])) list view line (omega arith) whole behind e, IsUtf8-from_is_utf8 text y), file_of file list view behind)) tt
+
+list_words_say : (session : Option ℕ) (file : Option (List ℕ)) (list view line : List ℕ) (o : Option Cut) → Says 32 list o → Whole session view line → Behind file list view → Spelled (list_words session file o) line
+list_words_say session file list view line None says whole behind = tt
+list_words_say session file list view line (Some cut) says whole behind =
+    choose line (bytes_eq cut.before (codes "todo")) (todo_line session file cut.after) _ (λ y. todo_says session file list view line cut.after whole behind (headed list cut (codes "todo") says y))
+    (choose line (bytes_eq cut.before (codes "match")) (match_line session file cut.after) Bad (λ y. match_says session file list view line cut.after whole behind (headed list cut (codes "match") says y)) tt)
+
+list_says : (session : Option ℕ) (file : Option (List ℕ)) (list view line : List ℕ) → Whole session view line → Behind file list view → Spelled (list_line session file list) line
+list_says session file list view line whole behind =
+    choose line (bytes_eq list (codes "todo")) (Plainly (Todo session file [])) _
+    (λ y. (list_is session file (codes "todo" ∷ []) list view line (omega arith) whole behind (same list (codes "todo") y), (All-nil _, All-nil _, IsUtf8-nil), file_of file list view behind))
+    (choose line (bytes_eq list (codes "match")) (Plainly (Match session file [])) _
+    (λ y. (inr (list_is session file (codes "match" ∷ []) list view line (omega arith) whole behind (same list (codes "match") y), refl), file_of file list view behind))
+    (list_words_say session file list view line (cut_at 32 list) (cut_says 32 list) whole behind))
+
+file_says : (session : Option ℕ) (view line name list : List ℕ) → Whole session view line → view ≡ (codes "file=" ++ name) ++ (32 ∷ list) → Spelled (file_line session name list) line
+file_says session view line name list whole e =
+    choose line (is_name name) (list_line session (Some name) list) Bad (λ y. list_says session (Some name) list view line whole (e, name_is name y)) tt
+
+-- a first word that begins with the word for a file
+fronted : (view : List ℕ) (cut : Cut) → IsThere 32 view cut → starts_with nat_eq cut.before (codes "file=") ≡ true → view ≡ (codes "file=" ++ drop 5 cut.before) ++ (32 ∷ cut.after)
+fronted view cut there starts =
+    there.0 ∙ ap (λ w. w ++ (32 ∷ cut.after)) ((starts_is Decides-eqb cut.before (codes "file=") (starts_with nat_eq cut.before (codes "file=")) refl).0 starts)
 
 clock_says : (session : Option ℕ) (view line text : List ℕ) → Whole session view line → view ≡ codes "clock" ++ (32 ∷ text) → Spelled (clock_line session text) line
 clock_says session view line text whole e = choose line (is_utf8 text) (Plainly (Clock session text)) Bad (λ y.
@@ -223,16 +280,17 @@ agenda_says session view line rest (Some cut) says whole e = choose line (is_one
 words_say : (session : Option ℕ) (view line : List ℕ) (o : Option Cut) → Says 32 view o → Whole session view line → Spelled (view_words session o) line
 words_say session view line None says whole = tt
 words_say session view line (Some cut) says whole =
-    choose line (bytes_eq cut.before (codes "todo")) (todo_line session cut.after) _ (λ y. todo_says session view line cut.after whole (headed view cut (codes "todo") says y))
-    (choose line (bytes_eq cut.before (codes "match")) (match_line session cut.after) _ (λ y. match_says session view line cut.after whole (headed view cut (codes "match") says y))
+    choose line (bytes_eq cut.before (codes "todo")) (todo_line session None cut.after) _ (λ y. todo_says session None view view line cut.after whole refl (headed view cut (codes "todo") says y))
+    (choose line (bytes_eq cut.before (codes "match")) (match_line session None cut.after) _ (λ y. match_says session None view view line cut.after whole refl (headed view cut (codes "match") says y))
+    (choose line (starts_with nat_eq cut.before (codes "file=")) (file_line session (drop 5 cut.before) cut.after) _ (λ y. file_says session view line (drop 5 cut.before) cut.after whole (fronted view cut says y))
     (choose line (bytes_eq cut.before (codes "clock")) (clock_line session cut.after) _ (λ y. clock_says session view line cut.after whole (headed view cut (codes "clock") says y))
     (choose line (bytes_eq cut.before (codes "agenda")) (agenda_line session (cut_at 32 cut.after)) Bad
-    (λ y. agenda_says session view line cut.after (cut_at 32 cut.after) (cut_says 32 cut.after) whole (headed view cut (codes "agenda") says y)) tt)))
+    (λ y. agenda_says session view line cut.after (cut_at 32 cut.after) (cut_says 32 cut.after) whole (headed view cut (codes "agenda") says y)) tt))))
 
 view_says : (session : Option ℕ) (view line : List ℕ) → Whole session view line → Spelled (view_line session view) line
 view_says session view line whole =
-    choose line (bytes_eq view (codes "todo")) (Plainly (Todo session [])) _ (λ y. (view_is session (codes "todo" ∷ []) view line (omega arith) whole (same view (codes "todo") y), (All-nil _, All-nil _, IsUtf8-nil)))
-    (choose line (bytes_eq view (codes "match")) (Plainly (Match session [])) _ (λ y. inr (view_is session (codes "match" ∷ []) view line (omega arith) whole (same view (codes "match") y), refl))
+    choose line (bytes_eq view (codes "todo")) (Plainly (Todo session None [])) _ (λ y. (view_is session (codes "todo" ∷ []) view line (omega arith) whole (same view (codes "todo") y), (All-nil _, All-nil _, IsUtf8-nil), tt))
+    (choose line (bytes_eq view (codes "match")) (Plainly (Match session None [])) _ (λ y. (inr (view_is session (codes "match" ∷ []) view line (omega arith) whole (same view (codes "match") y), refl), tt))
     (choose line (bytes_eq view (codes "clock")) (Plainly (Clock session [])) _ (λ y. inr (view_is session (codes "clock" ∷ []) view line (omega arith) whole (same view (codes "clock") y), refl))
     (words_say session view line (cut_at 32 view) (cut_says 32 view) whole)))
 
@@ -251,10 +309,11 @@ line_says line (Some cut) says =
     (choose line (bytes_eq cut.before (codes "inherit")) (inherit_line rest) _ (λ y. inherit_says line rest (headed line cut (codes "inherit") says y))
     (choose line (bytes_eq cut.before (codes "at")) (at_line (cut_at 32 rest)) _ (λ y. at_says line rest (cut_at 32 rest) (cut_says 32 rest) (headed line cut (codes "at") says y))
     (choose line (bytes_eq cut.before (codes "add")) (add_line (cut_at 32 rest)) _ (λ y. add_says line rest (cut_at 32 rest) (cut_says 32 rest) (headed line cut (codes "add") says y))
+    (choose line (bytes_eq cut.before (codes "profile")) (profile_line rest) _ (λ y. profile_says line rest (headed line cut (codes "profile") says y))
     (choose line (bytes_eq cut.before (codes "pin")) (pin_line (number_of rest)) _ (λ y. pin_says line rest (number_of rest) refl (headed line cut (codes "pin") says y))
     (choose line (bytes_eq cut.before (codes "unpin")) (unpin_line (number_of rest)) _ (λ y. unpin_says line rest (number_of rest) refl (headed line cut (codes "unpin") says y))
     (choose line (bytes_eq cut.before (codes "pinned")) (pinned_line (first_number (cut_at 32 rest))) (view_line None line) (λ y. pinned_says line rest (first_number (cut_at 32 rest)) (first_says rest) (headed line cut (codes "pinned") says y))
-    (view_says None line line refl))))))))))
+    (view_says None line line refl)))))))))))
 
 pub spelled_so : (line : List ℕ) → Spelled (line_of line) line
 unfolding line_of

@@ -36,14 +36,15 @@ seen_and_rest seen = (seen_in seen.0, seen.1.now)
 -- what a parsed line says
 abbrev pub said : Parsed → Line
 said parsed.Bad = Bad
-said (parsed.Todo session words) = Plainly (command.Todo session (words_in 124 (option_copied words)))
-said (parsed.Match session text) = Plainly (command.Match session text.now)
+said (parsed.Todo session file words) = Plainly (command.Todo session (option_copied file) (words_in 124 (option_copied words)))
+said (parsed.Match session file text) = Plainly (command.Match session (option_copied file) text.now)
 said (parsed.Clock session text) = Plainly (command.Clock session text.now)
 said (parsed.Agenda session date days) = Plainly (command.Agenda session date.now days)
 said (parsed.Drop name) = Plainly (command.Drop name.now)
 said (parsed.Complete seen line keyword) = Plainly (command.Complete (seen_in seen) line keyword.now)
 said (parsed.Inherit names) = Plainly (command.Inherit (words_in 32 (option_copied names)))
 said (parsed.At moment) = Plainly (command.At moment)
+said (parsed.Profile profile) = Plainly (command.Profile profile)
 said (parsed.Pin session) = Plainly (command.Pin session)
 said (parsed.Unpin session) = Plainly (command.Unpin session)
 said (parsed.Text name) = Plainly (command.Text name.now)
@@ -52,15 +53,16 @@ said (parsed.Edit seen at del size) = Framed (frame.Edit (seen_in seen) at del) 
 
 -- an expression, and the options of a table, are no longer than so many bytes
 abbrev pub IsWithin : ℕ → Parsed → Type 0
-IsWithin most (parsed.Match session text) = length text.now ≤ most
+IsWithin most (parsed.Match session file text) = length text.now ≤ most
 IsWithin most (parsed.Clock session text) = length text.now ≤ most
 IsWithin most parsed.Bad = Unit {0}
-IsWithin most (parsed.Todo session words) = Unit {0}
+IsWithin most (parsed.Todo session file words) = Unit {0}
 IsWithin most (parsed.Agenda session date days) = Unit {0}
 IsWithin most (parsed.Drop name) = Unit {0}
 IsWithin most (parsed.Complete seen line keyword) = Unit {0}
 IsWithin most (parsed.Inherit names) = Unit {0}
 IsWithin most (parsed.At moment) = Unit {0}
+IsWithin most (parsed.Profile profile) = Unit {0}
 IsWithin most (parsed.Pin session) = Unit {0}
 IsWithin most (parsed.Unpin session) = Unit {0}
 IsWithin most (parsed.Text name) = Unit {0}

@@ -12,7 +12,7 @@ use Rattle.org_engine.specs.Step as step
 use Rattle.org_wire.specs.Replies.{reply_bytes, fault_bytes}
 use Rattle.org_wire.specs.Stream.{reading_of, IsReplaceable, IsUnfinished}
 use Rattle.org_wire.specs.declared.command.Command.{Command}
-use Rattle.org_wire.specs.declared.command.Command.TheVariants.{Add, Agenda, At, Clock, Complete, Drop, Edit, Inherit, Match, Pin, Text, Todo, Unpin}
+use Rattle.org_wire.specs.declared.command.Command.TheVariants.{Add, Agenda, At, Clock, Complete, Drop, Edit, Inherit, Match, Pin, Profile, Text, Todo, Unpin}
 use Rattle.org_wire.specs.declared.counted.Counted.{Counted}
 use Rattle.org_wire.specs.declared.command.Next.{Next}
 use Rattle.org_wire.specs.declared.command.Next.TheVariants.{Given, Refused, Last, Ended}
@@ -39,11 +39,12 @@ Means (Edit seen at del ins) s said = said ≡ step.EditFile seen.session seen.n
 Means (Complete seen line keyword) s said = said ≡ step.Complete seen.session seen.name seen.serial line keyword
 Means (Inherit names) s said = said ≡ step.Inherit names
 Means (At moment) s said = said ≡ moment_command moment
+Means (Profile profile) s said = said ≡ step.SetProfile profile
 Means (Pin session) s said = said ≡ step.PinWorld session
 Means (Unpin session) s said = said ≡ step.Unpin session
 Means (Text name) s said = said ≡ step.TextOf name
-Means (Todo session words) s said = MeansView (λ today question. question ≡ step.TodoList words) session s said
-Means (Match session text) s said = MeansView (λ today question. AsksMatch text question) session s said
+Means (Todo session file words) s said = MeansView (λ today question. question ≡ step.TodoList file words) session s said
+Means (Match session file text) s said = MeansView (λ today question. AsksMatch file text question) session s said
 Means (Agenda session date days) s said = MeansView (λ today question. question ≡ asked_agenda date days) session s said
 Means (Clock session text) s said = MeansView (λ today question. AsksTable text today question) session s said
 

@@ -4,11 +4,13 @@ use Rattle.std.specs.Prelude.{◌≡◌, ◌≢◌, ◌⊎◌, ℕ, ◌<◌, ◌
 use Rattle.std.specs.List.{All}
 use Rattle.std.specs.Str.{IsUtf8}
 use Rattle.org_base.specs.FileName.{is_file_name}
+use Rattle.org_base.specs.declared.profile.Profile.{Profile as AnyProfile}
+use Rattle.org_base.specs.declared.profile.Profile.TheVariants.{One, Two}
 use Rattle.org_cal.specs.Texts.{date_of, time_of}
 use Rattle.org_cal.specs.declared.moment.Moment.{Moment}
 use Rattle.org_wire.specs.Stream.{moment_of, most_number}
 use Rattle.org_wire.specs.declared.command.Command.{Command}
-use Rattle.org_wire.specs.declared.command.Command.TheVariants.{Add, Agenda, At, Clock, Complete, Drop, Edit, Inherit, Match, Pin, Text, Todo, Unpin}
+use Rattle.org_wire.specs.declared.command.Command.TheVariants.{Add, Agenda, At, Clock, Complete, Drop, Edit, Inherit, Match, Pin, Profile, Text, Todo, Unpin}
 use Rattle.org_wire.specs.declared.command.Frame.{Frame}
 use Rattle.org_wire.specs.declared.command.Frame.TheVariants as frame
 use Rattle.org_wire.specs.declared.command.Seen.{Seen}
@@ -53,9 +55,19 @@ IsView None parts line = line ≡ spaced parts
 IsView (Some session) parts line = (line ≡ spaced (codes "pinned" ∷ (decimal session ∷ parts))) × IsNumber session
 
 -- a view whose text is the rest of its line; an empty one may stand there or not
-abbrev pub IsViewWith : Option ℕ → List ℕ → List ℕ → List ℕ → Type 0
-IsViewWith session word text line =
-    (IsView session (word ∷ (text ∷ [])) line × IsUtf8 text) ⊎ (IsView session (word ∷ []) line × (text ≡ []))
+abbrev pub IsViewWith : Option ℕ → List (List ℕ) → List ℕ → List ℕ → List ℕ → Type 0
+IsViewWith session front word text line =
+    (IsView session (front ++ (word ∷ (text ∷ []))) line × IsUtf8 text) ⊎ (IsView session (front ++ (word ∷ [])) line × (text ≡ []))
+
+-- the part that names the file that a list is over, if it is over one
+abbrev pub file_parts : Option (List ℕ) → List (List ℕ)
+file_parts None = []
+file_parts (Some name) = (codes "file=" ++ name) ∷ []
+
+-- its name is one
+abbrev pub IsFileOf : Option (List ℕ) → Type 0
+IsFileOf None = Unit {0}
+IsFileOf (Some name) = IsName name
 
 -- keywords: one part, with bars between; none without a keyword
 abbrev pub keyword_parts : List (List ℕ) → List (List ℕ)
@@ -70,6 +82,11 @@ AreKeywords keywords = All (IsApart 124) keywords × All (λ b. b ≢ 32) (parte
 abbrev pub AreNames : List (List ℕ) → Type 0
 AreNames names = All (IsApart 32) names × IsUtf8 (spaced names)
 
+-- the word of a profile
+abbrev pub profile_word : AnyProfile → List ℕ
+profile_word One = codes "1"
+profile_word Two = codes "2"
+
 -- the moment that two words spell, if they do
 abbrev pub IsAt : Option Moment → List ℕ → Type 0
 IsAt moment line = (date : List ℕ) × (time : List ℕ) × (line ≡ spaced (codes "at" ∷ (date ∷ (time ∷ [])))) × IsWord date × IsWord time × (moment ≡ moment_of (date_of date) (time_of time))
@@ -83,13 +100,14 @@ IsLineOf (Complete seen place keyword) line =
     (line ≡ spaced (codes "complete" ∷ (seen_parts seen ++ (decimal place ∷ (keyword ∷ []))))) × IsSeen seen × IsNumber place × IsWord keyword
 IsLineOf (Inherit names) line = (line ≡ spaced (codes "inherit" ∷ names)) × AreNames names
 IsLineOf (At moment) line = IsAt moment line
+IsLineOf (Profile profile) line = line ≡ spaced (codes "profile" ∷ (profile_word profile ∷ []))
 IsLineOf (Pin session) line = (line ≡ spaced (codes "pin" ∷ (decimal session ∷ []))) × IsNumber session
 IsLineOf (Unpin session) line = (line ≡ spaced (codes "unpin" ∷ (decimal session ∷ []))) × IsNumber session
 IsLineOf (Text name) line = (line ≡ spaced (codes "text" ∷ (name ∷ []))) × IsName name
-IsLineOf (Todo session keywords) line = IsView session (codes "todo" ∷ keyword_parts keywords) line × AreKeywords keywords
-IsLineOf (Match session text) line = IsViewWith session (codes "match") text line
+IsLineOf (Todo session file keywords) line = IsView session (file_parts file ++ (codes "todo" ∷ keyword_parts keywords)) line × AreKeywords keywords × IsFileOf file
+IsLineOf (Match session file text) line = IsViewWith session (file_parts file) (codes "match") text line × IsFileOf file
 IsLineOf (Agenda session date days) line = IsView session (codes "agenda" ∷ (date ∷ (decimal days ∷ []))) line × IsWord date × IsNumber days
-IsLineOf (Clock session text) line = IsViewWith session (codes "clock") text line
+IsLineOf (Clock session text) line = IsViewWith session [] (codes "clock") text line
 
 -- the line of a command before its payload of so many bytes
 abbrev pub IsFrameLine : Frame → ℕ → List ℕ → Type 0

@@ -1,13 +1,14 @@
 -- The commands of a stream of bytes (profile).
 -- Characters by their codes: 10 line feed, 32 space, 48 0, 57 9, 124 |.
-use Rattle.std.specs.Prelude.{◌≡◌, ℕ, ◌+◌, ◌-◌, ◌*◌, List, [], ◌∷◌, Bool, not, true, false, ◌&&◌, ◌==◌, ◌++◌, nat_lt, nat_le, Option, None, Some, IfSome, length, take, drop, codes, if◌then◌else◌}
+use Rattle.std.specs.Prelude.{◌≡◌, ℕ, ◌+◌, ◌-◌, ◌*◌, List, [], ◌∷◌, Bool, not, true, false, ◌&&◌, ◌==◌, ◌++◌, nat_eq, nat_lt, nat_le, Option, None, Some, IfSome, length, take, drop, codes, if◌then◌else◌}
 use Rattle.std.specs.Io.KnownBytes.{Consumes}
-use Rattle.std.specs.List.{list_all}
+use Rattle.std.specs.List.{list_all, starts_with}
 use Rattle.std.specs.Str.{bytes_eq, is_utf8}
 use Rattle.org_base.specs.FileName.{is_file_name}
 use Rattle.org_base.specs.declared.code.Code.TheVariants.{Memory, Long, Size, Cut, Device}
 use Rattle.org_base.specs.declared.code.Code.TheVariants as code
 use Rattle.org_base.specs.declared.fault.Fault.TheVariants.{Plain}
+use Rattle.org_base.specs.declared.profile.Profile.TheVariants.{One, Two}
 use Rattle.org_cal.specs.Texts.{date_of, time_of}
 use Rattle.org_cal.specs.declared.moment.Moment.{Moment}
 use Rattle.org_text.specs.Replace.{max_bytes}
@@ -15,7 +16,7 @@ use Rattle.org_wire.specs.Lines.{cut_at, longest}
 use Rattle.org_wire.specs.Lines as lines
 use Rattle.org_wire.specs.declared.words.TheConstants.{MOST_NUMBER}
 use Rattle.org_wire.specs.declared.command.Command.{Command}
-use Rattle.org_wire.specs.declared.command.Command.TheVariants.{Add, Agenda, At, Clock, Complete, Drop, Edit, Inherit, Match, Pin, Text, Todo, Unpin}
+use Rattle.org_wire.specs.declared.command.Command.TheVariants.{Add, Agenda, At, Clock, Complete, Drop, Edit, Inherit, Match, Pin, Profile, Text, Todo, Unpin}
 use Rattle.org_wire.specs.declared.command.Frame.{Frame}
 use Rattle.org_wire.specs.declared.command.Frame.TheVariants as frame
 use Rattle.org_wire.specs.declared.command.Seen.{Seen}
@@ -70,12 +71,12 @@ abbrev pub is_word : List ℕ → Bool
 is_word text = list_all (λ b. not (b == 32)) text
 
 -- `todo KW|KW`, from its first keyword on: one word, of keywords between bars
-abbrev pub todo_line : Option ℕ → List ℕ → Line
-todo_line session words = if is_utf8 words && is_word words && are_words 124 true words then Plainly (Todo session (words_from 124 [] words)) else Bad
+abbrev pub todo_line : Option ℕ → Option (List ℕ) → List ℕ → Line
+todo_line session file words = if is_utf8 words && is_word words && are_words 124 true words then Plainly (Todo session file (words_from 124 [] words)) else Bad
 
 -- `match EXPR`, whose expression is the rest of the line
-abbrev pub match_line : Option ℕ → List ℕ → Line
-match_line session text = if is_utf8 text then Plainly (Match session text) else Bad
+abbrev pub match_line : Option ℕ → Option (List ℕ) → List ℕ → Line
+match_line session file text = if is_utf8 text then Plainly (Match session file text) else Bad
 
 -- `clock OPTIONS`, whose options are the rest of the line
 abbrev pub clock_line : Option ℕ → List ℕ → Line
@@ -175,6 +176,12 @@ abbrev pub complete_line : Option (Seen × List ℕ) → Line
 complete_line None = Bad
 complete_line (Some seen) = complete_at seen.0 (first_number (cut_at 32 seen.1))
 
+-- `profile 1` or `profile 2`
+abbrev pub profile_line : List ℕ → Line
+profile_line word = if bytes_eq word (codes "1") then Plainly (Profile One)
+    else if bytes_eq word (codes "2") then Plainly (Profile Two)
+    else Bad
+
 -- `pin S`
 abbrev pub pin_line : Option ℕ → Line
 pin_line None = Bad
@@ -185,19 +192,37 @@ abbrev pub unpin_line : Option ℕ → Line
 unpin_line None = Bad
 unpin_line (Some session) = Plainly (Unpin session)
 
+-- a list with words behind it, over all files or over the one of a name
+abbrev pub list_words : Option ℕ → Option (List ℕ) → Option lines.Cut → Line
+list_words session file None = Bad
+list_words session file (Some cut) = if bytes_eq cut.before (codes "todo") then todo_line session file cut.after
+    else if bytes_eq cut.before (codes "match") then match_line session file cut.after
+    else Bad
+
+-- a list that is a word alone, or has words behind it
+abbrev pub list_line : Option ℕ → Option (List ℕ) → List ℕ → Line
+list_line session file line = if bytes_eq line (codes "todo") then Plainly (Todo session file [])
+    else if bytes_eq line (codes "match") then Plainly (Match session file [])
+    else list_words session file (cut_at 32 line)
+
+-- `file=NAME` and a list
+abbrev pub file_line : Option ℕ → List ℕ → List ℕ → Line
+file_line session name line = if is_name name then list_line session (Some name) line else Bad
+
 -- a view, of the current world or of one that a session keeps
 abbrev pub view_words : Option ℕ → Option lines.Cut → Line
 view_words session None = Bad
-view_words session (Some cut) = if bytes_eq cut.before (codes "todo") then todo_line session cut.after
-    else if bytes_eq cut.before (codes "match") then match_line session cut.after
+view_words session (Some cut) = if bytes_eq cut.before (codes "todo") then todo_line session None cut.after
+    else if bytes_eq cut.before (codes "match") then match_line session None cut.after
+    else if starts_with nat_eq cut.before (codes "file=") then file_line session (drop 5 cut.before) cut.after
     else if bytes_eq cut.before (codes "clock") then clock_line session cut.after
     else if bytes_eq cut.before (codes "agenda") then agenda_line session (cut_at 32 cut.after)
     else Bad
 
 -- a view that is a word alone, or has words behind it
 abbrev pub view_line : Option ℕ → List ℕ → Line
-view_line session line = if bytes_eq line (codes "todo") then Plainly (Todo session [])
-    else if bytes_eq line (codes "match") then Plainly (Match session [])
+view_line session line = if bytes_eq line (codes "todo") then Plainly (Todo session None [])
+    else if bytes_eq line (codes "match") then Plainly (Match session None [])
     else if bytes_eq line (codes "clock") then Plainly (Clock session [])
     else view_words session (cut_at 32 line)
 
@@ -216,6 +241,7 @@ words_line line (Some cut) = if bytes_eq cut.before (codes "edit") then edit_lin
     else if bytes_eq cut.before (codes "inherit") then inherit_line cut.after
     else if bytes_eq cut.before (codes "at") then at_line (cut_at 32 cut.after)
     else if bytes_eq cut.before (codes "add") then add_line (cut_at 32 cut.after)
+    else if bytes_eq cut.before (codes "profile") then profile_line cut.after
     else if bytes_eq cut.before (codes "pin") then pin_line (number_of cut.after)
     else if bytes_eq cut.before (codes "unpin") then unpin_line (number_of cut.after)
     else if bytes_eq cut.before (codes "pinned") then pinned_line (first_number (cut_at 32 cut.after))

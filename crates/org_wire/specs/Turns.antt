@@ -12,7 +12,7 @@ use Rattle.org_wire.specs.Devices.{AppendsTo}
 use Rattle.org_wire.specs.Replies.{fault_bytes}
 use Rattle.org_wire.specs.Run.{AnswersSo, Runs, out_of_memory, shown, written}
 use Rattle.org_wire.specs.declared.command.Command.{Command}
-use Rattle.org_wire.specs.declared.command.Command.TheVariants.{Add, Agenda, At, Clock, Complete, Drop, Edit, Inherit, Match, Pin, Text, Todo, Unpin}
+use Rattle.org_wire.specs.declared.command.Command.TheVariants.{Add, Agenda, At, Clock, Complete, Drop, Edit, Inherit, Match, Pin, Profile, Text, Todo, Unpin}
 use Rattle.org_wire.specs.declared.command.Next.{Next}
 use Rattle.org_wire.specs.declared.command.Next.TheVariants.{Given, Refused, Last, Ended}
 use Rattle.org_wire.specs.declared.reply.Reply.{Reply}
@@ -66,8 +66,8 @@ ServesView view session old answer new = IsViewServed view session old.state ans
 -- what a command may count: a view each section of the files that it is asked of, once as classified and once as read;
 -- completing a heading the sections of its file as classified, and one as read; all others nothing
 abbrev pub CountsFor : Command → EngineView → EngineView → Type 0
-CountsFor (Todo session words) old new = ReadsSomeAsked session old new
-CountsFor (Match session text) old new = ReadsSomeAsked session old new
+CountsFor (Todo session file words) old new = ReadsSomeAsked session old new
+CountsFor (Match session file text) old new = ReadsSomeAsked session old new
 CountsFor (Agenda session date days) old new = ReadsSomeAsked session old new
 CountsFor (Clock session text) old new = ReadsSomeAsked session old new
 CountsFor (Complete seen line keyword) old new = ReadsAtMostOne seen.name old new
@@ -76,6 +76,7 @@ CountsFor (Drop name) old new = new.counts ≡ old.counts
 CountsFor (Edit seen at del ins) old new = new.counts ≡ old.counts
 CountsFor (Inherit names) old new = new.counts ≡ old.counts
 CountsFor (At moment) old new = new.counts ≡ old.counts
+CountsFor (Profile profile) old new = new.counts ≡ old.counts
 CountsFor (Pin session) old new = new.counts ≡ old.counts
 CountsFor (Unpin session) old new = new.counts ≡ old.counts
 CountsFor (Text name) old new = new.counts ≡ old.counts

@@ -3,7 +3,7 @@ ghost use Rattle.std.specs.Prelude.{◌≡◌};
 ghost use Rattle.org_wire.specs.Stream.{framed};
 
 use crate::line_text::LineText;
-use org_base::{Bytes, Fault, Name, Texts};
+use org_base::{Bytes, Fault, Name, Profile, Texts};
 use org_cal::Moment;
 
 /// What a session saw of a file before it changes it: the file's name, and the serial of its text.
@@ -32,16 +32,19 @@ pub enum Command {
     Inherit(Texts),
     /// `at DATE TIME`: asks for views at another moment from now on; None where these spell none.
     At(Option<Moment>),
+    /// `profile 1` or `profile 2`: follows a profile in agendas from now on.
+    Profile(Profile),
     /// `pin S`: keeps the world for a session.
     Pin(u64),
     /// `unpin S`: lets go of what a session keeps.
     Unpin(u64),
     /// `text NAME`: asks for a file's text.
     Text(Name),
-    /// `todo` or `todo KW|KW`: asks for the TODO list of these keywords; of none, of those that aren't done.
-    Todo(Option<u64>, Texts),
+    /// `todo` or `todo KW|KW`, perhaps with `file=NAME` in front: asks for the TODO list of these keywords; of none, of those
+    /// that aren't done.
+    Todo(Option<u64>, Option<Name>, Texts),
     /// `match EXPR`: asks for the match list of an expression, which is the rest of the line and may be empty.
-    Match(Option<u64>, LineText),
+    Match(Option<u64>, Option<Name>, LineText),
     /// `agenda DATE DAYS`: asks for the agenda of so many days from a date on.
     Agenda(Option<u64>, Name, u64),
     /// `clock OPTIONS`: asks for the clock table of options, which are the rest of the line and may be empty.

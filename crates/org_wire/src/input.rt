@@ -4,7 +4,7 @@ ghost use Rattle.org_base.specs.Codes.{memory_fault};
 
 use crate::command::{Command, Frame, Next, framed};
 use crate::counted::Counted;
-use crate::frames::{add_frame, complete_command, edit_frame};
+use crate::frames::{add_frame, complete_command, edit_frame, match_command, todo_command};
 use crate::line::LineBuffer;
 use crate::line_text::LineText;
 use crate::names::words_in;
@@ -274,20 +274,25 @@ impl<'a, R: Read> Input<'a, R> {
                 Err(_) => Next::Refused(Fault::Plain(Code::Memory)),
             },
             Parsed::At(moment) => Next::Given(Command::At(moment)),
+            Parsed::Profile(profile) => Next::Given(Command::Profile(profile)),
             Parsed::Pin(session) => Next::Given(Command::Pin(session)),
             Parsed::Unpin(session) => Next::Given(Command::Unpin(session)),
             Parsed::Text(name) => match Name::new(self.alloc, name) {
                 Ok(name) => Next::Given(Command::Text(name)),
                 Err(_) => Next::Refused(Fault::Plain(Code::Memory)),
             },
-            Parsed::Todo(session, words) => match words_in(self.alloc, b'|', words) {
-                Ok(words) => Next::Given(Command::Todo(session, words)),
-                Err(_) => Next::Refused(Fault::Plain(Code::Memory)),
-            },
-            Parsed::Match(session, text) => match LineText::new(self.alloc, text) {
-                Ok(text) => Next::Given(Command::Match(session, text)),
-                Err(_) => Next::Refused(Fault::Plain(Code::Memory)),
-            },
+            Parsed::Todo(session, file, words) => {
+                match todo_command(self.alloc, session, file, words) {
+                    Ok(command) => Next::Given(command),
+                    Err(_) => Next::Refused(Fault::Plain(Code::Memory)),
+                }
+            }
+            Parsed::Match(session, file, text) => {
+                match match_command(self.alloc, session, file, text) {
+                    Ok(command) => Next::Given(command),
+                    Err(_) => Next::Refused(Fault::Plain(Code::Memory)),
+                }
+            }
             Parsed::Clock(session, text) => match LineText::new(self.alloc, text) {
                 Ok(text) => Next::Given(Command::Clock(session, text)),
                 Err(_) => Next::Refused(Fault::Plain(Code::Memory)),

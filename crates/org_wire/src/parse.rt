@@ -1,12 +1,14 @@
 //! What a line says, read without memory.
 ghost use Rattle.std.specs.Prelude.{◌≡◌, length};
+ghost use Rattle.std.specs.Option.{option_copied};
 ghost use Rattle.org_wire.specs.Lines.{cut_at};
-ghost use Rattle.org_wire.specs.Stream.{add_line, agenda_line, at_line, clock_line, complete_line, drop_line, edit_line, first_number, inherit_line, line_of, match_line, number_of, pin_line, pinned_line, seen_of, text_line, todo_line, unpin_line, view_line};
+ghost use Rattle.org_wire.specs.Stream.{add_line, agenda_line, at_line, clock_line, complete_line, drop_line, edit_line, file_line, first_number, inherit_line, line_of, list_line, match_line, number_of, pin_line, pinned_line, profile_line, seen_of, text_line, todo_line, unpin_line, view_line};
 ghost use Rattle.org_wire.specs.Parsed.{IsWithin, said};
 
 use crate::words::{
     SeenWords, are_words, cut, first_number, is_utf8, is_word, moment, name, number, one_word, seen,
 };
+use org_base::Profile;
 use org_cal::Moment;
 
 // What a line says. A view has a session where it is asked of what that one keeps.
@@ -15,9 +17,9 @@ pub(crate) enum Parsed<'a> {
     // No command.
     Bad,
     // The keywords of a TODO list, with one bar between them; None without one.
-    Todo(Option<u64>, Option<&'a [u8]>),
+    Todo(Option<u64>, Option<&'a str>, Option<&'a [u8]>),
     // The text of an expression.
-    Match(Option<u64>, &'a str),
+    Match(Option<u64>, Option<&'a str>, &'a str),
     // The text of a clock table's options.
     Clock(Option<u64>, &'a str),
     // A date and a number of days.
@@ -29,6 +31,7 @@ pub(crate) enum Parsed<'a> {
     Inherit(Option<&'a [u8]>),
     // A moment, if the words spell one.
     At(Option<Moment>),
+    Profile(Profile),
     Pin(u64),
     Unpin(u64),
     Text(&'a str),
@@ -71,6 +74,9 @@ pub(crate) fn parse_line(line: &[u8]) -> Parsed<'_>
     if word == b"add".as_slice() {
         return parse_add(rest);
     }
+    if word == b"profile".as_slice() {
+        return parse_profile(rest);
+    }
     if word == b"pin".as_slice() {
         return parse_pin(rest);
     }
@@ -89,10 +95,10 @@ fn parse_view(session: Option<u64>, line: &[u8]) -> Parsed<'_>
     ensures within { IsWithin (length line.now) result }
 {
     if line == b"todo".as_slice() {
-        return Parsed::Todo(session, None);
+        return Parsed::Todo(session, None, None);
     }
     if line == b"match".as_slice() {
-        return Parsed::Match(session, "");
+        return Parsed::Match(session, None, "");
     }
     if line == b"clock".as_slice() {
         return Parsed::Clock(session, "");
@@ -101,10 +107,13 @@ fn parse_view(session: Option<u64>, line: &[u8]) -> Parsed<'_>
         return Parsed::Bad;
     };
     if word == b"todo".as_slice() {
-        return parse_todo(session, rest);
+        return parse_todo(session, None, rest);
     }
     if word == b"match".as_slice() {
-        return parse_match(session, rest);
+        return parse_match(session, None, rest);
+    }
+    if word.starts_with(b"file=") {
+        return parse_file(session, &word[5..], rest);
     }
     if word == b"clock".as_slice() {
         return parse_clock(session, rest);
@@ -115,25 +124,59 @@ fn parse_view(session: Option<u64>, line: &[u8]) -> Parsed<'_>
     Parsed::Bad
 }
 
+// What stands behind `file=NAME`.
+fn parse_file<'a>(session: Option<u64>, wanted: &'a [u8], rest: &'a [u8]) -> Parsed<'a>
+    ensures value { file_line session wanted.now rest.now ≡ said result }
+    ensures within { IsWithin (length rest.now) result }
+{
+    match name(wanted) {
+        Some(file) => parse_list(session, Some(file), rest),
+        None => Parsed::Bad,
+    }
+}
+
+// The list that a line asks for.
+fn parse_list<'a>(session: Option<u64>, file: Option<&'a str>, line: &'a [u8]) -> Parsed<'a>
+    ensures value { list_line session (option_copied file.entry) line.now ≡ said result }
+    ensures within { IsWithin (length line.now) result }
+{
+    if line == b"todo".as_slice() {
+        return Parsed::Todo(session, file, None);
+    }
+    if line == b"match".as_slice() {
+        return Parsed::Match(session, file, "");
+    }
+    let Some((word, rest)) = cut(line, b' ') else {
+        return Parsed::Bad;
+    };
+    if word == b"todo".as_slice() {
+        return parse_todo(session, file, rest);
+    }
+    if word == b"match".as_slice() {
+        return parse_match(session, file, rest);
+    }
+    Parsed::Bad
+}
+
 // What stands behind `todo`.
-fn parse_todo(session: Option<u64>, rest: &[u8]) -> Parsed<'_>
-    ensures value { todo_line session rest.now ≡ said result }
+fn parse_todo<'a>(session: Option<u64>, file: Option<&'a str>, rest: &'a [u8]) -> Parsed<'a>
+    ensures value { todo_line session (option_copied file.entry) rest.now ≡ said result }
     ensures within { IsWithin (length rest.now) result }
 {
     if is_utf8(rest) && is_word(rest) && are_words(b'|', rest) {
-        Parsed::Todo(session, Some(rest))
+        Parsed::Todo(session, file, Some(rest))
     } else {
         Parsed::Bad
     }
 }
 
 // What stands behind `match`.
-fn parse_match(session: Option<u64>, rest: &[u8]) -> Parsed<'_>
-    ensures value { match_line session rest.now ≡ said result }
+fn parse_match<'a>(session: Option<u64>, file: Option<&'a str>, rest: &'a [u8]) -> Parsed<'a>
+    ensures value { match_line session (option_copied file.entry) rest.now ≡ said result }
     ensures within { IsWithin (length rest.now) result }
 {
     match str::from_utf8(rest) {
-        Ok(text) => Parsed::Match(session, text),
+        Ok(text) => Parsed::Match(session, file, text),
         Err(_) => Parsed::Bad,
     }
 }
@@ -195,6 +238,20 @@ fn parse_complete(rest: &[u8]) -> Parsed<'_>
         Some(keyword) => Parsed::Complete(seen, line, keyword),
         None => Parsed::Bad,
     }
+}
+
+// What stands behind `profile`.
+fn parse_profile(rest: &[u8]) -> Parsed<'_>
+    ensures value { profile_line rest.now ≡ said result }
+    ensures within { IsWithin (length rest.now) result }
+{
+    if rest == b"1".as_slice() {
+        return Parsed::Profile(Profile::One);
+    }
+    if rest == b"2".as_slice() {
+        return Parsed::Profile(Profile::Two);
+    }
+    Parsed::Bad
 }
 
 // What stands behind `pin`.

@@ -1,5 +1,6 @@
 //! The engine's answers as replies, and its background steps.
 ghost use Rattle.std.specs.Prelude.{◌≡◌};
+ghost use Rattle.std.specs.Option.{option_copied};
 ghost use Rattle.org_engine.specs.Questions.{IsShort};
 ghost use Rattle.org_engine.specs.Sections.{ReadsSomeAsked};
 ghost use Rattle.org_wire.specs.Run.{moment_command};
@@ -8,7 +9,7 @@ ghost use Rattle.org_wire.specs.declared.command.Command.TheVariants.{Complete, 
 
 use crate::command::{Command, Seen};
 use crate::reply::Reply;
-use org_base::{Bytes, Code, Fault};
+use org_base::{Bytes, Code, Fault, Name};
 use org_cal::Moment;
 use org_engine::{Engine, View};
 use org_text::Text;
@@ -27,15 +28,30 @@ pub(crate) fn serve<T: Text>(engine: &mut Engine<T>, command: Command) -> Reply
         }
         Command::Inherit(names) => Reply::Serial(engine.set_inherit(names)),
         Command::At(moment) => set_moment(engine, moment),
+        Command::Profile(profile) => told(engine.set_profile(profile)),
         Command::Pin(session) => told(engine.pin(session)),
         Command::Unpin(session) => told(engine.unpin(session)),
         Command::Text(name) => told_text(engine.text_of(name.as_str())),
-        Command::Todo(session, words) => ask(engine, View::Todo(&words), session),
-        Command::Match(session, text) => ask(engine, View::Match(text.as_str()), session),
+        Command::Todo(session, file, words) => {
+            ask(engine, View::Todo(name_in(&file), &words), session)
+        }
+        Command::Match(session, file, text) => {
+            ask(engine, View::Match(name_in(&file), text.as_str()), session)
+        }
         Command::Agenda(session, date, days) => {
             ask(engine, View::Agenda(date.as_str(), days), session)
         }
         Command::Clock(session, text) => ask(engine, View::Clock(text.as_str()), session),
+    }
+}
+
+// A name, lent.
+fn name_in(file: &Option<Name>) -> Option<&str>
+    ensures value { option_copied result ≡ file.now }
+{
+    match file {
+        Some(name) => Some(name.as_str()),
+        None => None,
     }
 }
 

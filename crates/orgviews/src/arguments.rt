@@ -1,6 +1,9 @@
 //! The program's arguments.
+ghost use Rattle.std.specs.Prelude.{◌≡◌, ◌==◌, if◌then◌else◌};
+ghost use Rattle.org_base.specs.declared.profile.Profile.TheVariants.{One, Two};
 
 use clap::{Arg, ArgAction, Command, value_parser};
+use org_base::Profile;
 use org_cal::Moment;
 use std::alloc::{AllocError, Global};
 
@@ -19,6 +22,13 @@ pub fn command<'a>(alloc: Global) -> Result<Command<'a>, AllocError> {
         .value_parser(value_parser!(u64).range(0..=1000))
         .default_value("0")
         .action(ArgAction::Set);
+    let profile = Arg::new(alloc, "profile")
+        .long("profile")
+        .value_name("N")
+        .help("The profile that agendas follow, 1 or 2")
+        .value_parser(value_parser!(u64).range(1..=2))
+        .default_value("1")
+        .action(ArgAction::Set);
     let files = Arg::new(alloc, "FILE")
         .help("Org files, added under these names before the first command")
         .num_args(0..)
@@ -29,7 +39,19 @@ pub fn command<'a>(alloc: Global) -> Result<Command<'a>, AllocError> {
         )
         .arg(at)?
         .arg(idle)?
+        .arg(profile)?
         .arg(files)
+}
+
+/// The profile of a number: the second of 2, and else the first.
+pub fn profile(number: u64) -> Profile
+    ensures value { result ≡ (if number == 2 then Two else One) }
+{
+    if number == 2 {
+        Profile::Two
+    } else {
+        Profile::One
+    }
 }
 
 /// The moment that a text spells: a date, one space and a time.

@@ -4,10 +4,12 @@
 mod arguments;
 mod exit;
 mod load;
+mod new_engine;
 
-use crate::arguments::{command, moment};
+use crate::arguments::{command, moment, profile};
 use crate::exit::{BAD_ARGUMENTS, BAD_FILE, exit_of};
 use crate::load::load;
+use crate::new_engine::new_engine;
 use org_engine::Engine;
 use org_pieces::Pieces;
 use org_wire::{Counted, End, run};
@@ -43,7 +45,8 @@ fn start<R: AllocGlobal + Files + Input + Print + Eprint>(rt: &R, words: &[Strin
         let _ = eprintln!(rt; "orgviews: date");
         return BAD_ARGUMENTS;
     };
-    let mut engine: Engine<Pieces> = Engine::new(rt.alloc(), moment, 0);
+    let profile = profile(matches.get_one::<u64>("profile").unwrap_or(1));
+    let mut engine: Engine<Pieces> = new_engine(rt.alloc(), moment, profile);
     if let Some(paths) = matches.get_strs("FILE") {
         for path in paths {
             if !is_loaded(rt, &mut engine, path) {

@@ -1,3 +1,4 @@
+use Rattle.std.specs.Option.{option_copied}
 use Rattle.std.proofs.Common.{◌≡◌, ap, refl, subst}
 use Rattle.org_engine.specs.Questions.{AsksMatch, AsksOf, AsksTable, asked_agenda}
 use Rattle.org_engine.specs.Step as step
@@ -40,6 +41,12 @@ returns-in-At g c = record {
   counts = rw c.in-At.is c.set_moment.ensures.counts;
 }
 
+pub returns-in-Profile : goal.returns-in-Profile
+returns-in-Profile g c = record {
+  value = rw (c.in-Profile.is, c.told-in-Profile.ensures.value) (tells_surely _ _ _ _ refl _ c.set_profile.ensures.ok c.set_profile.ensures.err);
+  counts = rw c.in-Profile.is c.set_profile.ensures.counts;
+}
+
 pub returns-in-Pin : goal.returns-in-Pin
 returns-in-Pin g c = record {
   value = rw (c.in-Pin.is, c.told-in-Pin.ensures.value) (tells _ _ _ _ refl _ c.pin.ensures.ok c.pin.ensures.err);
@@ -59,17 +66,26 @@ returns-in-Text g c = record {
 }
 
 pub returns-in-Todo : goal.returns-in-Todo
-returns-in-Todo g c = record {
-  value = rw c.in-Todo.is (shows _ _ _ _ _ c.ask.result (λ question asks. (question, asks, refl)) c.ask.ensures.value);
-  counts = rw c.in-Todo.is c.ask.ensures.counts;
-}
+returns-in-Todo g c =
+    let s = c.args.engine.now.state in
+    record {
+      value = rw c.in-Todo.is (shows _ _ _ _ _ c.ask.result
+          (λ question asks. (question, subst (λ f. AsksOf (λ today q. q ≡ step.TodoList f c.in-Todo.words) (step.world_asked c.in-Todo.session s.world s.pins) question) c.name_in.ensures.value asks, refl)) c.ask.ensures.value);
+      counts = rw c.in-Todo.is c.ask.ensures.counts;
+    }
 
 pub returns-in-Match : goal.returns-in-Match
 returns-in-Match g c =
     let s = c.args.engine.now.state in
+    let asked = step.world_asked c.in-Match.session s.world s.pins in
     record {
       value = rw c.in-Match.is (shows _ _ _ _ _ c.ask-in-Match.result
-          (λ question asks. (question, subst (λ t. AsksOf (λ today q. AsksMatch t q) (step.world_asked c.in-Match.session s.world s.pins) question) c.as_str-in-Match.ensures.value asks, refl)) c.ask-in-Match.ensures.value);
+          (λ question asks. (
+            question,
+            subst (λ f. AsksOf (λ today q. AsksMatch f c.in-Match.text q) asked question) c.name_in-in-Match.ensures.value
+                (subst (λ t. AsksOf (λ today q. AsksMatch (option_copied c.name_in-in-Match.result) t q) asked question) c.as_str-in-Match.ensures.value asks),
+            refl,
+          )) c.ask-in-Match.ensures.value);
       counts = rw c.in-Match.is c.ask-in-Match.ensures.counts;
     }
 

@@ -1,0 +1,147 @@
+-- No list and no agenda shows a hidden heading.
+use Rattle.std.proofs.Common.{◌≡◌, ◌∙◌, ◌+◌, ℕ, zero, suc, Bool, true, false, List, [], ◌∷◌, ◌++◌, map, refl, sym, ap, subst, arith, inl, inr}
+use Rattle.std.specs.Prelude.{if◌then◌else◌, nat_lt, Option, None, Some, slice_get}
+use Rattle.std.specs.List.{All}
+use Rattle.std.proofs.lemmas.Bool.{cases_Bool}
+use Rattle.std.proofs.lemmas.List.Elements.{All-append, All-cons, All-head, All-map, All-nil, All-tail, All-weaker}
+use Rattle.org_base.specs.declared.span.Span.{Span}
+use Rattle.org_drawer.specs.declared.planning.Planning.{Planning}
+use Rattle.org_entry.specs.Planning.{entry_planning}
+use Rattle.org_entry.specs.declared.entry.Entry.{Entry}
+use Rattle.org_head.specs.declared.head.Head.{Head}
+use Rattle.org_inherit.specs.Hidden.{is_hidden}
+use Rattle.org_inherit.specs.Scope.{Scope}
+use Rattle.org_stamp.specs.declared.stamp.Found.{Found}
+use Rattle.org_stamp.specs.declared.stamp.Stamp.{Stamp}
+use Rattle.org_agenda.specs.Kept.{HiddenGiveNoStamps, HiddenStandNowhere, IsInSight}
+use Rattle.org_agenda.specs.Lists.{Listing, Ranked, file_rows, head_rows, in_order, is_listed, is_over, list_rows, over_rows, ranked_row, rows_from, scope_rows}
+use Rattle.org_agenda.specs.Order.{by_key}
+use Rattle.org_agenda.specs.Sources.{entry_sources, file_sources, head_sources, owner_of, plain_sources, put, source_at, sources_from, sources_of, with_line, with_planned, with_planning}
+use Rattle.org_agenda.specs.declared.lists.TheConstants.{PRIORITIES}
+use Rattle.org_agenda.specs.declared.row.Row.{Row}
+use Rattle.org_agenda.specs.declared.source.Owner.{Owner}
+use Rattle.org_agenda.specs.declared.source.Role.{Role}
+use Rattle.org_agenda.specs.declared.source.Role.TheVariants.{Plain, Scheduled, Deadline}
+use Rattle.org_agenda.specs.declared.source.Source.{Source}
+use Rattle.org_agenda.proofs.DayLemmas.{all_by}
+
+-- a heading of the file at a place, which isn't hidden there
+abbrev IsOf : Scope → ℕ → ℕ → ℕ → Type 0
+IsOf scope file at heading = (at ≡ file) × (is_hidden scope.entries heading ≡ false)
+
+-- so far the places of files are those of all
+abbrev AreFrom : List Scope → ℕ → List Scope → Type 0
+AreFrom all file scopes = (k : ℕ) → slice_get all (file + k) ≡ slice_get scopes k
+
+from_next : (all : List Scope) (file : ℕ) (scope : Scope) (scopes : List Scope) → AreFrom all file (scope ∷ scopes) → AreFrom all (file + 1) scopes
+from_next all file scope scopes are k = ap (slice_get all) (omega arith) ∙ are (suc k)
+
+in_sight : (all : List Scope) (file at heading : ℕ) (scope : Scope) (scopes : List Scope) → AreFrom all file (scope ∷ scopes) → IsOf scope file at heading → IsInSight all at heading
+in_sight all file at heading scope scopes are is found there =
+    let here : slice_get all file ≡ Some scope = ap (slice_get all) (omega arith) ∙ are zero in
+    let same : Some found ≡ Some scope = sym there ∙ ap (slice_get all) is.0 ∙ here in
+    let one : found ≡ scope = cc in
+    ap (λ (s : Scope). is_hidden s.entries heading) one ∙ is.1
+
+-- rows of lists
+module _ (listing : Listing) (scope : Scope) (file : ℕ) where
+  abbrev OfFile : Ranked → Type 0
+  OfFile r = IsOf scope file r.row.file r.row.heading
+
+  head_shown : (i : ℕ) (e : Entry) (head : Option Head) → All OfFile (head_rows listing scope file i e head)
+  head_shown i e None = All-nil OfFile
+  head_shown i e (Some head) = elim (cases_Bool (is_hidden scope.entries i)) [
+    | inl yes' ↦ rw yes' (All-nil OfFile)
+    | inr no' ↦ elim (cases_Bool (is_listed listing scope i e head)) [
+      | inl listed ↦ rw (no', listed) (All-cons OfFile (ranked_row scope file i e head) [] (refl, no') (All-nil OfFile))
+      | inr not' ↦ rw (no', not') (All-nil OfFile)
+    ]
+  ]
+
+  rows_shown : (i : ℕ) (es : List Entry) → All OfFile (rows_from listing scope file i es)
+  rows_shown i [] = All-nil OfFile
+  rows_shown i (e ∷ es) = All-append OfFile (head_rows listing scope file i e e.head) (rows_from listing scope file (i + 1) es) (head_shown i e e.head) (rows_shown (i + 1) es)
+
+  over_shown : (over : Option ℕ) → All OfFile (over_rows listing over scope file)
+  over_shown over = elim (cases_Bool (is_over over file)) [
+    | inl yes' ↦ rw yes' (rows_shown 0 scope.entries)
+    | inr no' ↦ rw no' (All-nil OfFile)
+  ]
+
+abbrev RowInSight : List Scope → Ranked → Type 0
+RowInSight all r = IsInSight all r.row.file r.row.heading
+
+files_shown : (listing : Listing) (over : Option ℕ) (all : List Scope) (file : ℕ) (scopes : List Scope) → AreFrom all file scopes → All (RowInSight all) (file_rows listing over file scopes)
+files_shown listing over all file [] are = All-nil (RowInSight all)
+files_shown listing over all file (scope ∷ scopes) are =
+    All-append (RowInSight all) (over_rows listing over scope file) (file_rows listing over (file + 1) scopes)
+    (All-weaker (OfFile listing scope file) (RowInSight all) (λ r is. in_sight all file r.row.file r.row.heading scope scopes are is) (over_rows listing over scope file) (over_shown listing scope file over))
+    (files_shown listing over all (file + 1) scopes (from_next all file scope scopes are))
+
+pub stand_nowhere : HiddenStandNowhere
+unfolding list_rows
+stand_nowhere listing over scopes =
+    let came : List Ranked = file_rows listing over 0 scopes in
+    All-map (λ (row : Row). IsInSight scopes row.file row.heading) (λ (r : Ranked). r.row) (by_key (λ (r : Ranked). r.priority) PRIORITIES came)
+    (all_by (RowInSight scopes) (λ (r : Ranked). r.priority) PRIORITIES came (files_shown listing over scopes 0 scopes (λ k. ap (slice_get scopes) (omega arith))))
+
+-- stamps of agendas
+abbrev IsOwn : Owner → Source → Type 0
+IsOwn owner s = s.owner ≡ owner
+
+put_own : (owner : Owner) (s : Source) (ts : List Source) → IsOwn owner s → All (IsOwn owner) ts → All (IsOwn owner) (put s ts)
+put_own owner s [] is all = All-cons (IsOwn owner) s [] is all
+put_own owner s (t ∷ ts) is all = elim (cases_Bool (nat_lt s.stamp_at t.stamp_at)) [
+  | inl yes' ↦ rw yes' (All-cons (IsOwn owner) s (t ∷ ts) is all)
+  | inr no' ↦ rw no' (All-cons (IsOwn owner) t (put s ts) (All-head (IsOwn owner) t ts all) (put_own owner s ts is (All-tail (IsOwn owner) t ts all)))
+]
+
+kept_own : (owner : Owner) (s : Source) (ss : List Source) (active : Bool) → IsOwn owner s → All (IsOwn owner) ss → All (IsOwn owner) (if active then put s ss else ss)
+kept_own owner s ss true is all = put_own owner s ss is all
+kept_own owner s ss false is all = all
+
+planned_own : (owner : Owner) (role : Role) (o : Option (Stamp × Span)) (ss : List Source) → All (IsOwn owner) ss → All (IsOwn owner) (with_planned owner role o ss)
+planned_own owner role None ss all = all
+planned_own owner role (Some found) ss all = kept_own owner (source_at owner role found.1.at found.0) ss found.0.active refl all
+
+line_own : (owner : Owner) (o : Option Planning) (ss : List Source) → All (IsOwn owner) ss → All (IsOwn owner) (with_planning owner o ss)
+line_own owner None ss all = all
+line_own owner (Some planning) ss all =
+    planned_own owner Deadline planning.deadline (with_planned owner Scheduled planning.scheduled ss) (planned_own owner Scheduled planning.scheduled ss all)
+
+plain_own : (owner : Owner) (stamps : List Found) → All (IsOwn owner) (plain_sources owner stamps)
+plain_own owner [] = All-nil (IsOwn owner)
+plain_own owner (f ∷ fs) = All-cons (IsOwn owner) (source_at owner Plain f.at f.stamp) (plain_sources owner fs) refl (plain_own owner fs)
+
+module _ (scope : Scope) (file : ℕ) where
+  abbrev StampOf : Source → Type 0
+  StampOf s = IsOf scope file s.owner.file s.owner.heading
+
+  own_stamp : (i : ℕ) (e : Entry) (head : Head) (s : Source) → is_hidden scope.entries i ≡ false → IsOwn (owner_of scope file i e head) s → StampOf s
+  own_stamp i e head s shown is = (ap (λ (o : Owner). o.file) is, ap (λ (o : Owner). is_hidden scope.entries o.heading) is ∙ shown)
+
+  stamps_of_head : (i : ℕ) (e : Entry) (head : Option Head) → All StampOf (head_sources scope file i e head)
+  stamps_of_head i e None = All-nil StampOf
+  stamps_of_head i e (Some head) = elim (cases_Bool (is_hidden scope.entries i)) [
+    | inl yes' ↦ rw yes' (All-nil StampOf)
+    | inr no' ↦
+        let owner : Owner = owner_of scope file i e head in
+        rw no' (All-weaker (IsOwn owner) StampOf (λ s is. own_stamp i e head s no' is) (entry_sources owner e) (line_own owner (entry_planning e) (plain_sources owner e.details.stamps) (plain_own owner e.details.stamps)))
+  ]
+
+  stamps_from : (i : ℕ) (es : List Entry) → All StampOf (sources_from scope file i es)
+  stamps_from i [] = All-nil StampOf
+  stamps_from i (e ∷ es) = All-append StampOf (head_sources scope file i e e.head) (sources_from scope file (i + 1) es) (stamps_of_head i e e.head) (stamps_from (i + 1) es)
+
+abbrev StampInSight : List Scope → Source → Type 0
+StampInSight all s = IsInSight all s.owner.file s.owner.heading
+
+stamps_of_files : (all : List Scope) (file : ℕ) (scopes : List Scope) → AreFrom all file scopes → All (StampInSight all) (sources_of file scopes)
+stamps_of_files all file [] are = All-nil (StampInSight all)
+stamps_of_files all file (scope ∷ scopes) are =
+    All-append (StampInSight all) (file_sources scope file) (sources_of (file + 1) scopes)
+    (All-weaker (StampOf scope file) (StampInSight all) (λ s is. in_sight all file s.owner.file s.owner.heading scope scopes are is) (file_sources scope file) (stamps_from scope file 0 scope.entries))
+    (stamps_of_files all (file + 1) scopes (from_next all file scope scopes are))
+
+pub give_no_stamps : HiddenGiveNoStamps
+give_no_stamps scopes = stamps_of_files scopes 0 scopes (λ k. ap (slice_get scopes) (omega arith))

@@ -1,0 +1,198 @@
+-- Headings in order, and the stamps of each.
+use Rattle.std.proofs.Common.{◌≡◌, ◌∙◌, ◌⊎◌, ℕ, zero, suc, ◌+◌, ◌<◌, ◌≤◌, Bool, true, false, List, [], ◌∷◌, ◌++◌, inl, inr, length, drop, get_or, cond, sym, ap, ap₂, refl, subst, arith, append-nil, append_assoc, true≢false}
+use Rattle.std.specs.Prelude.{Option, None, Some, filter, slice_get, slice_index_or, nat_le, nat_eq, ◌&&◌}
+use Rattle.std.specs.List.{AllByRecursion, flat_map, list_any, range_with_len}
+use Rattle.std.specs.List.Sorted.{IsStrictlySortedBy}
+use Rattle.std.specs.BTreeMap.{is_at}
+use Rattle.std.specs.BTreeMap.Range.{range_contains}
+use Rattle.std.specs.declared.cmp.Ordering.TheVariants.{Less}
+use Rattle.std.specs.declared.ops.Bound.TheVariants.{Included, Excluded}
+use Rattle.std.proofs.lemmas.Bool.{cases_Bool, cases_lt, or_cases}
+use Rattle.std.proofs.lemmas.Bool.Decides.{nat_tests}
+use Rattle.std.proofs.lemmas.List.{drop_more, drop_all}
+use Rattle.std.proofs.lemmas.Option.{get_or_from_slice_get, slice_get_read}
+use Rattle.std.proofs.lemmas.List.Concat.{flat_map-cons}
+use Rattle.org_base.specs.declared.profile.Profile.{Profile}
+use Rattle.org_entry.specs.declared.entry.Entry.{Entry}
+use Rattle.org_index.specs.Lane.{spot_cmp}
+use Rattle.org_index.proofs.SpotLemmas.{at_spot, on_days}
+use Rattle.org_inherit.specs.Scope.{Scope}
+use Rattle.org_agenda.specs.Indexed.{headings_of, near_in, sources_if}
+use Rattle.org_agenda.specs.Near.{is_near, near_sources}
+use Rattle.org_agenda.specs.Sources.{file_sources, sources_at, sources_from, sources_of}
+use Rattle.org_agenda.specs.declared.source.Source.{Source}
+
+-- each is at least the number, and more than the one before
+abbrev pub Ascend : ℕ → List ℕ → Type 0
+Ascend from [] = Unit {0}
+Ascend from (h ∷ hs) = (from ≤ h) × Ascend (h + 1) hs
+
+abbrev pub Among : ℕ → List ℕ → Type 0
+Among j [] = ⊥
+Among j (h ∷ hs) = (j ≡ h) ⊎ Among j hs
+
+above : (from : ℕ) (hs : List ℕ) (j : ℕ) → Ascend from hs → Among j hs → from ≤ j
+above from [] j up at = absurd at
+above from (h ∷ hs) j up at = elim at [
+  | inl e ↦ omega (arith, e, up.0)
+  | inr more ↦ let later : h + 1 ≤ j = above (h + 1) hs j up.1 more in omega (arith, later, up.0)
+]
+
+wider : (a b : ℕ) (hs : List ℕ) → a ≤ b → Ascend b hs → Ascend a hs
+wider a b [] le up = tt
+wider a b (h ∷ hs) le up = (omega (arith, le, up.0), up.1)
+
+module _ {X : Type 0} (g : ℕ → List X) where
+  -- past the end there is nothing
+  nothing_past : (hs : List ℕ) (i : ℕ) → Ascend i hs → ((j : ℕ) → i ≤ j → g j ≡ []) → flat_map g hs ≡ []
+  nothing_past [] i up past = refl
+  nothing_past (h ∷ hs) i up past = flat_map-cons g h hs ∙ ap₂ (λ a b. a ++ b) (past h up.0) (nothing_past hs (h + 1) up.1 (λ j le. past j (omega (arith, le, up.0))))
+
+  -- those that are left out have nothing
+  pub merged : (hs : List ℕ) (i n : ℕ) → Ascend i hs → ((j : ℕ) → i + n ≤ j → g j ≡ []) → ((j : ℕ) → i ≤ j → j < i + n → (Among j hs → ⊥) → g j ≡ []) →
+      flat_map g hs ≡ flat_map g (range_with_len i n)
+  merged hs i zero up past none = nothing_past hs i up (λ j le. past j (omega (arith, le)))
+  merged [] i (suc n) up past none =
+      merged [] (i + 1) n tt (λ j le. past j (omega (arith, le))) (λ j low high out. none j (omega (arith, low)) (omega (arith, high)) out)
+      ∙ sym (flat_map-cons g i (range_with_len (i + 1) n) ∙ ap (λ a. a ++ flat_map g (range_with_len (i + 1) n)) (none i (omega arith) (omega arith) (λ x. x)))
+  merged (h ∷ hs) i (suc n) up past none = elim (cases_lt i h) [
+    | inl before ↦
+        let left_out : Among i (h ∷ hs) → ⊥ = λ at. let late : h ≤ i = above h (h ∷ hs) i (omega arith, up.1) at in absurd (omega (arith, late, before)) in
+        merged (h ∷ hs) (i + 1) n (omega (arith, before), up.1) (λ j le. past j (omega (arith, le))) (λ j low high out. none j (omega (arith, low)) (omega (arith, high)) out)
+        ∙ sym (flat_map-cons g i (range_with_len (i + 1) n) ∙ ap (λ a. a ++ flat_map g (range_with_len (i + 1) n)) (none i (omega arith) (omega arith) left_out))
+    | inr not_before ↦
+        let same : h ≡ i = omega (arith, up.0, not_before) in
+        flat_map-cons g h hs
+        ∙ ap₂ (λ a b. a ++ b) (ap g same)
+        (merged hs (i + 1) n (subst (λ (k : ℕ). Ascend (k + 1) hs) same up.1) (λ j le. past j (omega (arith, le)))
+        (λ j low high out. none j (omega (arith, low)) (omega (arith, high)) (λ at. elim at [ inl e ↦ absurd (omega (arith, e, same, low)) | inr more ↦ out more ])))
+        ∙ sym (flat_map-cons g i (range_with_len (i + 1) n))
+  ]
+
+pub filter_append : {X : Type 0} (p : X → Bool) (xs ys : List X) → filter p (xs ++ ys) ≡ filter p xs ++ filter p ys
+filter_append p [] ys = refl
+filter_append p (x ∷ xs) ys = elim (cases_Bool (p x)) [
+  | inl yes' ↦ rw yes' (ap (λ zs. x ∷ zs) (filter_append p xs ys))
+  | inr no' ↦ rw no' (filter_append p xs ys)
+]
+
+module _ (q : Profile) (from to today : ℕ) (scope : Scope) (file : ℕ) where
+  -- the stamps of entries, one by one
+  entries_near : (es : List Entry) (i : ℕ) → ((k : ℕ) → slice_get scope.entries (i + k) ≡ slice_get es k) →
+      flat_map (near_in q from to today scope file) (range_with_len i (length es)) ≡ near_sources q from to today (sources_from scope file i es)
+  entries_near [] i same = refl
+  entries_near (e ∷ es) i same =
+      let here : slice_get scope.entries i ≡ Some e = ap (λ k. slice_get scope.entries k) (let z : i ≡ i + 0 = omega arith in z) ∙ same 0 in
+      flat_map-cons (near_in q from to today scope file) i (range_with_len (i + 1) (length es))
+      ∙ ap₂ (λ a b. a ++ b) (ap (λ (o : Option Entry). near_sources q from to today (sources_if scope file i o)) here)
+      (entries_near es (i + 1) (λ k. ap (λ j. slice_get scope.entries j) (let z : i + 1 + k ≡ i + suc k = omega arith in z) ∙ same (suc k)))
+      ∙ sym (filter_append (is_near q from to today) (sources_at scope file i e) (sources_from scope file (i + 1) es))
+
+  past_end : (es : List Entry) (j : ℕ) → length es ≤ j → slice_get es j ≡ None
+  past_end [] j le = refl
+  past_end (e ∷ es) zero le = absurd (omega (arith, le))
+  past_end (e ∷ es) (suc j) le = past_end es j (omega (arith, le))
+
+  pub none_past : (j : ℕ) → length scope.entries ≤ j → near_in q from to today scope file j ≡ []
+  none_past j le = ap (λ (o : Option Entry). near_sources q from to today (sources_if scope file j o)) (past_end scope.entries j le)
+
+  -- the headings that are asked give all that are near
+  pub file_near : (hs : List ℕ) → Ascend 0 hs → ((j : ℕ) → (Among j hs → ⊥) → near_in q from to today scope file j ≡ []) →
+      flat_map (near_in q from to today scope file) hs ≡ near_sources q from to today (file_sources scope file)
+  file_near hs up none =
+      merged (near_in q from to today scope file) hs 0 (length scope.entries) up (λ j le. none_past j (omega (arith, le))) (λ j low high out. none j out)
+      ∙ entries_near scope.entries 0 (λ k. ap (λ j. slice_get scope.entries j) (let z : 0 + k ≡ k = omega arith in z))
+
+-- the spots of one file
+abbrev pub spots_of : ℕ → List (ℕ × ℕ) → List (ℕ × ℕ)
+spots_of file ks = filter (range_contains spot_cmp (Included (file, 0)) (Excluded (file + 1, 0))) ks
+
+same_file : (file : ℕ) (k : ℕ × ℕ) → range_contains spot_cmp (Included (file, 0)) (Excluded (file + 1, 0)) k ≡ true → k.0 ≡ file
+same_file file k h = let e : (nat_le file k.0 && nat_le k.0 file) ≡ true = sym (on_days file file k) ∙ h in grind (arith, nat_tests)
+
+of_file : (file : ℕ) (k : ℕ × ℕ) → k.0 ≡ file → range_contains spot_cmp (Included (file, 0)) (Excluded (file + 1, 0)) k ≡ true
+of_file file k is = on_days file file k ∙ grind (arith, nat_tests)
+
+later_heading : (file h : ℕ) (k : ℕ × ℕ) → k.0 ≡ file → spot_cmp (file, h) k ≡ Less → h + 1 ≤ k.1
+later_heading file h k is less = grind (arith, nat_tests)
+
+behind_spot : (file : ℕ) (k : ℕ × ℕ) (ks : List (ℕ × ℕ)) → k.0 ≡ file → AllByRecursion (λ y. spot_cmp k y ≡ Less) ks → AllByRecursion (λ y. spot_cmp (file, k.1) y ≡ Less) ks
+behind_spot file k ks is all = subst (λ (f : ℕ). AllByRecursion (λ y. spot_cmp (f, k.1) y ≡ Less) ks) is all
+
+ascend_from : (file h : ℕ) (ks : List (ℕ × ℕ)) → AllByRecursion (λ y. spot_cmp (file, h) y ≡ Less) ks → IsStrictlySortedBy spot_cmp ks → Ascend (h + 1) (headings_of (spots_of file ks))
+unfolding IsStrictlySortedBy
+ascend_from file h [] all up = tt
+ascend_from file h (k ∷ ks) all up = elim (cases_Bool (range_contains spot_cmp (Included (file, 0)) (Excluded (file + 1, 0)) k)) [
+  | inl own ↦ let is = same_file file k own in rw own (later_heading file h k is all.0, ascend_from file k.1 ks (behind_spot file k ks is up.0) up.1)
+  | inr other ↦ rw other (ascend_from file h ks all.1 up.1)
+]
+
+pub ascend : (file : ℕ) (ks : List (ℕ × ℕ)) → IsStrictlySortedBy spot_cmp ks → Ascend 0 (headings_of (spots_of file ks))
+unfolding IsStrictlySortedBy
+ascend file [] up = tt
+ascend file (k ∷ ks) up = elim (cases_Bool (range_contains spot_cmp (Included (file, 0)) (Excluded (file + 1, 0)) k)) [
+  | inl own ↦ let is = same_file file k own in rw own (omega arith, ascend_from file k.1 ks (behind_spot file k ks is up.0) up.1)
+  | inr other ↦ rw other (ascend file ks up.1)
+]
+
+-- a heading of the set is among those of its file
+pub among_spots : (file j : ℕ) (ks : List (ℕ × ℕ)) → list_any (is_at (spot_cmp (file, j))) ks ≡ true → Among j (headings_of (spots_of file ks))
+among_spots file j [] h = absurd (true≢false (sym h))
+among_spots file j (k ∷ ks) h = elim (or_cases (is_at (spot_cmp (file, j)) k) (list_any (is_at (spot_cmp (file, j))) ks) h) [
+  | inl here ↦
+      let both : (nat_eq file k.0 && nat_eq j k.1) ≡ true = sym (at_spot file j k) ∙ here in
+      let is : k.0 ≡ file = grind (arith, nat_tests) in
+      let same : j ≡ k.1 = grind (arith, nat_tests) in
+      rw (of_file file k is) (inl same)
+  | inr more ↦ elim (cases_Bool (range_contains spot_cmp (Included (file, 0)) (Excluded (file + 1, 0)) k)) [
+    | inl own ↦ rw own (inr (among_spots file j ks more))
+    | inr other ↦ rw other (among_spots file j ks more)
+  ]
+]
+
+-- one heading more
+pub heading_more : (f : ℕ → List Source) (old new all : List Source) (k : ℕ × ℕ) (rest ks : List (ℕ × ℕ)) → new ≡ old ++ f k.1 → rest ≡ k ∷ ks → old ++ flat_map f (headings_of rest) ≡ all → new ++ flat_map f (headings_of ks) ≡ all
+heading_more f old new all k rest ks new_is rest_is so_far =
+    ap (λ xs. xs ++ flat_map f (headings_of ks)) new_is
+    ∙ append_assoc old (f k.1) (flat_map f (headings_of ks))
+    ∙ ap (λ xs. old ++ xs) (sym (flat_map-cons f k.1 (headings_of ks)))
+    ∙ ap (λ xs. old ++ flat_map f (headings_of xs)) (sym rest_is)
+    ∙ so_far
+
+-- one file more
+pub near_file_more : (q : Profile) (from to today : ℕ) (scopes : List Scope) (i : ℕ) (scope : Scope) (old new all : List Source) → i < length scopes → slice_get scopes i ≡ Some scope → new ≡ old ++ near_sources q from to today (file_sources scope i) →
+    old ++ near_sources q from to today (sources_of i (drop i scopes)) ≡ all → new ++ near_sources q from to today (sources_of (i + 1) (drop (i + 1) scopes)) ≡ all
+near_file_more q from to today scopes i scope old new all lt there is so_far =
+    let rest : List Scope = drop (i + 1) scopes in
+    let first : drop i scopes ≡ scope ∷ rest = drop_more scopes i scope lt ∙ ap (λ x. x ∷ rest) (get_or_from_slice_get scopes i scope scope there) in
+    ap (λ x. x ++ near_sources q from to today (sources_of (i + 1) rest)) is
+    ∙ append_assoc old (near_sources q from to today (file_sources scope i)) (near_sources q from to today (sources_of (i + 1) rest))
+    ∙ ap (λ x. old ++ x) (sym (filter_append (is_near q from to today) (file_sources scope i) (sources_of (i + 1) rest)))
+    ∙ ap (λ ss. old ++ near_sources q from to today (sources_of i ss)) (sym first)
+    ∙ so_far
+
+pub near_files_whole : (q : Profile) (from to today : ℕ) (scopes : List Scope) (i : ℕ) (xs all : List Source) → length scopes ≤ i → xs ++ near_sources q from to today (sources_of i (drop i scopes)) ≡ all → xs ≡ all
+near_files_whole q from to today scopes i xs all le h = sym (append-nil xs) ∙ ap (λ ss. xs ++ near_sources q from to today (sources_of i ss)) (sym (drop_all i scopes le)) ∙ h
+
+-- what passes a test goes behind, one by one
+pub passed_more : (p : Source → Bool) (xs : List Source) (i : ℕ) (x : Source) (old new all : List Source) → i < length xs → x ≡ get_or xs i x → p x ≡ true → new ≡ old ++ x ∷ [] →
+    old ++ filter p (drop i xs) ≡ all → new ++ filter p (drop (i + 1) xs) ≡ all
+passed_more p xs i x old new all lt at passes is so_far =
+    let rest : List Source = drop (i + 1) xs in
+    let first : drop i xs ≡ x ∷ rest = drop_more xs i x lt ∙ ap (λ y. y ∷ rest) (sym at) in
+    let step : filter p (x ∷ rest) ≡ x ∷ filter p rest = ap (λ b. cond b (x ∷ filter p rest) (filter p rest)) passes in
+    ap (λ ys. ys ++ filter p rest) is ∙ append_assoc old (x ∷ []) (filter p rest) ∙ ap (λ ys. old ++ ys) (sym step) ∙ ap (λ ys. old ++ filter p ys) (sym first) ∙ so_far
+
+pub passed_over : (p : Source → Bool) (xs : List Source) (i : ℕ) (x : Source) (old all : List Source) → i < length xs → x ≡ get_or xs i x → p x ≡ false →
+    old ++ filter p (drop i xs) ≡ all → old ++ filter p (drop (i + 1) xs) ≡ all
+passed_over p xs i x old all lt at fails so_far =
+    let rest : List Source = drop (i + 1) xs in
+    let first : drop i xs ≡ x ∷ rest = drop_more xs i x lt ∙ ap (λ y. y ∷ rest) (sym at) in
+    let step : filter p (x ∷ rest) ≡ filter p rest = ap (λ b. cond b (x ∷ filter p rest) (filter p rest)) fails in
+    ap (λ ys. old ++ ys) (sym step) ∙ ap (λ ys. old ++ filter p ys) (sym first) ∙ so_far
+
+pub passed_whole : (p : Source → Bool) (xs : List Source) (i : ℕ) (old all : List Source) → length xs ≤ i → old ++ filter p (drop i xs) ≡ all → old ≡ all
+passed_whole p xs i old all le h = sym (append-nil old) ∙ ap (λ ys. old ++ filter p ys) (sym (drop_all i xs le)) ∙ h
+
+pub lent : (es fs : List Entry) (place : ℕ) (entry : Entry) → place < length es → entry ≡ slice_index_or es place entry → es ≡ fs → slice_get fs place ≡ Some entry
+lent es fs place entry inside is same = subst (λ x. slice_get x place ≡ Some entry) same (slice_get_read es (length es) place entry refl inside is)

@@ -1,0 +1,23 @@
+use Rattle.std.proofs.Common.{◌≡◌, ◌∙◌, ◌++◌, ℕ, List, sym, ap, append-nil}
+use Rattle.std.specs.List.{flat_map}
+use Rattle.org_agenda.specs.Indexed.{headings_of, near_in}
+use Rattle.org_agenda.specs.declared.source.Source.{Source}
+use Rattle.org_agenda.proofs.IndexedLemmas.{among_spots, ascend, file_near, spots_of}
+use Rattle.org_agenda.proofs.indexed.push_file_near.Goals as goal
+
+pub returns : goal.returns
+returns c =
+    let scope = c.args.inherit.now in
+    let file = c.args.file in
+    let keys = c.args.places.now.keys in
+    let before = c.args.sources.now.items in
+    let f : ℕ → List Source = near_in c.args.asked.profile c.args.asked.from c.args.asked.to c.args.asked.today scope file in
+    let given : c.into_iter-heading-iterator.result ≡ spots_of file keys = c.into_iter-heading-iterator.ensures.into_iter_gives ∙ c.range-heading-items.ensures.between tt in
+    let all = file_near c.args.asked.profile c.args.asked.from c.args.asked.to c.args.asked.today scope file (headings_of (spots_of file keys)) (ascend file keys c.range-heading-items.ensures.ordered) (λ j out. c.requires.all j (λ has. out (among_spots file j keys has))) in
+    record {
+      ok = sym (append-nil c.loop-heading.sources.items)
+          ∙ ap (λ (ks : List (ℕ × ℕ)). c.loop-heading.sources.items ++ flat_map f (headings_of ks)) (sym c.in-None.ensures.steps.0)
+          ∙ c.loop-heading.invariant
+          ∙ ap (λ (ks : List (ℕ × ℕ)). before ++ flat_map f (headings_of ks)) given
+          ∙ ap (λ (xs : List Source). before ++ xs) all;
+    }

@@ -1,0 +1,45 @@
+-- Which stamps of headings are near some days (profile; delays and warnings as in Org manual 9.6, "Deadlines and
+-- Scheduling").
+use Rattle.std.specs.Prelude.{◌≡◌, ℕ, ◌≤◌, Bool, true, false, ◌&&◌, ◌||◌, List, [], filter, None}
+use Rattle.std.specs.List.{All}
+use Rattle.org_base.specs.declared.profile.Profile.{Profile}
+use Rattle.org_cal.specs.Days.{IsDay}
+use Rattle.org_index.specs.Extents.{extent_of}
+use Rattle.org_index.specs.Near.{touches, warns}
+use Rattle.org_agenda.specs.Days.{day_rows, source_rows}
+use Rattle.org_agenda.specs.declared.source.Role.{Role}
+use Rattle.org_agenda.specs.declared.source.Role.TheVariants.{Plain, Scheduled, Deadline}
+use Rattle.org_agenda.specs.declared.source.Source.{Source}
+
+-- it stands in the planning line
+abbrev pub is_planned : Role → Bool
+is_planned Plain = false
+is_planned Scheduled = true
+is_planned Deadline = true
+
+-- it stands in the planning line of a heading without a done keyword
+abbrev pub is_pressing : Source → Bool
+is_pressing s = is_planned s.role && s.owner.is_open
+
+-- the stamp is near the days: it touches them, or it warns or is late today, and today is one of them
+abbrev pub is_near : Profile → ℕ → ℕ → ℕ → Source → Bool
+is_near p from to today s = touches from to (extent_of p s.stamp) || (is_pressing s && warns from to today (extent_of p s.stamp))
+
+-- those that are near
+abbrev pub near_sources : Profile → ℕ → ℕ → ℕ → List Source → List Source
+near_sources p from to today sources = filter (is_near p from to today) sources
+
+-- what each stamp has that was read: its day is one of the calendar, and where the heading is scheduled for it, it is no
+-- range
+pub record IsSound (s : Source) : Type 0 where
+  pub day : IsDay s.stamp.day
+  pub single : s.role ≡ Scheduled → s.stamp.last ≡ None
+
+-- a stamp that isn't near gives no row on any of the days
+abbrev pub RowsAreNear : Type 0
+RowsAreNear = (p : Profile) (s : Source) (from to today day : ℕ) → IsSound s → from ≤ day → day ≤ to → is_near p from to today s ≡ false → source_rows p today day s ≡ []
+
+-- the stamps that are near give the rows that all give
+abbrev pub NearGiveAll : Type 0
+NearGiveAll = (p : Profile) (sources : List Source) (from to today day : ℕ) → All IsSound sources → from ≤ day → day ≤ to →
+    day_rows p (near_sources p from to today sources) today day ≡ day_rows p sources today day

@@ -1,0 +1,7 @@
+//! Laws of what every layer shares. Each is a function without parameters whose contract is the law.
+ghost use Rattle.org_base.specs.Limits.{LimitsAreNamed};
+
+/// There are at most 256 files.
+pub fn limits_are_named()
+    ensures { LimitsAreNamed }
+{}

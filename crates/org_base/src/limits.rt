@@ -1,0 +1,4 @@
+//! Limits that several crates speak of.
+
+/// How many files an engine has at most.
+pub const MOST_FILES: usize = 256;

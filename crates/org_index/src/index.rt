@@ -1,0 +1,274 @@
+//! Stamps by their ids, found by days.
+ghost use Rattle.std.specs.Prelude.{◌≡◌, ◌<◌, ◌≤◌, IfOk, OnOk, OnErr, Some, None, [], is_some, IsOkUnless};
+ghost use Rattle.std.specs.Ordering.{nat_cmp};
+ghost use Rattle.std.specs.BTreeMap.{is_at, Updates};
+ghost use Rattle.std.specs.Map.{keys_of, lookup, remove_entry};
+ghost use Rattle.std.specs.List.Sorted.{IsStrictlySortedBy};
+ghost use Rattle.org_base.specs.Codes.{memory_fault};
+ghost use Rattle.org_base.specs.Results.{Gives, GivesItems};
+ghost use Rattle.org_index.specs.Extents.{extent_of};
+ghost use Rattle.org_index.specs.Lane.{AddsRanges, Keeps};
+ghost use Rattle.org_index.specs.Near.{AreCandidates, AreTouching, CountsCandidates, CountsTouching, HasCandidates, candidate_ids, is_candidate, touching_ids, with_extent};
+ghost use Rattle.org_index.specs.Ticks.{examined};
+
+use crate::extent::Extent;
+use crate::lane::{clear, gather, gather_if, place};
+use crate::near::lies_in;
+use crate::spots::{bound_of, delayed_day, own_day, range_day, repeated_day, warned_day};
+use org_base::{Fault, Meter, Profile, Tick};
+use org_cal::Day;
+use org_stamp::Stamp;
+use std::alloc::{AllocError, Global};
+use std::collections::{BTreeMap, BTreeSet};
+use std::marker::Model;
+
+/// Stamps by their ids, found by days: seen as the list of ids, ascending, each with what of its stamp decides to which days
+/// it may matter.
+#[derive(Drop)]
+pub struct DayIndex {
+    alloc: Global,
+    extents: BTreeMap<u32, Extent>,
+    days: BTreeSet<(u32, u32)>,
+    repeating: BTreeSet<(u32, u32)>,
+    delayed: BTreeSet<(u32, u32)>,
+    warned: BTreeSet<(u32, u32)>,
+    ranges: BTreeSet<(u32, u32)>,
+}
+
+impl Model for DayIndex {
+    ghost use Rattle.std.specs.Prelude.{ℕ, List};
+    ghost use Rattle.org_index.specs.declared.extent.Extent.{Extent as AnyExtent};
+    ghost use Rattle.org_index.specs.Lane.{Fits, own_day, repeated_day, delayed_day, warned_day, range_day};
+
+    ghost Value = { List (ℕ × AnyExtent) };
+
+    ghost view = { λ x. x.extents.entries };
+
+    ghost invariant = { λ x. Fits own_day x.extents x.days × Fits repeated_day x.extents x.repeating × Fits delayed_day x.extents x.delayed × Fits warned_day x.extents x.warned × Fits range_day x.extents x.ranges };
+}
+
+fn keep(extents: &mut BTreeMap<u32, Extent>, id: u32, extent: Extent) -> Result<(), AllocError>
+    ensures ok { OnOk result (extents.new.entries ≡ with_extent extents.old.entries id extent) }
+    ensures updates { OnOk result (Updates nat_cmp extents.old extents.new id (Some extent)) }
+    ensures err { OnErr result (extents.new.entries ≡ extents.old.entries) }
+{
+    // For the toolchain alone: it has to meet the type of a day.
+    let _day: Day = extent.first;
+    extents.insert(id, extent)?;
+    Ok(())
+}
+
+impl DayIndex {
+    /// Without stamps.
+    pub fn new(alloc: Global) -> DayIndex
+        ensures value { result ≡ [] }
+    {
+        DayIndex {
+            alloc,
+            extents: BTreeMap::new(alloc),
+            days: BTreeSet::new(alloc),
+            repeating: BTreeSet::new(alloc),
+            delayed: BTreeSet::new(alloc),
+            warned: BTreeSet::new(alloc),
+            ranges: BTreeSet::new(alloc),
+        }
+    }
+
+    /// Whether there is a stamp with that id.
+    pub fn contains(&self, id: u32) -> bool
+        ensures value { result ≡ is_some (lookup (is_at (nat_cmp id)) self.now) }
+    {
+        self.extents.contains_key(&id)
+    }
+
+    /// Puts the stamp, as it is read in a profile, in under an id that isn't in it. Where memory is refused the index is as
+    /// before.
+    pub fn put(&mut self, stamp: &Stamp, profile: Profile, id: u32) -> Result<(), Fault>
+        requires new { lookup (is_at (nat_cmp id)) self.old ≡ None }
+        ensures ok { OnOk result (self.new ≡ with_extent self.old id (extent_of profile stamp.now)) }
+        ensures err { OnErr result (self.new ≡ self.old) }
+        ensures memory { IsOkUnless result memory_fault }
+    {
+        self.put_extent(&Extent::of(stamp, profile), id)?;
+        Ok(())
+    }
+
+    fn put_extent(&mut self, extent: &Extent, id: u32) -> Result<(), AllocError>
+        requires new { lookup (is_at (nat_cmp id)) self.old ≡ None }
+        ensures ok { OnOk result (self.new ≡ with_extent self.old id extent.now) }
+        ensures err { OnErr result (self.new ≡ self.old) }
+    {
+        place(&mut self.days, own_day(extent), id)?;
+        if let Err(refused) = place(&mut self.repeating, repeated_day(extent), id) {
+            clear(&mut self.days, own_day(extent), id);
+            return Err(refused);
+        }
+        if let Err(refused) = place(&mut self.delayed, delayed_day(extent), id) {
+            clear(&mut self.days, own_day(extent), id);
+            clear(&mut self.repeating, repeated_day(extent), id);
+            return Err(refused);
+        }
+        if let Err(refused) = place(&mut self.warned, warned_day(extent), id) {
+            clear(&mut self.days, own_day(extent), id);
+            clear(&mut self.repeating, repeated_day(extent), id);
+            clear(&mut self.delayed, delayed_day(extent), id);
+            return Err(refused);
+        }
+        if let Err(refused) = place(&mut self.ranges, range_day(extent), id) {
+            clear(&mut self.days, own_day(extent), id);
+            clear(&mut self.repeating, repeated_day(extent), id);
+            clear(&mut self.delayed, delayed_day(extent), id);
+            clear(&mut self.warned, warned_day(extent), id);
+            return Err(refused);
+        }
+        if let Err(refused) = keep(&mut self.extents, id, *extent) {
+            clear(&mut self.days, own_day(extent), id);
+            clear(&mut self.repeating, repeated_day(extent), id);
+            clear(&mut self.delayed, delayed_day(extent), id);
+            clear(&mut self.warned, warned_day(extent), id);
+            clear(&mut self.ranges, range_day(extent), id);
+            return Err(refused);
+        }
+        Ok(())
+    }
+
+    /// Takes the stamp with the id out, if there is one. It takes no memory.
+    pub fn take(&mut self, id: u32)
+        ensures value { self.new ≡ remove_entry (is_at (nat_cmp id)) self.old }
+    {
+        if let Some(extent) = self.extents.remove(&id) {
+            clear(&mut self.days, own_day(&extent), id);
+            clear(&mut self.repeating, repeated_day(&extent), id);
+            clear(&mut self.delayed, delayed_day(&extent), id);
+            clear(&mut self.warned, warned_day(&extent), id);
+            clear(&mut self.ranges, range_day(&extent), id);
+        }
+    }
+
+    /// An equal index, which later changes of this one don't reach, as changes of it don't reach this one. Want of memory is
+    /// its only refusal.
+    pub fn share(&self) -> Result<DayIndex, Fault>
+        ensures value { Gives result self.now }
+        ensures memory { IsOkUnless result memory_fault }
+    {
+        Ok(DayIndex {
+            alloc: self.alloc,
+            extents: self.extents.clone()?,
+            days: self.days.clone()?,
+            repeating: self.repeating.clone()?,
+            delayed: self.delayed.clone()?,
+            warned: self.warned.clone()?,
+            ranges: self.ranges.clone()?,
+        })
+    }
+
+    /// The ids of the stamps that are near the days from one to another with a today, ascending, each examined once as the
+    /// meter counts. Want of memory is the only refusal, and then nothing is counted.
+    pub fn candidates(
+        &self,
+        meter: &mut Meter,
+        from: Day,
+        to: Day,
+        today: Day,
+    ) -> Result<Vec<u32>, Fault>
+        requires order { from ≤ to }
+        ensures value { GivesItems result (candidate_ids from to today self.now) }
+        ensures exact { IfOk result (λ ids. AreCandidates self.now from to today ids.items) }
+        ensures counts { OnOk result (CountsCandidates self.now from to today meter.old meter.new) }
+        ensures unchanged { OnErr result (meter.new ≡ meter.old) }
+        ensures memory { IsOkUnless result memory_fault }
+        ensures ordered { IsStrictlySortedBy nat_cmp (keys_of self.now) }
+    {
+        let ids = self.near_ids(from.number(), to.number(), today.number())?;
+        count_examined(meter, ids.len());
+        Ok(ids)
+    }
+
+    /// The ids of the stamps that touch the days from one to another, whatever day is today, ascending, each examined once as
+    /// the meter counts. Want of memory is the only refusal, and then nothing is counted.
+    pub fn touching(&self, meter: &mut Meter, from: Day, to: Day) -> Result<Vec<u32>, Fault>
+        requires order { from ≤ to }
+        ensures value { GivesItems result (touching_ids from to self.now) }
+        ensures exact { IfOk result (λ ids. AreTouching self.now from to ids.items) }
+        ensures counts { OnOk result (CountsTouching self.now from to meter.old meter.new) }
+        ensures unchanged { OnErr result (meter.new ≡ meter.old) }
+        ensures memory { IsOkUnless result memory_fault }
+    {
+        let ids = self.near_ids(from.number(), to.number(), to.number() + 1)?;
+        count_examined(meter, ids.len());
+        Ok(ids)
+    }
+
+    fn near_ids(&self, from: u32, to: u32, today: u32) -> Result<Vec<u32>, AllocError>
+        requires days { (1 ≤ from) × (from ≤ to) × (to < 4_194_304) × (today < 4_194_304) }
+        ensures exact { IfOk result (λ ids. AreCandidates self.now from to today ids.items) }
+        ensures once { IfOk result (λ ids. IsStrictlySortedBy nat_cmp ids.items) }
+        ensures ordered { IsStrictlySortedBy nat_cmp (keys_of self.now) }
+    {
+        // For the proof alone: the ids of a map ascend.
+        let _ordered = self.extents.len();
+        let found = gathered(self, from, to, today)?;
+        let mut ids = Vec::new(self.alloc);
+        for id in &found {
+            if self.is_candidate(from, to, today, *id) {
+                ids.push(*id)?;
+            }
+        }
+        Ok(ids)
+    }
+
+    // Whether the stamp with the id is near.
+    fn is_candidate(&self, from: u32, to: u32, today: u32, id: u32) -> bool
+        ensures value { result ≡ is_candidate self.now from to today id }
+    {
+        match self.extents.get(&id) {
+            None => false,
+            Some(extent) => extent.touches(from, to) || extent.warns(from, to, today),
+        }
+    }
+}
+
+// Counts so many examined stamps.
+fn count_examined(meter: &mut Meter, count: usize)
+    ensures { meter.new ≡ examined count meter.old }
+{
+    for _ in 0..count {
+        meter.tick(Tick::Examine);
+    }
+}
+
+// The ids among which those of all near stamps are.
+fn gathered(index: &DayIndex, from: u32, to: u32, today: u32) -> Result<BTreeSet<u32>, AllocError>
+    requires days { (1 ≤ from) × (from ≤ to) × (to < 4_194_304) × (today < 4_194_304) }
+    ensures all { IfOk result (HasCandidates index.now from to today) }
+{
+    let asked = lies_in(from, to, today);
+    let mut found = BTreeSet::new(index.alloc);
+    gather(&mut found, &index.days, from, to)?;
+    gather_if(&mut found, &index.days, asked, today + 14)?;
+    gather(&mut found, &index.repeating, 0, to)?;
+    gather(&mut found, &index.delayed, from, to)?;
+    gather_if(&mut found, &index.warned, asked, today)?;
+    gather_ranges(&mut found, &index.ranges, from)?;
+    Ok(found)
+}
+
+// Adds the ids of ranges that began before the days and may reach into them.
+fn gather_ranges(
+    found: &mut BTreeSet<u32>,
+    ranges: &BTreeSet<(u32, u32)>,
+    from: u32,
+) -> Result<(), AllocError>
+    requires { from < 4_194_304 }
+    ensures keeps { OnOk result (Keeps found.old found.new) }
+    ensures adds { OnOk result (AddsRanges ranges.now from found.new) }
+{
+    let mut class = 0;
+    'classes: while class < 7 {
+        let base = 4_194_304 * class;
+        let low = from.saturating_sub(bound_of(class));
+        gather(found, ranges, base + low, base + from)?;
+        class += 1;
+    }
+    Ok(())
+}
