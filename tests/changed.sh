@@ -1,7 +1,8 @@
 #!/bin/sh
 # For daily work: checks what differs from a commit (the first argument; by default origin/main). It proves the crates whose
 # code differs and those above them, over what earlier checks kept; runs their tests; tries the must-fail edits of the
-# crates that differ; and runs the worked streams over the program. It says what it left out: only `make test` is the gate.
+# crates that differ; and runs the worked streams over the program, and the faults. It says what it left out: only `make test`
+# is the gate.
 cd "$(dirname "$0")/.." || exit 2
 base=$1
 if [ -z "$base" ]; then
@@ -97,6 +98,7 @@ if [ -z "$stopped" ]; then
     done
     step "what docs/definitions.md names" . sh tests/shown.sh
     step "the worked streams" . make --no-print-directory rows
+    step "refused memory, and reads and writes that fail" . make --no-print-directory faults
 fi
 
 echo "changed: left out: proofs from nothing, the program as Rattle's own compiler builds it, and of these crates everything:${left:- none}"

@@ -1,7 +1,7 @@
 #!/bin/sh
 # The whole gate. The last line is 'N passed, M failed', over the checks of `rt ci`, what docs/definitions.md names, the
-# worked streams, and what is looked at first since it takes seconds: whether each must-fail edit can be applied, and each
-# file is in the formatter's layout.
+# worked streams, what the program does where memory is refused and reads and writes fail, and what is looked at first since
+# it takes seconds: whether each must-fail edit can be applied, and each file is in the formatter's layout.
 cd "$(dirname "$0")/.." || exit 2
 work=$(mktemp -d) || exit 2
 trap 'rm -rf "$work"' EXIT
@@ -36,7 +36,7 @@ if [ "$failed" -gt 0 ]; then
     exit 1
 fi
 
-echo "gate: proving every crate from nothing, its must-fail edits and tests (one to one and a half hours on four processors)"
+echo "gate: proving every crate from nothing, its must-fail edits and tests (one and a half to two hours on four processors)"
 {
     rt ci 2>&1
     echo $? > "$work/status"
@@ -58,6 +58,10 @@ counted shown
 
 echo "gate: the worked streams over the program that was just built, and over texts in one string"
 counted rows crates/orgviews/out/orgviews crates/org_measure/out/org_measure
+
+echo "gate: memory that is refused, streams that are cut, reads and writes that fail"
+counted refused crates/orgviews/out/orgviews crates/org_measure/out/org_measure calls
+counted devices crates/orgviews/out/orgviews
 
 # What it cost: user and system time of all that was run, then how much of what.
 times > "$work/times"

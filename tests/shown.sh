@@ -1,7 +1,8 @@
 #!/bin/sh
-# Checks docs/definitions.md: that each file that a row names is there and holds the row's definitions, and that each law,
-# must-fail edit, test and worked stream by which a row is shown exists. Says which are missing and how many rows nothing
-# shows; the last line counts.
+# Checks docs/definitions.md: that each file that a row names is there and holds the row's definitions, that each function
+# whose contract is named stands in its file and one of the definitions in a clause there, and that each law, must-fail edit,
+# test and worked stream by which a row is shown exists. Says which are missing and how many rows nothing shows; the last
+# line counts.
 cd "$(dirname "$0")/.." || exit 2
 page=docs/definitions.md
 named=$(mktemp) || exit 2
@@ -25,7 +26,7 @@ awk -F'|' '
             print "file", path
             list = list " " path
         }
-        count = names($2, words)
+        defined = count = names($2, words)
         for (i = 1; i <= count; i++) print "definition", words[i] list
         if ($6 ~ /^ *- *$/) { print "nothing", words[1]; next }
         count = split($6, kinds, ";")
@@ -33,7 +34,11 @@ awk -F'|' '
             split(kinds[i], first, " ")
             many = names(kinds[i], shown)
             if (many == 0) print "row", NR
-            for (k = 1; k <= many; k++) print first[1], shown[k]
+            for (k = 1; k <= many; k++) {
+                said = ""
+                if (first[1] == "contract") for (j = 1; j <= defined; j++) said = said " " words[j]
+                print first[1], shown[k] said
+            }
         }
     }
 ' "$page" > "$named"
@@ -45,6 +50,13 @@ while read -r kind name files; do
     case $kind in
         file) [ -f "$name" ] ;;
         definition) grep -qw -- "$name" $files 2>/dev/null ;;
+        contract)
+            crate=${name%%::*}
+            function=${name##*::}
+            module=${name#*::}
+            source=crates/$crate/src/${module%%::*}.rt
+            grep -q "fn $function[<(]" "$source" 2>/dev/null && for word in $files; do grep -w -- "$word" "$source"; done | grep -qv '^ghost use '
+            ;;
         law) grep -q "^pub fn ${name##*::}()" "crates/${name%%::*}"/src/*.rt 2>/dev/null ;;
         edit) [ -f "crates/${name%%/*}/must-fail/${name#*/}.edit" ] ;;
         test) grep -h -A1 '^#\[test\]' "crates/org_tests/src/${name%%::*}.rt" "crates/org_sequence_tests/src/${name%%::*}.rt" 2>/dev/null | grep -q "^fn ${name##*::}(" ;;
