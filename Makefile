@@ -4,7 +4,7 @@ PARTS = crates/org_measure/out/org_measure
 SOURCES = $(shell find crates -name out -prune -o -type f \( -name '*.rt' -o -name '*.antt' \) -print) crates.txt
 PREFIX ?= /usr/local
 
-.PHONY: run try build check changed test rows bench collide install clean
+.PHONY: run try build check changed test rows faults emacs-test bench collide install clean
 
 # Builds the program where it isn't fresh, and runs the first example.
 run: $(PROGRAM)
@@ -23,7 +23,7 @@ $(PROGRAM): $(SOURCES)
 	@cd crates/orgviews && rt run -- --at "2024-02-28 10:30" < /dev/null
 	@test -x $(PROGRAM) && touch $(PROGRAM)
 
-# Parts of the engine on their own, for the measurements.
+# Parts of the engine on their own, for the measurements, and single calls for the faults.
 $(PARTS): $(SOURCES)
 	@echo "orgviews: proving and building the program that measures parts of the engine (some minutes)"
 	@cd crates/org_measure && rt run -- stamps < /dev/null > /dev/null
@@ -37,13 +37,22 @@ check:
 changed:
 	@sh tests/changed.sh $(BASE)
 
-# The gate: proofs from nothing, must-fail edits, tests, both builds of the program; then the worked streams.
+# The gate: proofs from nothing, must-fail edits, tests, both builds of the program; then the worked streams and the faults.
 test:
 	@sh tests/gate.sh
 
 # The worked streams alone, over the programs as they were last built.
 rows: $(PROGRAM) $(PARTS)
 	@sh tests/rows.sh $(PROGRAM) $(PARTS)
+
+# The Emacs client over the program as it was last built; left out where Emacs isn't installed. No part of the gate.
+emacs-test: $(PROGRAM)
+	@sh tests/clients.sh $(PROGRAM)
+
+# What the programs do as they were last built where memory is refused, the stream is cut, and reads and writes fail.
+faults: $(PROGRAM) $(PARTS)
+	@sh tests/refused.sh $(PROGRAM) $(PARTS) calls
+	@sh tests/devices.sh $(PROGRAM)
 
 bench: $(PROGRAM) $(PARTS)
 	@sh bench/run.sh $(PROGRAM) $(PARTS)
@@ -58,6 +67,8 @@ install: $(PROGRAM)
 	@install -m 755 $(PROGRAM) "$(PREFIX)/bin/orgviews"
 	@mkdir -p "$(PREFIX)/share/man/man1"
 	@install -m 644 docs/orgviews.1 "$(PREFIX)/share/man/man1/orgviews.1"
+	@mkdir -p "$(PREFIX)/share/doc/orgviews"
+	@install -m 644 docs/manual.md "$(PREFIX)/share/doc/orgviews/manual.md"
 	@sha256sum "$(PREFIX)/bin/orgviews"
 
 clean:

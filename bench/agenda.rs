@@ -1,5 +1,5 @@
 //! Agendas: the files that are measured, and as much of agendas in plain Rust as these files need.
-use crate::{Above, MIB, heading, is_heading, measure_question, row_of, settings, stem, text};
+use crate::{Above, MIB, heading, is_heading, measure_behind, measure_question, row_of, settings, stem, text};
 use std::io;
 
 // The moment's day, 2024-02-28, and the days of a year.
@@ -18,6 +18,11 @@ pub fn measure(program: &str, own: &str, stream: &str) -> io::Result<()> {
     ] {
         measure_question(program, own, stream, what, text, &format!("agenda 2024-02-28 {days}"))?;
     }
+    let repeated = repeated_ranges(100_000);
+    for (what, days) in [("100,000 repeated ranges, a day", 1), ("100,000 repeated ranges, a year", 366)] {
+        let question = format!("agenda 2024-02-28 {days}");
+        measure_behind(program, own, stream, "profile 2\n", what, &repeated, &question)?;
+    }
     Ok(())
 }
 
@@ -34,6 +39,15 @@ fn daily(count: i64) -> String {
 // So many headings with a range of some years.
 fn ranges(count: i64) -> String {
     (0..count).map(|n| format!("* a\n<{}>--<{}>\n", date(TODAY - n % 1000), date(TODAY + 1000))).collect()
+}
+
+// So many headings with a range of two days that repeats every 60 to 89 days, begun within the last years.
+fn repeated_ranges(count: i64) -> String {
+    let range = |n: i64| {
+        let day = TODAY - n % 3000;
+        format!("* a\n<{} +{}d>--<{}>\n", date(day), 60 + n % 30, date(day + 1))
+    };
+    (0..count).map(range).collect()
 }
 
 // Days since 1970-01-01 of a date of the Gregorian calendar, and back.
@@ -96,13 +110,27 @@ fn stamps(role: Role, line: &str, found: &mut Vec<Stamp>) {
     }
 }
 
-// The rows of a heading's stamps: which day from the first on, and the label.
-fn rows(stamp: Stamp, is_open: bool, first: i64, count: i64, mut push: impl FnMut(i64, String)) {
+// The rows of a heading's stamps: which day from the first on, and the label. Ranges with a repeater may repeat.
+fn rows(stamp: Stamp, is_open: bool, repeats: bool, first: i64, count: i64, mut push: impl FnMut(i64, String)) {
     let label = match stamp.role {
         Role::Plain => "",
         Role::Scheduled => "Scheduled: ",
         Role::Deadline => "Deadline: ",
     };
+    if let Some(last) = stamp.last.filter(|_| repeats && stamp.every > 0) {
+        let length = last - stamp.day;
+        let mut day = first.max(stamp.day);
+        while day < first + count {
+            let begins = day - (day - stamp.day) % stamp.every;
+            if day > begins + length {
+                day = begins + stamp.every;
+                continue;
+            }
+            push(day - first, format!("({}/{}): ", day - begins + 1, length + 1));
+            day += 1;
+        }
+        return;
+    }
     if let Some(last) = stamp.last {
         for day in first.max(stamp.day)..(first + count).min(last + 1) {
             push(day - first, format!("({}/{}): ", day - stamp.day + 1, last - stamp.day + 1));
@@ -131,8 +159,8 @@ fn rows(stamp: Stamp, is_open: bool, first: i64, count: i64, mut push: impl FnMu
     }
 }
 
-// The agenda of files: each day's rows by priority.
-pub fn agenda(files: &[(String, String)], first: i64, count: i64) -> String {
+// The agenda of files: each day's rows by priority. Ranges with a repeater may repeat.
+pub fn agenda(files: &[(String, String)], repeats: bool, first: i64, count: i64) -> String {
     let mut days: Vec<Vec<(u32, usize, String)>> = vec![Vec::new(); count as usize];
     let mut heads: Vec<(String, String)> = Vec::new();
     for (name, text) in files {
@@ -164,7 +192,7 @@ pub fn agenda(files: &[(String, String)], first: i64, count: i64) -> String {
             }
             let (priority, head) = row_of(&above, &settings, "");
             for stamp in &found {
-                rows(*stamp, is_open, first, count, |day, label| days[day as usize].push((priority, heads.len(), label)));
+                rows(*stamp, is_open, repeats, first, count, |day, label| days[day as usize].push((priority, heads.len(), label)));
             }
             heads.push((column.clone(), head));
         }

@@ -4,6 +4,8 @@
 //!     bench parts PARTS PROGRAM  parts of the engine on their own, by the program `org_measure`, and the program, which keeps
 //!                                texts in pieces, beside streams of that, over texts in one string each
 //!     bench changes PROGRAM      the rows of edits and pins alone
+//!     bench sizes PROGRAM        files of 1, 8 and 64 MiB
+//!     bench memory PROGRAM       what edited texts take
 //!     bench plain                answers the commands `add`, `text`, `todo`, `agenda`, some `match` and some `clock` of standard
 //!                                input
 //!     bench typed                answers the commands `add`, `edit`, `pin` and `unpin` of standard input, over one file
@@ -15,7 +17,9 @@
 mod agenda;
 mod clocks;
 mod edits;
+mod memory;
 mod rope;
+mod sizes;
 
 use rope::Rope;
 use std::collections::{HashMap, HashSet};
@@ -39,6 +43,8 @@ fn main() -> io::Result<()> {
         Some("plain") => plain(),
         Some("typed") => edits::plain(),
         Some("changes") => measure_changes(&args[2], &args[0]),
+        Some("sizes") => sizes::measure(&args[2], &args[0]),
+        Some("memory") => memory::measure(&args[2], &args[0]),
         Some("text") => io::stdout().write_all(text(args[2].parse().unwrap()).as_bytes()),
         Some("cost") => print_cost(&args[2], &args[3..]),
         Some("list") => {
@@ -327,7 +333,20 @@ fn measure_text(program: &str, own: &str, stream: &str, what: &str, text: &str) 
 }
 
 fn measure_question(program: &str, own: &str, stream: &str, what: &str, text: &str, question: &str) -> io::Result<()> {
-    write_stream(stream, text, question, 1)?;
+    measure_behind(program, own, stream, "", what, text, question)
+}
+
+// The same behind commands that come before the file.
+fn measure_behind(
+    program: &str,
+    own: &str,
+    stream: &str,
+    front: &str,
+    what: &str,
+    text: &str,
+    question: &str,
+) -> io::Result<()> {
+    std::fs::write(stream, format!("{front}add a.org {}\n{text}{question}\n", text.len()))?;
     compare(program, own, stream)?;
     let (proved, plain) = both(program, own, stream)?;
     row(text.len(), what, proved, plain);
@@ -528,6 +547,7 @@ fn plain() -> io::Result<()> {
     let mut input = BufReader::with_capacity(1 << 16, io::stdin().lock());
     let mut output = io::stdout().lock();
     let mut files: Vec<(String, String)> = Vec::new();
+    let mut repeats = false;
     let mut line = String::new();
     loop {
         line.clear();
@@ -544,6 +564,10 @@ fn plain() -> io::Result<()> {
                 files.push((name.to_string(), text));
                 writeln!(output, "ok {}", files.len())?;
             }
+            ["profile", number] => {
+                repeats = number == "2";
+                writeln!(output, "ok {}", files.len())?;
+            }
             ["text", name] => {
                 let text = files.iter().find(|file| file.0 == name).map_or("", |file| &file.1);
                 write!(output, "view {}\n{text}", text.len())?;
@@ -558,7 +582,7 @@ fn plain() -> io::Result<()> {
             }
             ["agenda", date, days] => {
                 let (first, count) = (agenda::day_of(date).expect("a date"), days.parse().expect("days"));
-                let view = agenda::agenda(&files, first, count);
+                let view = agenda::agenda(&files, repeats, first, count);
                 write!(output, "view {}\n{view}", view.len())?;
             }
             ["clock", "block=thisyear", "maxlevel=3", ref steps @ ..] => {
