@@ -6,7 +6,7 @@ use Rattle.std.proofs.lemmas.List.{drop_all, drop_more, length-map}
 use Rattle.std.proofs.lemmas.Option.{get_or_from_slice_get}
 use Rattle.org_agenda.specs.Headings.{AllHaveHeads}
 use Rattle.org_base.specs.declared.limits.TheConstants.{MOST_FILES}
-use Rattle.org_file.specs.Outline.{file_settings, scope_of}
+use Rattle.org_kept.specs.Outline.{file_settings, scope_of}
 use Rattle.org_inherit.specs.Scope.{Scope}
 use Rattle.org_sum.specs.Texts.{AreOfText}
 use Rattle.org_text.specs.Replace.{max_bytes}

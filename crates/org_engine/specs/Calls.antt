@@ -5,16 +5,17 @@ use Rattle.std.specs.Option.{option_map}
 use Rattle.org_base.specs.Codes.{memory_fault}
 use Rattle.org_base.specs.FileName.{is_file_name}
 use Rattle.org_base.specs.declared.fault.Fault.{Fault}
-use Rattle.org_engine.specs.Step.{AddFile, Answers, Command, Refused, Reply, Serial, Shown, changes, file_named, most_files, put, with_file, with_text}
-use Rattle.org_engine.specs.World.{EngineView, FileView, State, VersionedView, WorldView}
+use Rattle.org_engine.specs.Step.{AddFile, Answers, Command, Refused, Reply, Serial, Shown, changes, file_named, most_files, put}
+use Rattle.org_engine.specs.World.{EngineView, FileView, KeptWorld, State}
+use Rattle.org_file.specs.Completion.{completed, completion_part}
+use Rattle.org_file.specs.Written.{IsRevision, Revises, part_of}
+use Rattle.org_file.specs.declared.revision.Revision.{Revision}
+use Rattle.org_kept.specs.Change.{LiesIn, edited}
+use Rattle.org_kept.specs.declared.change.Change.{Change}
 
 -- what a text says that is lent, if one is
 abbrev pub text_in : {T : Type 0} → (T → List ℕ) → Option (Bor T) → Option (List ℕ)
 text_in content lent = option_map (λ text. content text.now) lent
-
--- the world with one more file, which goes last
-abbrev pub world_with_file : List ℕ → VersionedView → WorldView → WorldView
-world_with_file name kept world = record world { files = with_file name kept.text kept.serial world.files }
 
 -- the name and the text of the file at a place
 abbrev pub IsFileAt : List FileView → ℕ → List ℕ → List ℕ → Type 0
@@ -31,9 +32,18 @@ pub record IsNewFile (name : List ℕ) (files : List FileView) : Type 0 where
   pub gone : is_some (file_named name files) ≡ false
   pub room : length files < most_files
 
--- the world with another text and serial for the file of that name
-abbrev pub world_with_text : List ℕ → VersionedView → WorldView → WorldView
-world_with_text name kept world = record world { files = with_text name kept.text kept.serial world.files }
+-- a text is that of the file of that name with a change, whose place lies in it
+pub record IsChangeIn (name : List ℕ) (change : Change) (text : List ℕ) (files : List FileView) : Type 0 where
+  pub file : FileView
+  pub found : file_named name files ≡ Some file
+  pub within : LiesIn file.text change
+  pub is : text ≡ edited file.text change
+
+-- a change of bytes at a place into others
+pub record IsChangeOf (at del : ℕ) (ins : List ℕ) (change : Change) : Type 0 where
+  pub at_is : change.at ≡ at
+  pub del_is : change.del ≡ del
+  pub ins_is : change.ins.now ≡ ins
 
 -- a serial that is given is the step's, and so is the state
 abbrev pub Tells : Command → EngineView → Result ℕ Fault → EngineView → Type 0
@@ -60,3 +70,15 @@ RefusesName name s fault = (text : List ℕ) → Answers (AddFile name text) s (
 -- a file's new text is answered so: with the next serial, unless there is none
 abbrev pub Puts : List ℕ → List ℕ → EngineView → Reply → EngineView → Type 0
 Puts name text old reply new = changes old.state (put name old.state (Ok text)) ≡ record { reply = reply; after = new.state }
+
+-- the text of a revision, if it is one, is that of the file of that name with a heading completed, or else the refusal
+abbrev pub Completed : {T : Type 0} → (T → List ℕ) → List ℕ → ℕ → List ℕ → KeptWorld → Result (Revision T) Fault → Type 0
+Completed content name line keyword kept result =
+    (file : FileView) → file_named name kept.world.files ≡ Some file → Revises content result (completed file.text line keyword kept.world.moment)
+
+-- a revision is the text of the file of that name with what completing a heading replaces
+pub record IsCompletionIn {T : Type 0} (content : T → List ℕ) (name : List ℕ) (line : ℕ) (keyword : List ℕ) (kept : KeptWorld) (r : Revision T) : Type 0 where
+  pub file : FileView
+  pub found : file_named name kept.world.files ≡ Some file
+  pub revision : IsRevision content file.text r
+  pub part : completion_part file.text line keyword kept.world.moment ≡ Ok (part_of r)

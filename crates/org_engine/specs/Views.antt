@@ -18,7 +18,7 @@ use Rattle.org_clocktable.specs.Request.{TableRequest}
 use Rattle.org_clocktable.specs.Counted.{Counted, counted_of}
 use Rattle.org_clocktable.specs.Table.{step_rows}
 use Rattle.org_expression.specs.Grammar.{Expr}
-use Rattle.org_file.specs.Outline.{OutlineView, scope_in}
+use Rattle.org_kept.specs.Outline.{OutlineView, scope_in}
 use Rattle.org_layout.specs.Lines.{list_lines}
 use Rattle.org_layout.specs.Tables.{step_lines}
 use Rattle.org_engine.specs.Outlines.{scopes_of}

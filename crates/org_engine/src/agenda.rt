@@ -5,7 +5,7 @@ ghost use Rattle.org_base.specs.Results.{GivesText, IfRefused};
 ghost use Rattle.org_agenda.specs.Headings.{AllHaveHeads};
 ghost use Rattle.org_cal.specs.declared.day.TheConstants.{LAST_DAY};
 ghost use Rattle.org_engine.specs.Questions.{IsAgendaText, asked_agenda};
-ghost use Rattle.org_engine.specs.Sections.{ReadsEach, ReadsSome};
+ghost use Rattle.org_engine.specs.Marks.{ReadsAll, ReadsNone, ReadsSome};
 ghost use Rattle.org_engine.specs.Step.{DayAgenda, Unread};
 ghost use Rattle.org_engine.specs.Views.{agenda_view, days_over, ShowsDays};
 
@@ -26,14 +26,15 @@ use std::alloc::Global;
 pub(crate) fn dated_text<T: Text>(
     alloc: Global,
     meter: &mut Meter,
-    world: &World<T>,
+    world: &mut World<T>,
     date: &str,
     days: u64,
 ) -> Result<String, Fault>
-    ensures value { IfOk result (λ text. IsAgendaText date.now days world.now (string_bytes text)) }
+    ensures value { IfOk result (λ text. IsAgendaText date.now days world.old.world (string_bytes text)) }
     ensures refused { IfRefused result (λ fault. asked_agenda date.now days ≡ Unread fault) }
-    ensures counts { OnOk result (ReadsEach world.now.files meter.old meter.new) }
-    ensures few { OnErr result (ReadsSome world.now.files meter.old meter.new) }
+    ensures read { OnOk result (ReadsAll world.old world.new meter.old meter.new) }
+    ensures few { OnErr result (ReadsSome world.old world.new meter.old meter.new) }
+    ensures quiet { IfRefused result (λ _. ReadsNone world.old world.new meter.old meter.new) }
 {
     let (first, count) = read_days(date, days)?;
     days_text(alloc, meter, world, first, count)
@@ -88,14 +89,14 @@ impl Shows for Days {
 fn days_text<T: Text>(
     alloc: Global,
     meter: &mut Meter,
-    world: &World<T>,
+    world: &mut World<T>,
     first: Day,
     count: u32,
 ) -> Result<String, Fault>
     requires within { (1 ≤ count) × (first + count ≤ LAST_DAY + 1) }
-    ensures value { GivesText result (agenda_view first count world.now) }
-    ensures counts { OnOk result (ReadsEach world.now.files meter.old meter.new) }
-    ensures few { OnErr result (ReadsSome world.now.files meter.old meter.new) }
+    ensures value { GivesText result (agenda_view first count world.old.world) }
+    ensures read { OnOk result (ReadsAll world.old world.new meter.old meter.new) }
+    ensures few { OnErr result (ReadsSome world.old world.new meter.old meter.new) }
     ensures memory { IsOkUnless result memory_fault }
 {
     let view = Days {

@@ -5,10 +5,10 @@ ghost use Rattle.org_base.specs.Codes.{memory_fault};
 ghost use Rattle.org_base.specs.Results.{GivesText, IfRefused};
 ghost use Rattle.org_agenda.specs.Lists.{list_rows, todo_listing, Matching};
 ghost use Rattle.org_layout.specs.Lines.{list_lines};
-ghost use Rattle.org_engine.specs.Questions.{IsMissingFault, IsPlaceOver, TellsOf};
+ghost use Rattle.org_engine.specs.Questions.{IsMissingFault, IsPlaceOver, RefusesOf, ShowsOf};
 ghost use Rattle.org_engine.specs.Step.{Refused, Shown};
 ghost use Rattle.org_engine.specs.declared.question.View.TheVariants.{Match as MatchView, Todo as TodoView};
-ghost use Rattle.org_engine.specs.Sections.{ReadsEach, ReadsSome};
+ghost use Rattle.org_engine.specs.Marks.{ReadsAll, ReadsNone, ReadsSome};
 ghost use Rattle.org_engine.specs.Views.{list_view};
 
 use crate::shows::{Shows, view_of};
@@ -79,8 +79,8 @@ fn lines_of(alloc: Global, inherits: &Inherits<'_>, rows: &[Row]) -> Result<Stri
 
 // The place of the file that a list is over, if it is over one; `Unknown` where there is none of that name.
 fn place_over<T: Text>(world: &World<T>, file: Option<&str>) -> Result<Option<usize>, Fault>
-    ensures ok { IfOk result (IsPlaceOver (option_copied file.entry) world.now) }
-    ensures err { IfErr result (IsMissingFault (option_copied file.entry) world.now) }
+    ensures ok { IfOk result (IsPlaceOver (option_copied file.entry) world.now.world) }
+    ensures err { IfErr result (IsMissingFault (option_copied file.entry) world.now.world) }
 {
     let Some(name) = file else {
         return Ok(None);
@@ -98,14 +98,15 @@ fn place_over<T: Text>(world: &World<T>, file: Option<&str>) -> Result<Option<us
 pub(crate) fn todo_text<T: Text>(
     alloc: Global,
     meter: &mut Meter,
-    world: &World<T>,
+    world: &mut World<T>,
     file: Option<&str>,
     words: &Texts,
 ) -> Result<String, Fault>
-    ensures ok { IfOk result (λ list. TellsOf (TodoView file.entry words.entry) world.now (Shown (string_bytes list))) }
-    ensures err { IfRefused result (λ fault. TellsOf (TodoView file.entry words.entry) world.now (Refused fault)) }
-    ensures counts { OnOk result (ReadsEach world.now.files meter.old meter.new) }
-    ensures few { OnErr result (ReadsSome world.now.files meter.old meter.new) }
+    ensures ok { ShowsOf (TodoView file.entry words.entry) world.old.world result }
+    ensures err { RefusesOf (TodoView file.entry words.entry) world.old.world result }
+    ensures read { OnOk result (ReadsAll world.old world.new meter.old meter.new) }
+    ensures few { OnErr result (ReadsSome world.old world.new meter.old meter.new) }
+    ensures quiet { IfRefused result (λ _. ReadsNone world.old world.new meter.old meter.new) }
 {
     let over = place_over(world, file)?;
     let text = keyword_text(alloc, meter, world, &TodoList { over, words })?;
@@ -115,12 +116,12 @@ pub(crate) fn todo_text<T: Text>(
 fn keyword_text<T: Text>(
     alloc: Global,
     meter: &mut Meter,
-    world: &World<T>,
+    world: &mut World<T>,
     list: &TodoList<'_>,
 ) -> Result<String, Fault>
-    ensures value { GivesText result (list_view (todo_listing list.now.words.now) list.now.over world.now) }
-    ensures counts { OnOk result (ReadsEach world.now.files meter.old meter.new) }
-    ensures few { OnErr result (ReadsSome world.now.files meter.old meter.new) }
+    ensures value { GivesText result (list_view (todo_listing list.now.words.now) list.now.over world.old.world) }
+    ensures read { OnOk result (ReadsAll world.old world.new meter.old meter.new) }
+    ensures few { OnErr result (ReadsSome world.old world.new meter.old meter.new) }
     ensures memory { IsOkUnless result memory_fault }
 {
     view_of(alloc, meter, world, list)
@@ -133,15 +134,16 @@ fn keyword_text<T: Text>(
 pub(crate) fn match_text<T: Text>(
     alloc: Global,
     meter: &mut Meter,
-    world: &World<T>,
+    world: &mut World<T>,
     file: Option<&str>,
     text: &str,
 ) -> Result<String, Fault>
     requires short { length text.now < 2 ^ 32 }
-    ensures ok { IfOk result (λ list. TellsOf (MatchView file.entry text.entry) world.now (Shown (string_bytes list))) }
-    ensures err { IfRefused result (λ fault. TellsOf (MatchView file.entry text.entry) world.now (Refused fault)) }
-    ensures counts { OnOk result (ReadsEach world.now.files meter.old meter.new) }
-    ensures few { OnErr result (ReadsSome world.now.files meter.old meter.new) }
+    ensures ok { ShowsOf (MatchView file.entry text.entry) world.old.world result }
+    ensures err { RefusesOf (MatchView file.entry text.entry) world.old.world result }
+    ensures read { OnOk result (ReadsAll world.old world.new meter.old meter.new) }
+    ensures few { OnErr result (ReadsSome world.old world.new meter.old meter.new) }
+    ensures quiet { IfRefused result (λ _. ReadsNone world.old world.new meter.old meter.new) }
 {
     let read = Match::read(alloc, text);
     let over = place_over(world, file)?;
@@ -152,13 +154,13 @@ pub(crate) fn match_text<T: Text>(
 fn matching_text<T: Text>(
     alloc: Global,
     meter: &mut Meter,
-    world: &World<T>,
+    world: &mut World<T>,
     over: Option<usize>,
     expression: &Match,
 ) -> Result<String, Fault>
-    ensures value { GivesText result (list_view (Matching expression.now world.now.moment) over world.now) }
-    ensures counts { OnOk result (ReadsEach world.now.files meter.old meter.new) }
-    ensures few { OnErr result (ReadsSome world.now.files meter.old meter.new) }
+    ensures value { GivesText result (list_view (Matching expression.now world.old.world.moment) over world.old.world) }
+    ensures read { OnOk result (ReadsAll world.old world.new meter.old meter.new) }
+    ensures few { OnErr result (ReadsSome world.old world.new meter.old meter.new) }
     ensures memory { IsOkUnless result memory_fault }
 {
     let view = MatchList {

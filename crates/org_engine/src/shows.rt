@@ -5,14 +5,14 @@ ghost use Rattle.org_base.specs.Codes.{memory_fault};
 ghost use Rattle.org_base.specs.Results.{Gives, GivesText};
 ghost use Rattle.org_inherit.specs.Scope.{Scope};
 ghost use Rattle.org_engine.specs.Outlines.{AreRead, outlines_of, scopes_of};
-ghost use Rattle.org_engine.specs.Sections.{ReadsEach, ReadsSome};
+ghost use Rattle.org_engine.specs.Marks.{ReadsAll, ReadsSome};
 ghost use Rattle.org_engine.specs.Views.{is_wanted, scopes_named};
 
 use crate::outlines::read_world;
 use crate::world::World;
 use org_base::{Fault, Meter};
-use org_file::FileOutline;
 use org_inherit::Inherits;
+use org_kept::FileOutline;
 use org_text::Text;
 use std::alloc::Global;
 
@@ -35,17 +35,17 @@ pub(crate) trait Shows {
         ensures memory { IsOkUnless result memory_fault };
 }
 
-// What a view shows of a world. Each section of each file is classified once and read once, as the meter counts. Want of
-// memory is the only refusal; then some of the sections may have been counted.
+// What a view shows of a world. All sections that are still to be read are read first, each once as the meter counts. Want
+// of memory is the only refusal; then those of some files, from the first on, were read.
 pub(crate) fn view_of<T: Text, V: Shows>(
     alloc: Global,
     meter: &mut Meter,
-    world: &World<T>,
+    world: &mut World<T>,
     view: &V,
 ) -> Result<String, Fault>
-    ensures value { GivesText result (V.shown view.now (scopes_named (V.named view.now) (scopes_of world.now))) }
-    ensures counts { OnOk result (ReadsEach world.now.files meter.old meter.new) }
-    ensures few { OnErr result (ReadsSome world.now.files meter.old meter.new) }
+    ensures value { GivesText result (V.shown view.now (scopes_named (V.named view.now) (scopes_of world.old.world))) }
+    ensures read { OnOk result (ReadsAll world.old world.new meter.old meter.new) }
+    ensures few { OnErr result (ReadsSome world.old world.new meter.old meter.new) }
     ensures memory { IsOkUnless result memory_fault }
 {
     let outlines = read_world(alloc, meter, world)?;
@@ -59,8 +59,8 @@ fn view_over<T: Text, V: Shows>(
     outlines: &[FileOutline],
     view: &V,
 ) -> Result<String, Fault>
-    requires read { outlines.now ≡ outlines_of world.now }
-    ensures value { GivesText result (V.shown view.now (scopes_named (V.named view.now) (scopes_of world.now))) }
+    requires read { outlines.now ≡ outlines_of world.now.world }
+    ensures value { GivesText result (V.shown view.now (scopes_named (V.named view.now) (scopes_of world.now.world))) }
     ensures memory { IsOkUnless result memory_fault }
 {
     let inherits = inherits_named(alloc, world, outlines, view.file())?;
@@ -74,8 +74,8 @@ fn inherits_named<'a, T: Text>(
     outlines: &'a [FileOutline],
     file: Option<&[u8]>,
 ) -> Result<Inherits<'a>, Fault>
-    requires read { outlines.now ≡ outlines_of world.now }
-    ensures value { Gives result (scopes_named (option_copied file.entry) (scopes_of world.now)) }
+    requires read { outlines.now ≡ outlines_of world.now.world }
+    ensures value { Gives result (scopes_named (option_copied file.entry) (scopes_of world.now.world)) }
     ensures read { IfOk result AreRead }
     ensures memory { IsOkUnless result memory_fault }
 {

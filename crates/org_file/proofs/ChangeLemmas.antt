@@ -17,9 +17,8 @@ use Rattle.org_drawer.specs.declared.planning.Planning.{Planning}
 use Rattle.org_entry.specs.Entry.{entry_of, heading_line}
 use Rattle.org_entry.specs.declared.entry.Entry.{Entry}
 use Rattle.org_entry.specs.Planning.{entry_planning}
-use Rattle.org_file.specs.Begun.{section_of, section_start}
-use Rattle.org_file.specs.Completion.{keyword_span, gap_behind, keyword_part, shift_part, plan_parts, plan_of, is_heading_line}
-use Rattle.org_file.specs.Parts.{Part, AreApart, with_parts, end_of_parts, joined_parts}
+use Rattle.org_file.specs.Completion.{keyword_span, gap_behind, keyword_part, shift_part, plan_parts, plan_of}
+use Rattle.org_file.specs.Parts.{Part, AreApart, with_parts, end_of_parts, joined_parts, one_part}
 use Rattle.org_file.specs.Written.{shift_end, shift_text, plan_end, plan_text, IsBehind, CanWrite}
 use Rattle.org_file.specs.declared.plan.Plan.{Plan}
 use Rattle.org_file.specs.declared.plan.Shift.{Shift}
@@ -29,6 +28,7 @@ use Rattle.org_file.proofs.PairLemmas.{IsLaid, IsWithin}
 use Rattle.org_file.proofs.PlanLemmas.{HasRoom, AreTextStamps, plan_fits}
 use Rattle.org_base.specs.Spans.{bytes_in}
 use Rattle.org_head.specs.declared.head.Head.{Head}
+use Rattle.org_kept.specs.Begun.{is_heading_line, section_of, section_start}
 use Rattle.org_lines.specs.Cuts.{lines}
 use Rattle.org_settings.specs.Keywords.{keyword_word}
 use Rattle.org_settings.specs.Settings.{FileSettings}
@@ -45,14 +45,14 @@ nowhere : Span
 nowhere = record { at = 0; len = 0 }
 
 -- where the section at a place begins
-pub start_of_span : (at : ℕ) (ss : List (List ℕ)) (i : ℕ) (d : Span) → i < length ss → (get_or (spans_from at ss) i d).at ≡ at + length (concat (take i ss))
+start_of_span : (at : ℕ) (ss : List (List ℕ)) (i : ℕ) (d : Span) → i < length ss → (get_or (spans_from at ss) i d).at ≡ at + length (concat (take i ss))
 start_of_span at [] i d lt = absurd (omega arith)
 start_of_span at (s ∷ ss) zero d lt = omega arith
 start_of_span at (s ∷ ss) (suc i) d lt =
     let more = start_of_span (at + length s) ss i d (omega arith) in
     omega (arith, more, length-append s (concat (take i ss)))
 
-pub section_begins : (t : List ℕ) (place : ℕ) (d : Span) → place < length (sections t) → (get_or (spans_from 0 (sections t)) place d).at ≡ section_start t place
+section_begins : (t : List ℕ) (place : ℕ) (d : Span) → place < length (sections t) → (get_or (spans_from 0 (sections t)) place d).at ≡ section_start t place
 section_begins t place d lt = let is = start_of_span 0 (sections t) place d lt in omega (arith, is)
 
 -- bytes of a text that another begins with, further on
@@ -106,7 +106,31 @@ plan_end_within x span plan w =
 plan_end_cut : (x : List ℕ) (span : Span) (plan : Plan) → CanWrite x span plan → IsCharBoundary x (plan_end span plan)
 plan_end_cut x span plan w = end_cut x (shift_end (span.at + span.len) plan.shifts.0) plan.shifts.1 (end_cut x (span.at + span.len) plan.shifts.0 w.keyword.end w.first) w.second
 
--- the parts are one change
+-- the parts as one change
+one_is : (t x : List ℕ) (at : ℕ) (span : Span) (word : List ℕ) (plan : Plan) → IsFront (drop at t) x → CanWrite x span plan →
+    one_part t (keyword_part at span word ∷ (shift_part at plan.shifts.0 ++ shift_part at plan.shifts.1)) ≡ record { at = at + span.at; del = plan_end span plan - span.at; ins = word ++ plan_text x span plan }
+one_is t x at span word plan f w =
+    let k : ℕ = at + span.at in
+    let e0 : ℕ = span.at + span.len in
+    let first : Option Shift = plan.shifts.0 in
+    let second : Option Shift = plan.shifts.1 in
+    let e1 : ℕ = shift_end e0 first in
+    let e2 : ℕ = shift_end e1 second in
+    let rest : List Part = shift_part at first ++ shift_part at second in
+    let low : k + span.len ≡ at + e0 = omega arith in
+    let two : shift_part at second ≡ shift_part at second ++ [] = sym (append-nil (shift_part at second)) in
+    let end : end_of_parts (k + span.len) rest ≡ at + e2 =
+    ap (λ n. end_of_parts n rest) low ∙ end_shift at e0 first (shift_part at second) ∙ ap (end_of_parts (at + e1)) two ∙ end_shift at e1 second [] in
+    let len : end_of_parts (k + span.len) rest - k ≡ e2 - span.at = omega (arith, end) in
+    let text2 : joined_parts t (at + e1) (shift_part at second) ≡ shift_text x e1 second = ap (joined_parts t (at + e1)) two ∙ joined_shift t x at e1 second [] f w.second ∙ append-nil (shift_text x e1 second) in
+    let text1 : joined_parts t (k + span.len) rest ≡ shift_text x e0 first ++ shift_text x e1 second =
+    ap (λ n. joined_parts t n rest) low ∙ joined_shift t x at e0 first (shift_part at second) f w.first ∙ ap (λ r. shift_text x e0 first ++ r) text2 in
+    let none : k - k ≡ 0 = omega arith in
+    let text : joined_parts t k (keyword_part at span word ∷ rest) ≡ word ++ (shift_text x e0 first ++ shift_text x e1 second) =
+    ap (λ n. take n (drop k t) ++ (word ++ joined_parts t (k + span.len) rest)) none ∙ ap (λ r. word ++ r) text1 in
+    λ i. record { at = k; del = len i; ins = text i }
+
+-- and they are one
 one_change : (t x : List ℕ) (at : ℕ) (span : Span) (word : List ℕ) (plan : Plan) → IsFront (drop at t) x → at + length x ≤ length t → CanWrite x span plan →
     with_parts t (keyword_part at span word ∷ (shift_part at plan.shifts.0 ++ shift_part at plan.shifts.1)) ≡ replace t (at + span.at) (plan_end span plan - span.at) (word ++ plan_text x span plan)
 one_change t x at span word plan f within w =
@@ -124,18 +148,7 @@ one_change t x at span word plan f within w =
     let apart2 : AreApart (at + e1) (length t) (shift_part at second) = subst (AreApart (at + e1) (length t)) (sym two) (apart_shift x at e1 (length t) second [] w.second last) in
     let apart1 : AreApart (at + e0) (length t) rest = apart_shift x at e0 (length t) first (shift_part at second) w.first apart2 in
     let apart : AreApart k (length t) (keyword_part at span word ∷ rest) = (omega arith, subst (λ n. AreApart n (length t) rest) (sym low) apart1) in
-    let end : end_of_parts (k + span.len) rest ≡ at + e2 =
-    ap (λ n. end_of_parts n rest) low ∙ end_shift at e0 first (shift_part at second) ∙ ap (end_of_parts (at + e1)) two ∙ end_shift at e1 second [] in
-    let len : end_of_parts (k + span.len) rest - k ≡ e2 - span.at = omega (arith, end) in
-    let text2 : joined_parts t (at + e1) (shift_part at second) ≡ shift_text x e1 second = ap (joined_parts t (at + e1)) two ∙ joined_shift t x at e1 second [] f w.second ∙ append-nil (shift_text x e1 second) in
-    let text1 : joined_parts t (k + span.len) rest ≡ shift_text x e0 first ++ shift_text x e1 second =
-    ap (λ n. joined_parts t n rest) low ∙ joined_shift t x at e0 first (shift_part at second) f w.first ∙ ap (λ r. shift_text x e0 first ++ r) text2 in
-    let none : k - k ≡ 0 = omega arith in
-    let text : joined_parts t k (keyword_part at span word ∷ rest) ≡ word ++ (shift_text x e0 first ++ shift_text x e1 second) =
-    ap (λ n. take n (drop k t) ++ (word ++ joined_parts t (k + span.len) rest)) none ∙ ap (λ r. word ++ r) text1 in
-    parts_are_one_change t k (keyword_part at span word ∷ rest) apart
-    ∙ ap (λ n. replace t k n (joined_parts t k (keyword_part at span word ∷ rest))) len
-    ∙ ap (replace t k (e2 - span.at)) text
+    parts_are_one_change t k (keyword_part at span word ∷ rest) apart ∙ ap (λ (p : Part). replace t p.at p.del p.ins) (one_is t x at span word plan f w)
 
 -- the text of a heading's entry, where its section stands
 pub record IsEntryOf (t : List ℕ) (place : ℕ) (settings : FileSettings) (entry : Entry) : Type 0 where
@@ -196,6 +209,12 @@ pub record ChangeIs (t : List ℕ) (place : ℕ) (settings : FileSettings) (entr
   pub at_fits : section_start t place + (keyword_span (heading_line entry) old).at < 2 ^ 32
   pub order : (keyword_span (heading_line entry) old).at ≤ plan_end (keyword_span (heading_line entry) old) plan
   pub part : IsTextPart t (record { at = section_start t place + (keyword_span (heading_line entry) old).at; len = plan_end (keyword_span (heading_line entry) old) plan - (keyword_span (heading_line entry) old).at })
+  pub one : one_part t (plan_parts (section_start t place) (heading_line entry) old settings plan)
+      ≡ record {
+        at = section_start t place + (keyword_span (heading_line entry) old).at;
+        del = plan_end (keyword_span (heading_line entry) old) plan - (keyword_span (heading_line entry) old).at;
+        ins = (keyword_word settings.keywords plan.keyword ++ gap_behind old) ++ plan_text entry.text (keyword_span (heading_line entry) old) plan;
+      }
   pub is : with_parts t (plan_parts (section_start t place) (heading_line entry) old settings plan)
       ≡ replace t (section_start t place + (keyword_span (heading_line entry) old).at) (plan_end (keyword_span (heading_line entry) old) plan - (keyword_span (heading_line entry) old).at)
       ((keyword_word settings.keywords plan.keyword ++ gap_behind old) ++ plan_text entry.text (keyword_span (heading_line entry) old) plan)
@@ -226,6 +245,7 @@ change_is t place settings entry old plan e w =
       at_fits = omega (arith, inside, short, small, size, bounds.0, bounds.1);
       order = omega (arith, bounds.0);
       part = text_part t (at + span.at) (plan_end span plan - span.at) e.utf8 from to;
+      one = one_is t x at span (keyword_word settings.keywords plan.keyword ++ gap_behind old) plan (front_there t s x at p places.text) w;
       is = one_change t x at span (keyword_word settings.keywords plan.keyword ++ gap_behind old) plan (front_there t s x at p places.text) (omega (arith, inside, short)) w;
     }
 

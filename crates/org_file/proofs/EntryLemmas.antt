@@ -11,12 +11,12 @@ use Rattle.org_entry.specs.Planning.{entry_planning}
 use Rattle.org_entry.specs.declared.entry.Entry.{Entry}
 use Rattle.org_entry.proofs.LineLemmas.{first, first_again, first_within}
 use Rattle.org_entry.proofs.OtherLemmas.{no_text, same_head, other-below, other-front}
+use Rattle.org_kept.specs.Begun.{is_heading_line}
 use Rattle.org_lines.specs.Cuts.{lines}
 use Rattle.org_lines.proofs.LineLemmas.{concat-lines}
 use Rattle.org_settings.specs.Settings.{FileSettings}
 use Rattle.org_stamp.specs.Pair.{is_planning}
 use Rattle.org_utf8.proofs.Spans.{IsFront}
-use Rattle.org_file.specs.Completion.{is_heading_line}
 use Rattle.org_file.proofs.PairLemmas.{IsLaid, planning_laid, moved_laid}
 
 -- The entry's text stands at the front of the section, the heading line at the front of that, and the stamps of planning

@@ -1,5 +1,4 @@
-pub mod CountLemmas
-pub mod ReadLemmas
+pub mod ReadingLemmas
 pub mod PartLemmas
 pub mod StartLemmas
 pub mod PairLemmas

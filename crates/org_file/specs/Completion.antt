@@ -1,6 +1,6 @@
 -- Completing a heading: its keyword, and its repeated stamps (Org manual 9.6, "Repeated tasks"; where the keyword goes,
 -- and which one is written: profile).
-use Rattle.std.specs.Prelude.{ℕ, ◌+◌, ◌-◌, Bool, false, ◌&&◌, ◌||◌, not, nat_lt, if◌then◌else◌, List, [], ◌∷◌, ◌++◌, length, take, drop, get_or, slice_get, codes, Option, Some, None, Result, Ok, Err, is_some}
+use Rattle.std.specs.Prelude.{ℕ, ◌+◌, ◌-◌, Bool, false, ◌&&◌, ◌||◌, not, nat_lt, if◌then◌else◌, List, [], ◌∷◌, ◌++◌, length, take, drop, get_or, codes, Option, Some, None, Result, Ok, Err, is_some}
 use Rattle.std.specs.List.{concat, prefix_len}
 use Rattle.org_base.specs.Words.{is_space}
 use Rattle.org_base.specs.declared.code.Code.TheVariants as code
@@ -8,18 +8,18 @@ use Rattle.org_base.specs.declared.fault.Fault.{Fault}
 use Rattle.org_base.specs.declared.fault.Fault.TheVariants.{Plain}
 use Rattle.org_base.specs.declared.span.Span.{Span}
 use Rattle.org_cal.specs.declared.moment.Moment.{Moment}
-use Rattle.org_class.specs.Heading.{stars, begins_heading}
+use Rattle.org_class.specs.Heading.{stars}
 use Rattle.org_class.specs.Sections.{sections}
 use Rattle.org_drawer.specs.declared.planning.Planning.{Planning}
 use Rattle.org_entry.specs.Entry.{entry_of, heading_line}
 use Rattle.org_entry.specs.declared.entry.Entry.{Entry}
 use Rattle.org_entry.specs.Planning.{entry_planning}
-use Rattle.org_file.specs.Begun.{entry_there, section_start}
-use Rattle.org_file.specs.Outline.{file_settings}
-use Rattle.org_file.specs.Parts.{Part, with_parts}
+use Rattle.org_file.specs.Parts.{Part, one_part, with_parts}
 use Rattle.org_file.specs.declared.plan.Plan.{Plan}
 use Rattle.org_file.specs.declared.plan.Shift.{Shift}
 use Rattle.org_head.specs.declared.head.Head.{Head}
+use Rattle.org_kept.specs.Begun.{entry_there, has_heading, section_start}
+use Rattle.org_kept.specs.Outline.{file_settings}
 use Rattle.org_lines.specs.Cuts.{lines}
 use Rattle.org_repeat.specs.Shift.{shift_answer}
 use Rattle.org_repeat.specs.Shifted.{lacks_time}
@@ -27,7 +27,7 @@ use Rattle.org_settings.specs.Keywords.{keyword_place, keyword_done, keyword_fir
 use Rattle.org_settings.specs.Settings.{FileSettings}
 use Rattle.org_stamp.specs.Print.{stamp_text}
 use Rattle.org_stamp.specs.declared.stamp.Stamp.{Stamp}
-use Rattle.org_text.specs.Replace.{max_bytes}
+use Rattle.org_text.specs.Replace.{max_bytes, replace}
 
 -- the stamp shifts when its task is done
 abbrev pub shifts : Option (Stamp × Span) → Bool
@@ -129,15 +129,6 @@ entry_parts at now settings keyword entry (Some head) =
 abbrev pub section_parts : ℕ → Moment → FileSettings → List ℕ → Entry → Result (List Part) Fault
 section_parts at now settings keyword entry = entry_parts at now settings keyword entry entry.head
 
--- a heading stands on the line. Lines count from 1
-abbrev pub is_heading_line : Option (List ℕ) → Bool
-is_heading_line None = false
-is_heading_line (Some line) = begins_heading line
-
--- a heading stands on the line of the text
-abbrev pub has_heading : List ℕ → ℕ → Bool
-has_heading text line = nat_lt 0 line && is_heading_line (slice_get (lines text) (line - 1))
-
 -- where a line begins
 abbrev pub line_start : List ℕ → ℕ → ℕ
 line_start text line = length (concat (take (line - 1) (lines text)))
@@ -157,6 +148,10 @@ completion_parts text line keyword now =
 abbrev pub sized : List ℕ → Result (List ℕ) Fault
 sized text = if nat_lt max_bytes (length text) then Err (Plain code.Size) else Ok text
 
+-- a text with a part replaced, unless it is too long
+abbrev pub replaced : List ℕ → ℕ → ℕ → List ℕ → Result (List ℕ) Fault
+replaced text at del ins = sized (replace text at del ins)
+
 -- the text with the parts replaced
 abbrev pub completed_by : List ℕ → Result (List Part) Fault → Result (List ℕ) Fault
 completed_by text (Err fault) = Err fault
@@ -166,9 +161,28 @@ completed_by text (Ok parts) = sized (with_parts text parts)
 unfoldable pub completed : List ℕ → ℕ → List ℕ → Moment → Result (List ℕ) Fault
 completed text line keyword now = completed_by text (completion_parts text line keyword now)
 
+-- parts as one change, if there are some
+abbrev pub as_one : List ℕ → Result (List Part) Fault → Result Part Fault
+as_one text (Err fault) = Err fault
+as_one text (Ok parts) = Ok (one_part text parts)
+
+-- what completing the heading on a line replaces, as one change, or why nothing is
+unfoldable pub completion_part : List ℕ → ℕ → List ℕ → Moment → Result Part Fault
+completion_part text line keyword now = as_one text (completion_parts text line keyword now)
+
+-- the same of the heading of the section at a place
+abbrev pub part_at : List ℕ → ℕ → List ℕ → Moment → Result Part Fault
+part_at text place keyword now =
+    as_one text (section_parts (section_start text place) now (file_settings text) keyword (entry_there text place))
+
+-- what a plan replaces of the entry of the section at a place
+abbrev pub plan_part : List ℕ → ℕ → Entry → Option Span → Plan → Part
+plan_part text place entry old plan =
+    one_part text (plan_parts (section_start text place) (heading_line entry) old (file_settings text) plan)
+
 -- the text with the heading of the section at a place completed, unless that is refused
-abbrev pub section_completed : List ℕ → ℕ → List ℕ → Moment → Result (List ℕ) Fault
-section_completed text place keyword now =
+abbrev pub completed_at : List ℕ → ℕ → List ℕ → Moment → Result (List ℕ) Fault
+completed_at text place keyword now =
     completed_by text (section_parts (section_start text place) now (file_settings text) keyword (entry_there text place))
 
 -- the text with a plan written into the entry of the section at a place, unless that is too long

@@ -1,7 +1,4 @@
-pub mod Outline
-pub mod Counts
-pub mod Classified
+pub mod Reading
 pub mod Parts
 pub mod Completion
 pub mod Written
-pub mod Begun

@@ -1,5 +1,5 @@
 -- What a completion puts into a heading's text (profile).
-use Rattle.std.specs.Prelude.{◌≡◌, ◌≢◌, ℕ, ◌+◌, ◌≤◌, Bool, true, false, ⊤, List, [], ◌++◌, Option, Some, None, Result, Ok, Err}
+use Rattle.std.specs.Prelude.{◌≡◌, ◌≢◌, ℕ, ◌+◌, ◌≤◌, Bool, true, false, ⊤, List, [], ◌++◌, length, string_bytes, Option, Some, None, Result, Ok, Err}
 use Rattle.std.specs.List.{slice_range}
 use Rattle.std.specs.Str.{IsUtf8}
 use Rattle.org_base.specs.Codes.{memory_fault}
@@ -7,9 +7,12 @@ use Rattle.org_base.specs.declared.code.Code.TheVariants as code
 use Rattle.org_base.specs.declared.fault.Fault.{Fault}
 use Rattle.org_base.specs.declared.fault.Fault.TheVariants as fault
 use Rattle.org_base.specs.declared.span.Span.{Span}
+use Rattle.org_file.specs.Parts.{Part}
 use Rattle.org_file.specs.declared.plan.Plan.{Plan}
 use Rattle.org_file.specs.declared.plan.Shift.{Shift}
+use Rattle.org_file.specs.declared.revision.Revision.{Revision}
 use Rattle.org_stamp.specs.Print.{stamp_text}
+use Rattle.org_text.specs.Replace.{replace}
 use Rattle.org_utf8.specs.Laws.{IsTextPart}
 
 -- want of a time
@@ -53,3 +56,16 @@ pub record CanWrite (text : List ℕ) (span : Span) (plan : Plan) : Type 0 where
 abbrev pub AnswersAs : {T : Type 0} → (T → List ℕ) → Result T Fault → Result (List ℕ) Fault → Type 0
 AnswersAs seen (Ok new) wanted = wanted ≡ Ok (seen new)
 AnswersAs seen (Err refused) wanted = refused ≢ memory_fault → wanted ≡ Err refused
+
+-- the same of the text of a revision
+abbrev pub Revises : {T : Type 0} → (T → List ℕ) → Result (Revision T) Fault → Result (List ℕ) Fault → Type 0
+Revises content = AnswersAs (λ r. content r.text)
+
+-- the revision's change lies in a text, and its text is that one with the change
+pub record IsRevision {T : Type 0} (content : T → List ℕ) (old : List ℕ) (r : Revision T) : Type 0 where
+  pub within : r.at + r.del ≤ length old
+  pub text : content r.text ≡ replace old r.at r.del (string_bytes r.ins)
+
+-- a revision's change, as bytes
+abbrev pub part_of : {T : Type 0} → Revision T → Part
+part_of r = record { at = r.at; del = r.del; ins = string_bytes r.ins }

@@ -1,118 +1,144 @@
 //! Completing a heading.
-ghost use Rattle.std.specs.Prelude.{◌≡◌, ◌+◌, ◌-◌, ◌++◌, ◌<◌, ◌≤◌, ◌^◌, Ok, Err, Some, length, IfOk, IsSome, IsOkUnless};
+ghost use Rattle.std.specs.Prelude.{◌≡◌, ◌+◌, ◌-◌, ◌++◌, ◌<◌, ◌≤◌, ◌^◌, Ok, Err, Some, length, IfOk, IsSome, IsOkUnless, string_bytes};
 ghost use Rattle.std.specs.List.{prefix_len};
 ghost use Rattle.std.specs.Str.{IsUtf8, IsCharBoundary};
 ghost use Rattle.org_base.specs.Codes.{memory_fault};
-ghost use Rattle.org_base.specs.Counts.{ticked};
 ghost use Rattle.org_base.specs.Results.{Gives, Writes};
 ghost use Rattle.org_base.specs.Words.{is_space};
-ghost use Rattle.org_base.specs.declared.meter.Tick.TheVariants.{Read};
-ghost use Rattle.org_class.specs.Sections.{sections};
 ghost use Rattle.org_entry.specs.Entry.{heading_line};
-ghost use Rattle.org_file.specs.Begun.{entry_there};
-ghost use Rattle.org_file.specs.Completion.{completed, gap_behind, keyword_span, plan_written, section_completed, sized};
-ghost use Rattle.org_file.specs.Counts.{AtMost, AtMostOneRead};
-ghost use Rattle.org_file.specs.Written.{AnswersAs, CanWrite, IsBehind, plan_end, plan_text, shift_end, shift_text};
-ghost use Rattle.org_text.specs.Replace.{replace};
+ghost use Rattle.org_file.specs.Completion.{completed, completed_at, completion_part, gap_behind, keyword_span, part_at, plan_part, plan_written, replaced, sized};
+ghost use Rattle.org_file.specs.Reading.{HasReadOne, IsPlaceIn, WasReadAt};
+ghost use Rattle.org_file.specs.Written.{AnswersAs, CanWrite, IsBehind, IsRevision, Revises, part_of, plan_end, plan_text, shift_end, shift_text};
+ghost use Rattle.org_kept.specs.Begun.{entry_there};
+ghost use Rattle.org_text.specs.Replace.{max_bytes, replace};
 ghost use Rattle.org_utf8.specs.Laws.{IsTextPart};
 
 use crate::plan::{Plan, Shift, plan_of};
-use crate::sections::Sections;
+use crate::revision::Revision;
 use org_base::{Code, Fault, Meter, Span};
 use org_cal::Moment;
 use org_class::leading_stars;
 use org_entry::Entry;
-use org_head::Head;
-use org_settings::Settings;
+use org_kept::File;
 use org_stamp::print_stamp;
 use org_text::Text;
 use std::alloc::{AllocError, Global};
 
-/// The text with the heading on a line completed by a keyword at a moment (Org manual 9.6, "Repeated tasks"). Lines count
-/// from 1. Where the keyword is a done one, and an active `SCHEDULED` or `DEADLINE` of the heading has a repeater, each such
-/// stamp shifts, and the keyword written is the first of the sequence that holds the given one; otherwise that one is
-/// written and no stamp shifts. `+` shifts by one interval, `++` by so many that the stamp lies behind the moment, `.+` to
-/// one interval from the moment's day, or with hours from the moment itself. A shifted stamp is printed anew. Where the
-/// heading has no keyword, it and a space are put behind the stars and the white space that follows them. All else of
-/// the text stays, and so does the text that is lent.
+/// The text of a file with the heading on a line completed by a keyword at a moment, and what it changes of the file's text
+/// (Org manual 9.6, "Repeated tasks"). Lines count from 1. Where the keyword is a done one, and an active `SCHEDULED` or
+/// `DEADLINE` of the heading has a repeater, each such stamp shifts, and the keyword written is the first of the sequence
+/// that holds the given one; otherwise that one is written and no stamp shifts. `+` shifts by one interval, `++` by so many
+/// that the stamp lies behind the moment, `.+` to one interval from the moment's day, or with hours from the moment itself. A
+/// shifted stamp is printed anew. Where the heading has no keyword, it and a space are put behind the stars and the white
+/// space that follows them. All else of the text stays, and so does the file's own text.
 ///
 /// Refusals, in this order: `Heading` where no heading stands on the line; `Keyword` where the keyword is none of the
 /// file's; `Hours` where a stamp that would shift has a repeater of hours and no time, or a time range; `Date` where one
 /// would leave the years 1 to 9999; `Size` where the new text would be longer than a text may be. Want of memory may come
-/// at any time. The meter counts each section as classified once at most, and at most one as read.
+/// at any time. No section is classified. The section that begins with the line is read, if it is still to be read, and
+/// stays read, behind a refusal too; the meter counts it then.
 pub fn complete<T: Text>(
     alloc: Global,
     meter: &mut Meter,
-    text: &T,
+    file: &mut File<T>,
     line: u64,
     keyword: &str,
     moment: Moment,
-) -> Result<T, Fault>
-    ensures value { AnswersAs T.content result (completed (T.content text.now) line keyword.now moment) }
-    ensures few { AtMost (length (sections (T.content text.now))) meter.old meter.new }
-    ensures reads { AtMostOneRead (length (sections (T.content text.now))) meter.old meter.new }
+) -> Result<Revision<T>, Fault>
+    ensures value { Revises T.content result (completed file.old.text line keyword.now moment) }
+    ensures change { IfOk result (IsRevision T.content file.old.text) }
+    ensures part { IfOk result (λ r. completion_part file.old.text line keyword.now moment ≡ Ok (part_of r)) }
+    ensures read { HasReadOne file.old file.new meter.old meter.new }
 {
-    let file = Sections::of(alloc, meter, text)?;
     let Some(place) = file.begun_by(line) else {
         return Err(Fault::Plain(Code::Heading));
     };
-    complete_section(alloc, meter, &file, place, keyword, moment)
+    file.read(alloc, meter, place)?;
+    complete_section(alloc, file, place, keyword, moment)
 }
 
-// The text with the heading of the section at a place completed.
+// The text with the heading of the section at a place completed, which was read.
 fn complete_section<T: Text>(
     alloc: Global,
-    meter: &mut Meter,
-    file: &Sections<'_, T>,
-    place: usize,
+    file: &File<T>,
+    place: u32,
     keyword: &str,
     moment: Moment,
-) -> Result<T, Fault>
-    requires within { place < length (sections file.now) }
-    ensures value { AnswersAs T.content result (section_completed file.now place keyword.now moment) }
-    ensures counts { meter.new ≡ ticked Read meter.old }
+) -> Result<Revision<T>, Fault>
+    requires there { IsPlaceIn file.now place }
+    requires read { WasReadAt file.now place }
+    ensures value { Revises T.content result (completed_at file.now.text place keyword.now moment) }
+    ensures change { IfOk result (IsRevision T.content file.now.text) }
+    ensures part { IfOk result (λ r. part_at file.now.text place keyword.now moment ≡ Ok (part_of r)) }
 {
-    let entry = file.entry(alloc, meter, place)?;
+    let Some(entry) = file.entry(place) else {
+        unreachable!();
+    };
     let Some(head) = &entry.head else {
         return Err(Fault::Plain(Code::Heading));
     };
     // For the proof alone: its contract says that the text is UTF-8.
-    let _text = file.text();
+    let _text = text_of(file);
     let plan = plan_of(file.settings(), entry.planning(), keyword, moment)?;
-    complete_entry(alloc, file, place, &entry, head.keyword, plan)
+    complete_entry(alloc, file, place, entry, head.keyword, plan)
+}
+
+// The text of a file, of which callers learn that it is UTF-8 and not too long.
+fn text_of<T: Text>(file: &File<T>) -> &T
+    ensures value { T.content result.now ≡ file.now.text }
+    ensures utf8 { IsUtf8 file.now.text }
+    ensures small { length file.now.text ≤ max_bytes }
+{
+    let text = file.text();
+    // For the proof alone: its contract says so.
+    let _len = text.len();
+    text
 }
 
 // The text with a plan written into the entry of the section at a place, whose heading has this keyword.
 fn complete_entry<T: Text>(
     alloc: Global,
-    file: &Sections<'_, T>,
-    place: usize,
+    file: &File<T>,
+    place: u32,
     entry: &Entry,
     old: Option<Span>,
     plan: Plan,
-) -> Result<T, Fault>
-    requires within { place < length (sections file.now) }
-    requires entry { entry.now ≡ entry_there file.now place }
+) -> Result<Revision<T>, Fault>
+    requires there { IsPlaceIn file.now place }
+    requires entry { entry.now ≡ entry_there file.now.text place }
     requires headed { IsSome entry.now.head }
     requires plan { CanWrite entry.now.text (keyword_span (heading_line entry.now) old) plan }
-    ensures value { AnswersAs T.content result (plan_written file.now place entry.now old plan) }
+    ensures value { Revises T.content result (plan_written file.now.text place entry.now old plan) }
+    ensures change { IfOk result (IsRevision T.content file.now.text) }
+    ensures part { IfOk result (λ r. plan_part file.now.text place entry.now old plan ≡ part_of r) }
 {
-    let text = file.text();
+    let text = text_of(file);
     let span = keyword_span(entry.line(), old);
     let mut ins = String::new(alloc);
     push_keyword(&mut ins, file.settings().keyword_word(plan.keyword), old)?;
     let end = push_shifts(alloc, &mut ins, entry, span, plan)?;
     let at = file.start(place) + span.at;
-    changed(text, at, end - span.at, ins.as_str())
+    revised(text, at, end - span.at, ins)
+}
+
+// The text with a part of it replaced, and this change.
+fn revised<T: Text>(text: &T, at: u32, del: u32, ins: String) -> Result<Revision<T>, Fault>
+    requires part { IsTextPart (T.content text.now) (record { at = at; len = del }) }
+    ensures value { Revises T.content result (replaced (T.content text.now) at del (string_bytes ins)) }
+    ensures change { IfOk result (IsRevision T.content (T.content text.now)) }
+    ensures part { IfOk result (λ r. (r.at ≡ at) × (r.del ≡ del) × (string_bytes r.ins ≡ string_bytes ins)) }
+{
+    let text = changed(text, at, del, ins.as_str())?;
+    Ok(Revision { text, at, del, ins })
 }
 
 // The text with a part of it replaced.
-fn changed<T: Text>(text: &T, at: u32, len: u32, ins: &str) -> Result<T, Fault>
-    requires part { IsTextPart (T.content text.now) (record { at = at; len = len }) }
-    ensures value { AnswersAs T.content result (sized (replace (T.content text.now) at len ins.now)) }
+fn changed<T: Text>(text: &T, at: u32, del: u32, ins: &str) -> Result<T, Fault>
+    requires part { IsTextPart (T.content text.now) (record { at = at; len = del }) }
+    ensures value { AnswersAs T.content result (replaced (T.content text.now) at del ins.now) }
 {
     let mut new = text.share()?;
-    new.edit(at as u64, len as u64, ins)?;
+    new.edit(at as u64, del as u64, ins)?;
     Ok(new)
 }
 

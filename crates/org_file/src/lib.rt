@@ -1,14 +1,13 @@
-//! One file as an engine has it.
+//! Completing a heading of a file with kept sections.
 //!
-//! What a file says is read of its text by its own settings, wherever its setting lines stand: one outline of entries, one
-//! for each section, and the settings. A view is asked over what it inherits. A heading is completed by one change of the text.
+//! The section that begins with the heading is read, if it is still to be read, and nothing else. What comes of it is one
+//! change of the text, with the text that has it.
 #![tactic(auto)]
 
 mod completion;
 pub mod laws;
-mod outline;
 mod plan;
-mod sections;
+mod revision;
 
 pub use completion::complete;
-pub use outline::FileOutline;
+pub use revision::Revision;

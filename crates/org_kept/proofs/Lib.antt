@@ -4,6 +4,7 @@ pub mod ChangeLemmas
 pub mod FlagLemmas
 pub mod FreshLemmas
 pub mod KeptLemmas
+pub mod LawLemmas
 pub mod LineLemmas
 pub mod OutlineLemmas
 pub mod PlaceLemmas

@@ -148,7 +148,7 @@ one_cut (s ∷ ss) (suc i) h lt = one_cut ss i h.2 (omega arith)
 pub one_section : (t : List ℕ) (place : ℕ) → place < length (sections t) → sections (section_of t place) ≡ section_of t place ∷ []
 one_section t place lt = one_cut (sections t) place (are_cut t) lt
 
-has_lines : (s : List ℕ) → sections s ≡ s ∷ [] → 0 < length (lines s)
+pub has_lines : (s : List ℕ) → sections s ≡ s ∷ [] → 0 < length (lines s)
 has_lines [] h = absurd cc
 has_lines (b ∷ bs) h = of (lines (b ∷ bs)) (some_lines b bs)
   where
@@ -157,7 +157,7 @@ has_lines (b ∷ bs) h = of (lines (b ∷ bs)) (some_lines b bs)
     of (l ∷ ls) n = omega arith
 
 -- behind so many lines
-at_line : (t : List ℕ) (n : ℕ) → has_heading t (n + 1) ≡ is_heading_line (slice_get (lines t) n)
+pub at_line : (t : List ℕ) (n : ℕ) → has_heading t (n + 1) ≡ is_heading_line (slice_get (lines t) n)
 at_line t n =
     let first : nat_lt 0 (n + 1) ≡ true = grind (arith, nat_tests) in
     let back : n + 1 - 1 ≡ n = omega arith in

@@ -3,6 +3,7 @@ pub mod Change
 pub mod Counts
 pub mod File
 pub mod Held
+pub mod Laws
 pub mod Outline
 pub mod Renewed
 pub mod Sections

@@ -26,3 +26,7 @@ outline_of text = record { entries = file_entries text; settings = file_settings
 -- what inheritance looks at in a file, of the file's name and the inherited names
 abbrev pub scope_in : OutlineView → List ℕ → List (List ℕ) → Scope
 scope_in file name inherited = record { entries = file.entries; settings = file.settings; file = name; inherited = inherited }
+
+-- the same of the file's text
+abbrev pub scope_of : List (List ℕ) → List ℕ → List ℕ → Scope
+scope_of inherited name text = scope_in (outline_of text) name inherited

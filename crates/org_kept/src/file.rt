@@ -108,6 +108,7 @@ impl<T: Text> File<T> {
     /// line either. Lines count from 1. It takes as many steps as the logarithm of the number of sections.
     pub fn begun_by(&self, line: u64) -> Option<u32>
         ensures some { IfSome result (λ place. IsBegunBy self.now.text line place) }
+        ensures within { IfSome result (λ place. place < length self.now.marks) }
         ensures none { result ≡ None → has_heading self.now.text line ≡ false }
     {
         let before = line.checked_sub(1)?;

@@ -8,6 +8,7 @@
 mod change;
 mod file;
 mod fresh;
+pub mod laws;
 mod outline;
 mod quiet;
 mod read;

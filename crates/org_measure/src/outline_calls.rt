@@ -4,8 +4,8 @@ use org_base::{Bytes, Code, Fault, Meter, Span, Texts};
 use org_cal::Moment;
 use org_class::{classify, read_settings};
 use org_entry::{Entry, read_entry};
-use org_file::FileOutline;
 use org_inherit::{Inherit, Inherits};
+use org_kept::{File, FileOutline};
 use org_match::{Facts, Match};
 use org_outline::{Entries, Outline};
 use org_text::{Text, Whole};
@@ -108,7 +108,8 @@ fn gathers_of(alloc: Global, outline: &FileOutline, names: &Texts) -> Result<boo
 
 fn outline_of(alloc: Global) -> Result<FileOutline, Fault> {
     let text = Whole::of(alloc, SECTION)?;
-    FileOutline::read(alloc, &mut Meter::new(), &text)
+    let mut file = File::new(alloc, &mut Meter::new(), text, 0)?;
+    file.outlined(alloc, &mut Meter::new())
 }
 
 /// What the outlines of files say, gathered.

@@ -4,7 +4,8 @@ use Rattle.org_base.specs.declared.fault.Fault.{Fault}
 use Rattle.std.specs.Io.KnownBytes.{Appends}
 use Rattle.org_base.specs.Codes.{code_of}
 use Rattle.org_engine.specs.Questions.{Asks, AsksOf}
-use Rattle.org_engine.specs.Sections.{ReadsAtMostOne, ReadsSomeAsked}
+use Rattle.org_engine.specs.Marks.{Classifies, Completes, Reads, added_count, new_count, pending_asked}
+use Rattle.org_engine.specs.Step.{file_named}
 use Rattle.org_engine.specs.Step as step
 use Rattle.org_engine.specs.World.{EngineView, State}
 use Rattle.org_engine.specs.declared.question.View.{View}
@@ -63,17 +64,18 @@ pub record IsViewServed (view : View) (session : Option ℕ) (old : State) (answ
 abbrev pub ServesView : View → Option ℕ → EngineView → Reply → EngineView → Type 0
 ServesView view session old answer new = IsViewServed view session old.state answer new.state
 
--- what a command may count: a view each section of the files that it is asked of, once as classified and once as read;
--- completing a heading the sections of its file as classified, and one as read; all others nothing
+-- what a command may count: a view the sections of the world that it is asked of which are still to be read, as read; a file
+-- that is added its sections, and a change of one the new ones, as classified; completing a heading one as read besides; all
+-- others nothing
 abbrev pub CountsFor : Command → EngineView → EngineView → Type 0
-CountsFor (Todo session file words) old new = ReadsSomeAsked session old new
-CountsFor (Match session file text) old new = ReadsSomeAsked session old new
-CountsFor (Agenda session date days) old new = ReadsSomeAsked session old new
-CountsFor (Clock session text) old new = ReadsSomeAsked session old new
-CountsFor (Complete seen line keyword) old new = ReadsAtMostOne seen.name old new
-CountsFor (Add name text) old new = new.counts ≡ old.counts
+CountsFor (Todo session file words) old new = Reads (pending_asked session old) old new
+CountsFor (Match session file text) old new = Reads (pending_asked session old) old new
+CountsFor (Agenda session date days) old new = Reads (pending_asked session old) old new
+CountsFor (Clock session text) old new = Reads (pending_asked session old) old new
+CountsFor (Complete seen line keyword) old new = Completes seen.name line keyword old new
+CountsFor (Add name text) old new = Classifies (added_count text) old new
+CountsFor (Edit seen at del ins) old new = Classifies (new_count at del ins (file_named seen.name old.state.world.files)) old new
 CountsFor (Drop name) old new = new.counts ≡ old.counts
-CountsFor (Edit seen at del ins) old new = new.counts ≡ old.counts
 CountsFor (Inherit names) old new = new.counts ≡ old.counts
 CountsFor (At moment) old new = new.counts ≡ old.counts
 CountsFor (Profile profile) old new = new.counts ≡ old.counts

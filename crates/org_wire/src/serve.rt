@@ -2,7 +2,7 @@
 ghost use Rattle.std.specs.Prelude.{◌≡◌};
 ghost use Rattle.std.specs.Option.{option_copied};
 ghost use Rattle.org_engine.specs.Questions.{IsShort};
-ghost use Rattle.org_engine.specs.Sections.{ReadsSomeAsked};
+ghost use Rattle.org_engine.specs.Marks.{Reads, pending_asked};
 ghost use Rattle.org_wire.specs.Run.{moment_command};
 ghost use Rattle.org_wire.specs.Turns.{CountsFor, Serves, ServesSurely, ServesView, told, told_text};
 ghost use Rattle.org_wire.specs.declared.command.Command.TheVariants.{Complete, Edit};
@@ -78,7 +78,7 @@ fn told_text(outcome: Result<String, Fault>) -> Reply
 // Replaces bytes of the text that a session saw.
 fn edit<T: Text>(engine: &mut Engine<T>, seen: &Seen, at: u64, del: u64, ins: &[u8]) -> Reply
     ensures value { Serves (Edit seen.now at del ins.now) engine.old result engine.new }
-    ensures counts { engine.new.counts ≡ engine.old.counts }
+    ensures counts { CountsFor (Edit seen.now at del ins.now) engine.old engine.new }
 {
     told(engine.edit(seen.session, seen.name.as_str(), seen.serial, at, del, ins))
 }
@@ -95,7 +95,7 @@ fn complete<T: Text>(engine: &mut Engine<T>, seen: &Seen, line: u64, keyword: &s
 fn ask<T: Text>(engine: &mut Engine<T>, view: View<'_>, session: Option<u64>) -> Reply
     requires short { IsShort view }
     ensures value { ServesView view.entry session engine.old result engine.new }
-    ensures counts { ReadsSomeAsked session engine.old engine.new }
+    ensures counts { Reads (pending_asked session engine.old) engine.old engine.new }
 {
     told_text(engine.query(view, session))
 }
@@ -111,10 +111,11 @@ fn set_moment<T: Text>(engine: &mut Engine<T>, moment: Option<Moment>) -> Reply
     }
 }
 
-// Makes up to so many background steps, until none is left or one finds no memory. The state stays.
+// Makes up to so many background steps, until none is left or one finds no memory. The state stays; each step reads at most
+// one section.
 pub(crate) fn work<T: Text>(engine: &mut Engine<T>, idle: u64)
     ensures state { engine.new.state ≡ engine.old.state }
-    ensures counts { engine.new.counts ≡ engine.old.counts }
+    ensures counts { Reads idle engine.old engine.new }
 {
     for _step in 0..idle {
         match engine.work() {

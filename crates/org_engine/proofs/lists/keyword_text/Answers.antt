@@ -10,7 +10,7 @@ use Rattle.org_engine.proofs.lists.keyword_text.Goals as goal
 
 pub returns-clause-value : goal.returns-clause-value
 returns-clause-value g c =
-    let world = c.args.world.now in
+    let world = c.args.world.now.world in
     let listing = todo_listing c.args.list.now.words.now in
     let over = c.args.list.now.over in
     let shown : GivesText c.view_of.result (list_lines (scopes_named None (scopes_of world)) (list_rows listing over (scopes_named None (scopes_of world)))) = c.view_of.ensures.value in

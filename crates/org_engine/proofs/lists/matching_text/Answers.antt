@@ -10,7 +10,7 @@ use Rattle.org_engine.proofs.lists.matching_text.Goals as goal
 
 pub returns-clause-value : goal.returns-clause-value
 returns-clause-value g c =
-    let world = c.args.world.now in
+    let world = c.args.world.now.world in
     let expr = c.args.expression.now in
     let shown : GivesText c.view_of.result (list_lines (scopes_named None (scopes_of world)) (list_rows (Matching expr c.moment.result) c.args.over (scopes_named None (scopes_of world)))) = c.view_of.ensures.value in
     subst (λ (text : List ℕ). GivesText c.view_of.result text) (matching_are expr c.moment.result c.args.over world c.moment.ensures.value) shown

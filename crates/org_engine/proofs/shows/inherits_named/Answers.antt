@@ -1,6 +1,6 @@
 use Rattle.std.proofs.Common.{◌≡◌, ◌∙◌, ◌<◌, ◌≤◌, ◌++◌, ◌∷◌, [], ap, arith, false, length, subst, sym, true}
 use Rattle.std.specs.Option.{option_map}
-use Rattle.org_file.specs.Outline.{outline_of, scope_in, scope_of}
+use Rattle.org_kept.specs.Outline.{outline_of, scope_in, scope_of}
 use Rattle.org_text.specs.Replace.{max_bytes}
 use Rattle.org_engine.specs.Views.{is_wanted}
 use Rattle.org_engine.specs.World.{FileView}
@@ -10,7 +10,7 @@ use Rattle.org_engine.proofs.shows.inherits_named.Goals as goal
 
 pub loop-place-preserved-then-not-is_wanted : goal.loop-place-preserved-then-not-is_wanted
 loop-place-preserved-then-not-is_wanted g c =
-    let world = c.args.world.now in
+    let world = c.args.world.now.world in
     let files = world.files in
     let place = c.loop-place.place in
     let scope = λ (f : FileView). scope_of world.inherited f.name f.text in
@@ -27,7 +27,7 @@ loop-place-preserved-then-not-is_wanted g c =
 
 pub loop-place-preserved : goal.loop-place-preserved
 loop-place-preserved g c =
-    let world = c.args.world.now in
+    let world = c.args.world.now.world in
     let files = world.files in
     let place = c.loop-place.place in
     let scope = λ (f : FileView). scope_of world.inherited f.name f.text in
@@ -47,13 +47,13 @@ loop-place-preserved g c =
 
 pub returns-clause-value : goal.returns-clause-value
 returns-clause-value g c =
-    let world = c.args.world.now in
+    let world = c.args.world.now.world in
     let all : length world.files ≤ c.loop-place.place = omega (arith, c.loop-place-test.false, c.count-place-end.ensures.value) in
     named_all (option_map (λ name. name.now) c.args.file) (λ (f : FileView). scope_of world.inherited f.name f.text) world.files c.loop-place.place _ _ all c.loop-place.invariant.named
 
 pub returns-clause-read : goal.returns-clause-read
 returns-clause-read g c =
-    let world = c.args.world.now in
+    let world = c.args.world.now.world in
     let files = world.files in
     let all : length files ≤ c.loop-place.place = omega (arith, c.loop-place-test.false, c.count-place-end.ensures.value) in
     named_read (option_map (λ name. name.now) c.args.file) world c.loop-place.inherits

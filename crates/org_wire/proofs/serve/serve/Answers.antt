@@ -2,37 +2,37 @@ use Rattle.std.specs.Option.{option_copied}
 use Rattle.std.proofs.Common.{◌≡◌, ap, refl, subst}
 use Rattle.org_engine.specs.Questions.{AsksMatch, AsksOf, AsksTable, asked_agenda}
 use Rattle.org_engine.specs.Step as step
-use Rattle.org_wire.proofs.ServeLemmas.{serves, serves_surely, shows, tells, tells_surely, tells_text}
+use Rattle.org_wire.proofs.ServeLemmas.{classifies_added, counts_none, serves, serves_surely, shows, tells, tells_surely, tells_text}
 use Rattle.org_wire.proofs.serve.serve.Goals as goal
 
 pub returns-in-Add : goal.returns-in-Add
 returns-in-Add g c = record {
   value = rw (c.in-Add.is, c.told.ensures.value) (tells _ _ _ _ (ap (λ name. step.AddFile name c.in-Add.text) c.as_str.ensures.value) _ c.add_bytes.ensures.ok c.add_bytes.ensures.err);
-  counts = rw c.in-Add.is c.add_bytes.ensures.counts;
+  counts = rw c.in-Add.is (classifies_added c.in-Add.text _ _ c.add_bytes.result c.add_bytes.ensures.marks c.add_bytes.ensures.few);
 }
 
 pub returns-in-Drop : goal.returns-in-Drop
 returns-in-Drop g c = record {
   value = rw (c.in-Drop.is, c.told-in-Drop.ensures.value) (tells_surely _ _ _ _ (ap step.DropFile c.as_str-in-Drop.ensures.value) _ c.drop_file.ensures.ok c.drop_file.ensures.err);
-  counts = rw c.in-Drop.is c.drop_file.ensures.counts;
+  counts = rw c.in-Drop.is (counts_none _ c.args.engine.now c.drop_file.new.self c.drop_file.result c.drop_file.ensures.marks c.drop_file.ensures.quiet);
 }
 
 pub returns-in-Edit : goal.returns-in-Edit
 returns-in-Edit g c = record {
   value = rw c.in-Edit.is (rw c.as_slice.ensures.value at c.edit.ensures.value);
-  counts = rw c.in-Edit.is c.edit.ensures.counts;
+  counts = rw c.in-Edit.is (rw c.as_slice.ensures.value at c.edit.ensures.counts);
 }
 
 pub returns-in-Complete : goal.returns-in-Complete
 returns-in-Complete g c = record {
   value = rw c.in-Complete.is (rw c.as_str-in-Complete.ensures.value at c.complete.ensures.value);
-  counts = rw c.in-Complete.is c.complete.ensures.counts;
+  counts = rw c.in-Complete.is (rw c.as_str-in-Complete.ensures.value at c.complete.ensures.counts);
 }
 
 pub returns-in-Inherit : goal.returns-in-Inherit
 returns-in-Inherit g c = record {
   value = rw c.in-Inherit.is (serves _ _ _ _ (step.Serial c.set_inherit.result) _ refl refl (λ e. cc) c.set_inherit.ensures.value);
-  counts = rw c.in-Inherit.is c.set_inherit.ensures.counts;
+  counts = rw c.in-Inherit.is c.set_inherit.ensures.quiet.1;
 }
 
 pub returns-in-At : goal.returns-in-At
@@ -44,19 +44,19 @@ returns-in-At g c = record {
 pub returns-in-Profile : goal.returns-in-Profile
 returns-in-Profile g c = record {
   value = rw (c.in-Profile.is, c.told-in-Profile.ensures.value) (tells_surely _ _ _ _ refl _ c.set_profile.ensures.ok c.set_profile.ensures.err);
-  counts = rw c.in-Profile.is c.set_profile.ensures.counts;
+  counts = rw c.in-Profile.is c.set_profile.ensures.quiet.1;
 }
 
 pub returns-in-Pin : goal.returns-in-Pin
 returns-in-Pin g c = record {
   value = rw (c.in-Pin.is, c.told-in-Pin.ensures.value) (tells _ _ _ _ refl _ c.pin.ensures.ok c.pin.ensures.err);
-  counts = rw c.in-Pin.is c.pin.ensures.counts;
+  counts = rw c.in-Pin.is (counts_none _ c.args.engine.now c.pin.new.self c.pin.result c.pin.ensures.marks c.pin.ensures.quiet);
 }
 
 pub returns-in-Unpin : goal.returns-in-Unpin
 returns-in-Unpin g c = record {
   value = rw (c.in-Unpin.is, c.told-in-Unpin.ensures.value) (tells_surely _ _ _ _ refl _ c.unpin.ensures.ok c.unpin.ensures.err);
-  counts = rw c.in-Unpin.is c.unpin.ensures.counts;
+  counts = rw c.in-Unpin.is (counts_none _ c.args.engine.now c.unpin.new.self c.unpin.result c.unpin.ensures.marks c.unpin.ensures.quiet);
 }
 
 pub returns-in-Text : goal.returns-in-Text

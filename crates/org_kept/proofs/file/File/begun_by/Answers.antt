@@ -1,7 +1,8 @@
 -- A section begins with the line, or the line stands inside one, or behind the last.
 use Rattle.std.proofs.Common.{◌≡◌, ◌+◌, ◌≤◌, arith}
 use Rattle.std.specs.List.{sum_by}
-use Rattle.org_kept.specs.Sections.{line_count}
+use Rattle.std.proofs.lemmas.List.{length-map}
+use Rattle.org_kept.specs.Sections.{is_read, line_count}
 use Rattle.org_kept.proofs.BegunLemmas.{begins, none_begins, none_behind}
 use Rattle.org_kept.proofs.file.File.begun_by.Goals as goal
 
@@ -19,6 +20,11 @@ returns-then-before-from-2-clause-some g c =
     let list = c.self.inside.list in
     let is : c.args.line ≡ c.in_ok-before.before + 1 = omega (arith, c.in_ok-before.ensures) in
     rw (← c.self.view_is) (begins t list c.args.line c.in_ok-before.before c.find_line-place.result.0 c.find_line-place.result.1 c.self.invariant.kept.list_is is c.find_line-place.ensures.value (omega (arith, c.from-2.ensures, c.if-before-from-2.true)))
+
+pub returns-then-before-from-2-clause-within : goal.returns-then-before-from-2-clause-within
+returns-then-before-from-2-clause-within g c =
+    let inside = c.find_line-place.ensures.value.within in
+    rw (← c.self.view_is) (omega (arith, inside, length-map c.self.inside.list is_read))
 
 pub returns-else-before-from-2-clause-none : goal.returns-else-before-from-2-clause-none
 returns-else-before-from-2-clause-none g c =

@@ -1,0 +1,167 @@
+-- Which sections were read when a heading was completed.
+use Rattle.std.proofs.Common.{◌≡◌, ◌∙◌, ◌<◌, ◌≤◌, ℕ, Bool, true, false, cond, List, [], ◌∷◌, ap, arith, length, refl, subst, sym}
+use Rattle.std.specs.Prelude.{Err, IfSome, None, Ok, OnErr, OnOk, Option, Result, Some, bytes_eq, string_bytes}
+use Rattle.org_base.specs.Counts.{Counts}
+use Rattle.org_base.specs.Results.{IfRefused}
+use Rattle.org_base.specs.declared.fault.Fault.{Fault}
+use Rattle.org_class.specs.Changes.{new_sections}
+use Rattle.org_class.specs.Ticks.{classified}
+use Rattle.org_file.specs.Completion.{completion_part}
+use Rattle.org_file.specs.Parts.{Part}
+use Rattle.org_file.specs.Reading.{with_one_read}
+use Rattle.org_file.specs.Written.{part_of}
+use Rattle.org_file.specs.declared.revision.Revision.{Revision}
+use Rattle.org_kept.specs.File.{FileView as KeptFile, IsChanged, marked}
+use Rattle.org_kept.specs.declared.change.Change.{Change}
+use Rattle.org_engine.specs.Calls.{IsCompletionIn}
+use Rattle.org_engine.specs.Marks.{Completes, CompletesMarks, CompletesNone, CountsOne, EditsMarks, IsQuiet, KeepsOthers, PutsMarks, PutsNoMarks, ReadsAtMostOne, ReadsOne, completed_count, kept_named, marks_named, new_count, part_count, with_marks, with_section_read}
+use Rattle.org_engine.specs.Step.{file_named}
+use Rattle.org_engine.specs.World.{EngineView, FileView, KeptPins, KeptWorld, Marks, WorldView}
+use Rattle.org_engine.proofs.FilesLemmas.{kept_text}
+
+same_kept : (a b : KeptFile) → Some a ≡ Some b → a ≡ b
+same_kept a b h = cc
+
+-- the marks of the file of a name are its own
+own_marks : (name : List ℕ) (files : List FileView) (marks : List (List Bool)) (kept : KeptFile) → kept_named name files marks ≡ Some kept → marks_named name files marks ≡ kept.marks
+own_marks name [] marks kept is = absurd cc
+own_marks name (f ∷ files) [] kept is = absurd cc
+own_marks name (f ∷ files) (own ∷ marks) kept is =
+    elim (bytes_eq name f.name) as (λ b. cond b (Some (record { text = f.text; serial = f.serial; marks = own })) (kept_named name files marks) ≡ Some kept → cond b own (marks_named name files marks) ≡ kept.marks) [
+      | true ↦ λ k. ap (λ (v : KeptFile). v.marks) (same_kept _ _ k)
+      | false ↦ λ k. own_marks name files marks kept k
+    ] is
+
+-- with its own marks all is as before
+with_own : (name : List ℕ) (files : List FileView) (marks : List (List Bool)) (kept : KeptFile) → kept_named name files marks ≡ Some kept → with_marks name kept.marks files marks ≡ marks
+with_own name [] marks kept is = refl
+with_own name (f ∷ files) [] kept is = refl
+with_own name (f ∷ files) (own ∷ marks) kept is =
+    elim (bytes_eq name f.name) as (λ b. cond b (Some (record { text = f.text; serial = f.serial; marks = own })) (kept_named name files marks) ≡ Some kept → cond b (kept.marks ∷ marks) (own ∷ with_marks name kept.marks files marks) ≡ own ∷ marks) [
+      | true ↦ λ k. ap (λ m. m ∷ marks) (ap (λ (v : KeptFile). v.marks) (sym (same_kept _ _ k)))
+      | false ↦ λ k. ap (λ ms. own ∷ ms) (with_own name files marks kept k)
+    ] is
+
+-- the last marks count
+with_twice : (name : List ℕ) (a b : List Bool) (files : List FileView) (marks : List (List Bool)) → with_marks name b files (with_marks name a files marks) ≡ with_marks name b files marks
+with_twice name a b [] marks = refl
+with_twice name a b (f ∷ files) [] = refl
+with_twice name a b (f ∷ files) (own ∷ marks) =
+    elim (bytes_eq name f.name) as (λ c. bytes_eq name f.name ≡ c → with_marks name b (f ∷ files) (cond c (a ∷ marks) (own ∷ with_marks name a files marks)) ≡ cond c (b ∷ marks) (own ∷ with_marks name b files marks)) [
+      | true ↦ λ e. rw e refl
+      | false ↦ λ e. rw e (ap (λ ms. own ∷ ms) (with_twice name a b files marks))
+    ] refl
+
+-- and are then the file's
+kept_with : (name : List ℕ) (new : List Bool) (files : List FileView) (marks : List (List Bool)) (kept : KeptFile) → kept_named name files marks ≡ Some kept → kept_named name files (with_marks name new files marks) ≡ Some (record kept { marks = new })
+kept_with name new [] marks kept is = absurd cc
+kept_with name new (f ∷ files) [] kept is = absurd cc
+kept_with name new (f ∷ files) (own ∷ marks) kept is =
+    elim (bytes_eq name f.name) as (λ c. bytes_eq name f.name ≡ c → cond c (Some (record { text = f.text; serial = f.serial; marks = own })) (kept_named name files marks) ≡ Some kept → kept_named name (f ∷ files) (cond c (new ∷ marks) (own ∷ with_marks name new files marks)) ≡ Some (record kept { marks = new })) [
+      | true ↦ λ e k. let one = same_kept _ _ k in rw e (ap Some (λ i. record { text = (one i).text; serial = (one i).serial; marks = new }))
+      | false ↦ λ e k. rw e (kept_with name new files marks kept k)
+    ] refl is
+
+-- nothing was read
+pub none_completed : (name : List ℕ) (line : ℕ) (keyword : List ℕ) (e : EngineView) → CompletesNone name line keyword e e
+none_completed name line keyword e = (record { place = None; within = tt; marks = refl }, record { reads = 0; count = 0; one = omega arith; few = omega arith; counts = refl })
+
+module _ (name : List ℕ) (line : ℕ) (keyword : List ℕ) (world new : KeptWorld) (pins : KeptPins) (serial : ℕ) (before after : Counts) (read : ReadsOne name world new before after) where
+  abbrev pub old : EngineView
+  old = record { state = record { world = world.world; pins = pins.pins; serial = serial }; counts = before; marks = record { world = world.marks; pins = pins.marks } }
+
+  abbrev pub mid : EngineView
+  mid = record { state = record { world = new.world; pins = pins.pins; serial = serial }; counts = after; marks = record { world = new.marks; pins = pins.marks } }
+
+  abbrev pub files : List FileView
+  files = world.world.files
+
+  with_read : (place : Option ℕ) → read.read ≡ with_one_read place read.file → new.marks ≡ with_section_read name place files world.marks
+  with_read None is = read.marks ∙ ap (λ (f : KeptFile). with_marks name f.marks files world.marks) is ∙ with_own name files world.marks read.file read.found
+  with_read (Some place) is =
+      let own = own_marks name files world.marks read.file read.found in
+      read.marks ∙ ap (λ (f : KeptFile). with_marks name f.marks files world.marks) is ∙ ap (λ m. with_marks name (marked place m) files world.marks) (sym own)
+
+  within : (place : Option ℕ) → IfSome place (λ p. p < length read.file.marks) → IfSome place (λ p. p < length (marks_named name files world.marks))
+  within None h = tt
+  within (Some p) h = rw (own_marks name files world.marks read.file read.found) h
+
+  others : (final : EngineView) → final.marks ≡ mid.marks → KeepsOthers name old final
+  others final same = record {
+    place = read.one.place;
+    within = within read.one.place read.one.within;
+    marks = same ∙ (λ i. record { world = with_read read.one.place read.one.file i; pins = pins.marks });
+  }
+
+  -- after a refusal
+  pub completed_none : CompletesNone name line keyword old mid
+  completed_none = (others mid refl, record { reads = read.one.reads; count = 0; one = read.one.few; few = omega arith; counts = read.one.counts })
+
+  pub completed_quiet : (final : EngineView) → IsQuiet mid final → ReadsAtMostOne name old final
+  completed_quiet final quiet = (others final quiet.0, record { reads = read.one.reads; count = 0; one = read.one.few; few = omega arith; counts = quiet.1 ∙ read.one.counts })
+
+  module _ {T : Type 0} (content : T → List ℕ) (r : Revision T) (is : IsCompletionIn content name line keyword world r) (change : Change) (made : ◌≡◌ {A = Part} (record { at = change.at; del = change.del; ins = change.ins.now }) (part_of r)) where
+    abbrev pub part : Part
+    part = record { at = change.at; del = change.del; ins = change.ins.now }
+
+    own_part : completion_part is.file.text line keyword world.world.moment ≡ Ok part
+    own_part = is.part ∙ ap Ok (sym made)
+
+    most : new_count change.at change.del change.ins.now (file_named name new.world.files) ≡ completed_count line keyword world.world.moment (file_named name files)
+    most =
+        ap (λ (w : WorldView). new_count change.at change.del change.ins.now (file_named name w.files)) read.world
+        ∙ ap (new_count change.at change.del change.ins.now) is.found
+        ∙ sym (ap (completed_count line keyword world.world.moment) is.found ∙ ap (part_count is.file) own_part)
+
+    pub completed_few : (final : EngineView) → PutsNoMarks name change mid final → CompletesNone name line keyword old final
+    completed_few final kept = (others final kept.0, record { reads = read.one.reads; count = kept.1.0; one = read.one.few; few = rw (← most) kept.1.1; counts = kept.1.2 ∙ ap (classified kept.1.0) read.one.counts })
+
+    pub completed_marks : (final : EngineView) → PutsMarks name change mid final → CompletesMarks name line keyword old final
+    completed_marks final edits =
+        let here : kept_named name files new.marks ≡ Some edits.before = ap (λ (w : WorldView). kept_named name w.files new.marks) (sym read.world) ∙ edits.found in
+        let there : kept_named name files new.marks ≡ Some (record read.file { marks = read.read.marks }) = ap (kept_named name files) read.marks ∙ kept_with name read.read.marks files world.marks read.file read.found in
+        let same_text = (by read.one.place read.one.file).0 in
+        let same_serial = (by read.one.place read.one.file).1 in
+        let one : edits.before ≡ read.read = same_kept _ _ (sym here ∙ there) ∙ (λ i. record { text = sym same_text i; serial = sym same_serial i; marks = read.read.marks }) in
+        let count : length (new_sections read.file.text change.at change.del change.ins.now) ≡ new_count change.at change.del change.ins.now (file_named name new.world.files) =
+        ap (λ t. length (new_sections t change.at change.del change.ins.now)) (kept_text name files world.marks read.file is.file read.found is.found)
+        ∙ sym (ap (λ (w : WorldView). new_count change.at change.del change.ins.now (file_named name w.files)) read.world ∙ ap (new_count change.at change.del change.ins.now) is.found) in
+        record {
+          part = part;
+          before = read.file;
+          read = read.read;
+          after = edits.after;
+          between = after;
+          completion = record { file = is.file; found = is.found; is = own_part };
+          found = read.found;
+          one = read.one;
+          changed = subst (λ (f : KeptFile). IsChanged f change.at change.del change.ins.now final.state.serial edits.after) one edits.changed;
+          marks = edits.marks ∙ (λ i. record {
+            world = (ap (λ (w : WorldView). with_marks name edits.after.marks w.files new.marks) read.world
+                ∙ ap (with_marks name edits.after.marks files) read.marks
+                ∙ with_twice name read.read.marks edits.after.marks files world.marks) i;
+            pins = pins.marks;
+          });
+          counts = edits.counts ∙ ap (λ n. classified n after) (sym count);
+        }
+      where
+        by : (place : Option ℕ) → read.read ≡ with_one_read place read.file → (read.read.text ≡ read.file.text) × (read.read.serial ≡ read.file.serial)
+        by None e = (ap (λ (f : KeptFile). f.text) e, ap (λ (f : KeptFile). f.serial) e)
+        by (Some at) e = (ap (λ (f : KeptFile). f.text) e, ap (λ (f : KeptFile). f.serial) e)
+
+-- a completion counts one section as read, and the new ones
+pub completes : {A : Type 0} (name : List ℕ) (line : ℕ) (keyword : List ℕ) (old new : EngineView) (outcome : Result A Fault) → OnOk outcome (CompletesMarks name line keyword old new) → OnErr outcome (CompletesNone name line keyword old new) → Completes name line keyword old new
+completes name line keyword old new (Ok x) all some =
+    let file = all.completion.file in
+    let same = kept_text name old.state.world.files old.marks.world all.before file all.found all.completion.found in
+    let count : length (new_sections all.before.text all.part.at all.part.del all.part.ins) ≡ completed_count line keyword old.state.world.moment (file_named name old.state.world.files) =
+    ap (λ t. length (new_sections t all.part.at all.part.del all.part.ins)) same
+    ∙ sym (ap (completed_count line keyword old.state.world.moment) all.completion.found ∙ ap (part_count file) all.completion.is) in
+    record {
+      reads = all.one.reads;
+      count = length (new_sections all.before.text all.part.at all.part.del all.part.ins);
+      one = all.one.few;
+      few = omega (arith, count);
+      counts = all.counts ∙ ap (classified (length (new_sections all.before.text all.part.at all.part.del all.part.ins))) all.one.counts;
+    }
+completes name line keyword old new (Err fault) all some = some.1

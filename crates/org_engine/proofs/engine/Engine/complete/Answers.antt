@@ -1,0 +1,37 @@
+use Rattle.std.proofs.Common.{◌≡◌, refl}
+use Rattle.std.proofs.lemmas.Result.{IfErr-weaker}
+use Rattle.org_file.specs.Parts.{Part}
+use Rattle.org_file.specs.Written.{part_of}
+use Rattle.org_engine.proofs.CompletedLemmas.{completed_few, completed_marks, completed_none, completed_quiet, none_completed}
+use Rattle.org_engine.proofs.MarkLemmas.{on_err, refused_so, where_err, where_ok}
+use Rattle.org_engine.proofs.engine.Engine.complete.Goals as goal
+
+pub returns-in_err-text_seen-clause-few : goal.returns-in_err-text_seen-clause-few
+returns-in_err-text_seen-clause-few g c = on_err c.from_residual.result (none_completed c.args.name.now c.args.line c.args.keyword.now c.args.self.now)
+
+pub returns-in_err-text-clause-few : goal.returns-in_err-text-clause-few
+returns-in_err-text-clause-few g c =
+    let now = c.self.inside in
+    on_err c.from_residual-in_err-text.result (rw (← c.self.view_is) (completed_none c.args.name.now c.args.line c.args.keyword.now now.world c.completed.new.self now.pins now.serial now.meter c.completed.new.meter c.in_err-text.ensures.read))
+
+pub returns-in_err-text-clause-quiet : goal.returns-in_err-text-clause-quiet
+returns-in_err-text-clause-quiet g c =
+    let now = c.self.inside in
+    refused_so _ c.from_residual-in_err-text.result (rw (← c.self.view_is) (completed_quiet c.args.name.now c.args.line c.args.keyword.now now.world c.completed.new.self now.pins now.serial now.meter c.completed.new.meter c.in_err-text.ensures.read _ (refl, refl)))
+
+pub returns-clause-marks : goal.returns-clause-marks
+returns-clause-marks g c =
+    let now = c.self.inside in
+    let made : ◌≡◌ {A = Part} (record { at = c.in_ok-text.field-0.at; del = c.in_ok-text.field-0.del; ins = c.as_str-ins.result.now }) (part_of c.in_ok-text.field-0) = λ i. record { at = c.in_ok-text.field-0.at; del = c.in_ok-text.field-0.del; ins = c.as_str-ins.ensures.value i } in
+    rw (← c.self.view_is) (where_ok c.put.result (completed_marks c.args.name.now c.args.line c.args.keyword.now now.world c.completed.new.self now.pins now.serial now.meter c.completed.new.meter c.in_ok-text.ensures.read g.T.Text.content c.in_ok-text.field-0 c.in_ok-text.ensures.change (record { at = c.in_ok-text.field-0.at; del = c.in_ok-text.field-0.del; ins = c.as_str-ins.result }) made c.put.new.self) c.put.ensures.marks)
+
+pub returns-clause-few : goal.returns-clause-few
+returns-clause-few g c =
+    let now = c.self.inside in
+    let made : ◌≡◌ {A = Part} (record { at = c.in_ok-text.field-0.at; del = c.in_ok-text.field-0.del; ins = c.as_str-ins.result.now }) (part_of c.in_ok-text.field-0) = λ i. record { at = c.in_ok-text.field-0.at; del = c.in_ok-text.field-0.del; ins = c.as_str-ins.ensures.value i } in
+    rw (← c.self.view_is) (where_err c.put.result (completed_few c.args.name.now c.args.line c.args.keyword.now now.world c.completed.new.self now.pins now.serial now.meter c.completed.new.meter c.in_ok-text.ensures.read g.T.Text.content c.in_ok-text.field-0 c.in_ok-text.ensures.change (record { at = c.in_ok-text.field-0.at; del = c.in_ok-text.field-0.del; ins = c.as_str-ins.result }) made c.put.new.self) c.put.ensures.few)
+
+pub returns-clause-quiet : goal.returns-clause-quiet
+returns-clause-quiet g c =
+    let now = c.self.inside in
+    rw (← c.self.view_is) (IfErr-weaker c.put.result _ _ (λ fault quiet other. completed_quiet c.args.name.now c.args.line c.args.keyword.now now.world c.completed.new.self now.pins now.serial now.meter c.completed.new.meter c.in_ok-text.ensures.read c.put.new.self (quiet other)) c.put.ensures.quiet)
