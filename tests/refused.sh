@@ -10,7 +10,7 @@
 # To see it bite, build the program with an `Engine::edit` that takes the bytes out of the file first and then puts the others
 # in: where the second step finds no memory the first one stands, and this stops there.
 here=$(cd "$(dirname "$0")" && pwd)
-streams="every-command lists-of-one-file-in-every-form"
+streams="every-command lists-of-one-file-in-every-form edits-of-one-section-among-many"
 work=$(mktemp -d) || exit 2
 trap 'rm -rf "$work"' EXIT
 passed=0
