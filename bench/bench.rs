@@ -6,6 +6,8 @@
 //!     bench changes PROGRAM      the rows of edits and pins alone
 //!     bench sizes PROGRAM        files of 1, 8 and 64 MiB
 //!     bench memory PROGRAM       what edited texts take
+//!     bench kept PROGRAM [SCALE] edits and questions in turn, background steps, pins, settings; with SCALE all of it so many
+//!                                times smaller, to see that it runs
 //!     bench plain                answers the commands `add`, `text`, `todo`, `agenda`, some `match` and some `clock` of standard
 //!                                input
 //!     bench typed                answers the commands `add`, `edit`, `pin` and `unpin` of standard input, over one file
@@ -17,6 +19,7 @@
 mod agenda;
 mod clocks;
 mod edits;
+mod kept;
 mod memory;
 mod rope;
 mod sizes;
@@ -45,6 +48,7 @@ fn main() -> io::Result<()> {
         Some("changes") => measure_changes(&args[2], &args[0]),
         Some("sizes") => sizes::measure(&args[2], &args[0]),
         Some("memory") => memory::measure(&args[2], &args[0]),
+        Some("kept") => kept::measure(&args[2], &args[0], args.get(3).map_or(1, |scale| scale.parse().expect("a scale"))),
         Some("text") => io::stdout().write_all(text(args[2].parse().unwrap()).as_bytes()),
         Some("cost") => print_cost(&args[2], &args[3..]),
         Some("list") => {

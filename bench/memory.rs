@@ -38,9 +38,10 @@ fn bytes(edits: &mut Edits) -> io::Result<()> {
     Ok(())
 }
 
-// Up to 40 bytes at a random place replaced by up to 40 others.
+// Up to 40 bytes at a random place replaced by up to 40 others, which begin a heading: a text without headings would be one
+// section, which each edit would have to look at whole.
 fn parts(edits: &mut Edits) -> io::Result<()> {
-    const WORDS: &str = "milk report call plan review budget garden";
+    const WORDS: &str = "\n* milk report call\nplan review budget ga";
     let mut seed = 1;
     for _edit in 0..EDITS {
         let at = next(&mut seed) as usize % (edits.len - 40);
@@ -50,14 +51,14 @@ fn parts(edits: &mut Edits) -> io::Result<()> {
     Ok(())
 }
 
-// Blocks put in at the end, of which a quarter stays, until the text is full.
+// Blocks put in at the end, of which a quarter stays, until the text is full. Each is a heading, so that each is a section.
 fn quarters(edits: &mut Edits, block: usize) -> io::Result<()> {
-    let (ins, stays) = ("x".repeat(block), block / 4);
+    let (ins, stays) = (format!("* {}", "x".repeat(block - 2)), block / 4);
     while edits.len < SIZE {
         let at = edits.len;
         edits.edit(at, 0, &ins)?;
         edits.edit(at + stays, block - stays, "")?;
-        edits.edit(at + stays, 0, "y")?;
+        edits.edit(at + stays, 0, "\n")?;
     }
     Ok(())
 }
