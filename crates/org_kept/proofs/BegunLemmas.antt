@@ -26,7 +26,7 @@ count_before (s ∷ ss) (x ∷ list) (suc k) e =
     let rest = count_before ss list k (tail_is (bare x) (fresh_section s) (map bare list) (map fresh_section ss) e) in
     omega (arith, sum, here, length-classes (lines s), rest, length-append (lines s) (flat_map lines (take k ss)))
 
-lines_until : (t : List ℕ) (list : List SectionView) (k : ℕ) → AreOf t list → sum_by line_count (take k list) ≡ lines_before t k
+pub lines_until : (t : List ℕ) (list : List SectionView) (k : ℕ) → AreOf t list → sum_by line_count (take k list) ≡ lines_before t k
 lines_until t list k e = count_before (sections t) list k e
 
 -- there is no line 0

@@ -1,11 +1,11 @@
 //! A file: its text, its serial, and what is kept of its sections.
-ghost use Rattle.std.specs.Prelude.{◌≡◌, ◌<◌, ◌≢◌, false, true, cond, length, get_or, IfOk, IfSome, OnOk, OnErr, IsOkUnless, nat_lt, is_some, None};
+ghost use Rattle.std.specs.Prelude.{◌≡◌, ◌+◌, ◌<◌, ◌≢◌, false, true, cond, length, get_or, IfOk, IfSome, OnOk, OnErr, IsOkUnless, nat_lt, is_some, None};
 ghost use Rattle.org_base.specs.Codes.{memory_fault};
 ghost use Rattle.org_base.specs.Counts.{ticked};
 ghost use Rattle.org_base.specs.Results.{Gives};
 ghost use Rattle.org_base.specs.declared.meter.Tick.TheVariants.{Read};
 ghost use Rattle.org_class.specs.Ticks.{AllClassified, SomeClassified};
-ghost use Rattle.org_kept.specs.Begun.{IsBegunBy, entry_there, has_heading, section_start};
+ghost use Rattle.org_kept.specs.Begun.{IsBegunBy, entry_there, has_heading, lines_before, section_start};
 ghost use Rattle.org_kept.specs.Change.{IsChangedBy, LiesIn, edited};
 ghost use Rattle.org_kept.specs.Counts.{NewClassified, FewNewClassified, SomeRead, have_read};
 ghost use Rattle.org_kept.specs.File.{AreOf, IsReady, all_marked, fresh_file, marked, read_sections, unread, unread_at, with_first_read};
@@ -129,6 +129,17 @@ impl<T: Text> File<T> {
         ensures value { result ≡ section_start self.now.text place }
     {
         self.list.size_before(place)
+    }
+
+    /// The line of the text with which the section at a place begins. Lines count from 1.
+    pub fn line(&self, place: u32) -> u32
+        requires { place < length self.now.marks }
+        ensures value { result ≡ lines_before self.now.text place + 1 }
+    {
+        // For the proof alone: a text has no more lines than bytes.
+        let _bytes = self.text.len();
+        let _lines = self.list.lines();
+        self.list.lines_before(place) + 1
     }
 
     /// What the section at a place says, lent; None where it is still to be read.

@@ -1,0 +1,20 @@
+-- A section begins behind the lines of those before it, and a text has no more lines than bytes.
+use Rattle.std.proofs.Common.{◌+◌, ◌∙◌, arith, ap}
+use Rattle.std.specs.List.{sum_by}
+use Rattle.std.proofs.lemmas.List.Sums.{sum_by-take-le}
+use Rattle.org_kept.specs.Sections.{line_count}
+use Rattle.org_kept.proofs.BegunLemmas.{lines_until}
+use Rattle.org_kept.proofs.KeptLemmas.{size_of}
+use Rattle.org_kept.proofs.file.File.line.Goals as goal
+
+pub overflow_add-result : goal.overflow_add-result
+overflow_add-result g c =
+    let t = g.T.Text.content c.self.inside.text in
+    let list = c.self.inside.list in
+    omega (arith, sum_by-take-le line_count list c.args.place, size_of t list c.self.invariant.kept.list_is, c.lines_before.ensures.value, c.lines-lines.ensures.covered, c.lines-lines.ensures.value, c.len-bytes.ensures.small)
+
+pub returns : goal.returns
+returns g c =
+    let t = g.T.Text.content c.self.inside.text in
+    let list = c.self.inside.list in
+    rw (← c.self.view_is) record { value = ap (λ n. n + 1) (c.lines_before.ensures.value ∙ lines_until t list c.args.place c.self.invariant.kept.list_is) }

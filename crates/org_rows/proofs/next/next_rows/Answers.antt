@@ -1,0 +1,14 @@
+use Rattle.std.proofs.Common.{◌≡◌, ◌∙◌, [], ap, sym}
+use Rattle.std.specs.Prelude.{fold}
+use Rattle.org_agenda.specs.Days.{day_rows}
+use Rattle.org_rows.specs.Next.{with_day, with_row}
+use Rattle.org_rows.proofs.NextLemmas.{days_next}
+use Rattle.org_rows.proofs.next.next_rows.Goals as goal
+
+pub loop-ahead-preserved : goal.loop-ahead-preserved
+loop-ahead-preserved c =
+    let a = c.args.agenda.now in
+    let rows : c.as_slice.result.now ≡ day_rows a.profile a.sources a.today c.day.result =
+    c.as_slice.ensures.value ∙ c.in_ok-rows.ensures.value ∙ ap (day_rows a.profile a.sources a.today) (sym c.day.ensures.value) in
+    days_next (with_day c.args.now.now a) [] _ c.loop-ahead.next.items a.first c.loop-ahead.ahead c.day.result c.day.ensures.value c.loop-ahead.invariant
+    (c.in_ok-push_day.ensures ∙ ap (fold (with_row c.args.now.now c.day.result) c.loop-ahead.next.items) rows)

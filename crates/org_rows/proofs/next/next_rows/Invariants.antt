@@ -1,0 +1,8 @@
+use Rattle.std.proofs.Common.{◌≡◌, []}
+use Rattle.std.specs.Prelude.{fold}
+use Rattle.std.specs.List.{range_with_len}
+use Rattle.org_rows.specs.Next.{with_day}
+use Rattle.org_rows.proofs.next.next_rows.Given as goal
+
+abbrev pub invariant-loop-ahead : goal.invariant-loop-ahead
+invariant-loop-ahead l = l.next.items ≡ fold (with_day l.now l.agenda) [] (range_with_len l.agenda.first l.ahead)

@@ -1,0 +1,49 @@
+-- Files under names, and what inheritance looks at in them (Org Syntax, "Headings and Sections").
+use Rattle.std.specs.Prelude.{◌≡◌, ◌≤◌, ℕ, List, length, map, take}
+use Rattle.std.specs.List.{All}
+use Rattle.org_agenda.specs.Headings.{AllHaveHeads}
+use Rattle.org_base.specs.declared.limits.TheConstants.{MOST_FILES}
+use Rattle.org_class.specs.Sections.{sections}
+use Rattle.org_inherit.specs.Scope.{Scope}
+use Rattle.org_kept.specs.File.{FileView}
+use Rattle.org_kept.specs.Outline.{OutlineView, outline_of, scope_in}
+use Rattle.org_sum.specs.Texts.{AreOfText}
+use Rattle.org_text.specs.Replace.{max_bytes}
+
+-- a text under a name
+pub record NamedText : Type 0 where
+  pub name : List ℕ
+  pub text : List ℕ
+
+-- this is what a file says, and so many sections it has
+pub record IsRead (file : FileView) (outline : OutlineView) (count : ℕ) : Type 0 where
+  pub said : outline ≡ outline_of file.text
+  pub counted : count ≡ length (sections file.text)
+  pub marked : length file.marks ≡ length (sections file.text)
+  pub short : length file.text ≤ max_bytes
+
+-- files in order, and the names whose values headings inherit
+pub record LibraryView : Type 0 where
+  pub files : List NamedText
+  pub inherited : List (List ℕ)
+
+-- what inheritance looks at in a file
+abbrev pub scope_of : List (List ℕ) → NamedText → Scope
+scope_of inherited file = scope_in (outline_of file.text) file.name inherited
+
+-- the same of each file
+abbrev pub scopes_of : LibraryView → List Scope
+scopes_of library = map (scope_of library.inherited) library.files
+
+-- they were read of texts: each heading has the head of its line, the entries of each are those of one text, and they are
+-- no more than there may be files
+pub record AreRead (scopes : List Scope) : Type 0 where
+  pub heads : AllHaveHeads scopes
+  pub texts : All (λ (scope : Scope). AreOfText scope.entries) scopes
+  pub few : length scopes ≤ MOST_FILES
+
+-- what inheritance looks at in the first so many files, each read of its text
+pub record AreFirst (f : NamedText → Scope) (files : List NamedText) (count : ℕ) (scopes : List Scope) : Type 0 where
+  pub named : scopes ≡ map f (take count files)
+  pub heads : AllHaveHeads scopes
+  pub texts : All (λ (scope : Scope). AreOfText scope.entries) scopes

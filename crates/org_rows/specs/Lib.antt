@@ -1,0 +1,5 @@
+pub mod Files
+pub mod Json
+pub mod Laws
+pub mod Next
+pub mod Places

@@ -1,0 +1,24 @@
+//! What clients ask of rows: where their headings stand in files, which stamps come next, and rows as JSON and as fields
+//! between commas.
+#![tactic(auto)]
+
+mod fields;
+mod heading;
+mod json;
+pub mod laws;
+mod library;
+mod next;
+mod one_line;
+mod place;
+mod read_file;
+mod rows;
+
+pub use fields::csv_line;
+pub use heading::Heading;
+pub use json::{json_line, table_line};
+pub use library::Library;
+pub use next::{Upcoming, next_rows};
+pub use one_line::OneLine;
+pub use place::Place;
+pub use read_file::ReadFile;
+pub use rows::{FilesRead, ShownRow};

@@ -1,0 +1,91 @@
+//! A file that was read.
+ghost use Rattle.std.specs.Prelude.{◌≡◌, ◌<◌, ◌≤◌, length, string_bytes, IfOk, IfSome, IsOkUnless, None};
+ghost use Rattle.org_agenda.specs.Headings.{HaveHeads};
+ghost use Rattle.org_base.specs.Codes.{memory_fault};
+ghost use Rattle.org_base.specs.Results.{Gives};
+ghost use Rattle.org_class.specs.Sections.{sections};
+ghost use Rattle.org_rows.specs.Files.{scope_of};
+ghost use Rattle.org_rows.specs.Places.{IsPlaceOf};
+ghost use Rattle.org_sum.specs.Texts.{AreOfText};
+
+use crate::place::Place;
+use org_base::{Fault, Meter, Texts};
+use org_inherit::Inherit;
+use org_kept::{File, FileOutline};
+use org_text::Text;
+use std::alloc::Global;
+use std::marker::Model;
+
+/// A file under a name, with what it says. Contracts see the name and the text.
+#[derive(Debug, Drop)]
+pub struct ReadFile<T: Text> {
+    name: String,
+    file: File<T>,
+    outline: FileOutline,
+    sections: u32,
+}
+
+impl<T: Text> Model for ReadFile<T> {
+    ghost use Rattle.std.specs.Prelude.{string_bytes};
+    ghost use Rattle.org_rows.specs.Files.{IsRead, NamedText};
+
+    ghost Value = { NamedText };
+
+    ghost view = { λ f. record { name = string_bytes f.name; text = f.file.text } };
+
+    ghost invariant = { λ f. IsRead f.file f.outline f.sections };
+}
+
+impl<T: Text> ReadFile<T> {
+    /// A text under a name, read. Want of memory is the only refusal.
+    pub fn new(alloc: Global, name: String, text: T) -> Result<ReadFile<T>, Fault>
+        ensures value { Gives result (record { name = string_bytes name; text = T.content text }) }
+        ensures memory { IsOkUnless result memory_fault }
+    {
+        // For the proof alone: the text is no longer than texts may be.
+        let _bytes = text.len();
+        let mut meter = Meter::new();
+        let mut file = File::new(alloc, &mut meter, text, 0)?;
+        let sections = file.pending();
+        let outline = file.outlined(alloc, &mut meter)?;
+        Ok(ReadFile {
+            name,
+            file,
+            outline,
+            sections,
+        })
+    }
+
+    /// The name.
+    pub fn name(&self) -> &str
+        ensures value { result.now ≡ self.now.name }
+    {
+        self.name.as_str()
+    }
+
+    /// What the outline says of headings, where the values of these names are inherited. Want of memory is the only
+    /// refusal.
+    pub fn inherit<'a>(&'a self, alloc: Global, inherited: &'a Texts) -> Result<Inherit<'a>, Fault>
+        ensures value { Gives result (scope_of inherited.now self.now) }
+        ensures heads { IfOk result (λ scope. HaveHeads scope.settings scope.entries) }
+        ensures text { IfOk result (λ scope. AreOfText scope.entries) }
+        ensures memory { IsOkUnless result memory_fault }
+    {
+        self.outline.inherit(alloc, self.name.as_str(), inherited)
+    }
+
+    /// Where the section at a place begins; none past the last.
+    pub fn place(&self, heading: usize) -> Option<Place>
+        ensures some { IfSome result (IsPlaceOf self.now.text heading) }
+        ensures none { result ≡ None → length (sections self.now.text) ≤ heading }
+    {
+        if heading >= self.sections as usize {
+            return None;
+        }
+        let heading = heading as u32;
+        Some(Place {
+            at: self.file.start(heading),
+            line: self.file.line(heading),
+        })
+    }
+}

@@ -1,0 +1,21 @@
+//! Rows, and the files that they are of.
+
+use crate::library::Library;
+use org_agenda::Row;
+use org_cal::Day;
+use org_inherit::Inherits;
+use org_text::Text;
+
+/// Files, and what their headings inherit.
+#[derive(Drop)]
+pub struct FilesRead<'a, 'b, T: Text> {
+    pub library: &'a Library<T>,
+    pub inherits: &'a Inherits<'b>,
+}
+
+/// A row, with its day where it is one of an agenda.
+#[derive(Clone, Copy, Debug, PartialEq, Eq)]
+pub struct ShownRow {
+    pub day: Option<Day>,
+    pub row: Row,
+}

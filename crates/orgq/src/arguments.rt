@@ -1,0 +1,104 @@
+//! The program's arguments.
+
+use clap::{Arg, ArgAction, Command, value_parser};
+use std::alloc::{AllocError, Global};
+
+// Options, one a line: the letter, the name, the name of the value and what it does, with semicolons between; of the first
+// two last fields some are empty. Those of all commands first, then those of one.
+const OF_ALL: &str = "\
+f;file;PATH;A file, or a folder, whose *.org files are meant
+;at;DATE TIME;The moment, as \"2024-02-28 10:30\"; without it now
+;keywords;WORDS;Keywords of files without such a line, as \"TODO NEXT | DONE\"
+;inherit;NAME;A property whose values headings inherit
+;profile;N;The profile that agendas follow, 1 or 2
+n;places;;FILE:LINE: in front of each row, as grep -n has it
+;json;;A JSON object a row, one a line
+;csv;;The fields of org-batch-agenda-csv, a line a row
+;color;WHEN;Late rows and warnings stand out: auto, always or never
+q;quiet;;Nothing is printed; the status tells whether there is a row";
+
+const OF_AGENDA: &str = "d;days;N;How many days, 1 to 366";
+
+const OF_CLOCK: &str = "\
+;level;N;The deepest level that is shown, 1 to 99; without it 2
+;step;STEP;A table for each day or week: day or week
+;effort;;Effort sums beside those of clocks
+;match;EXPR;Only headings of which the expression holds count";
+
+const OF_NEXT: &str = "\
+d;days;N;How many days from today on, 1 to 366; without it 30
+;within;MINUTES;Only what begins in so many minutes, 0 to 100000";
+
+/// The arguments that the program takes.
+pub fn command<'a>(alloc: Global) -> Result<Command<'a>, AllocError> {
+    let path = words(
+        alloc,
+        "PATH",
+        "A file or folder, as -f; with a slash or .org in its name",
+    );
+    let command = Command::new(alloc, "orgq")
+        .about(
+            "Agendas, lists and clock tables of your Org files; without a command today's agenda",
+        )
+        .arg(path)?;
+    let command = with_options(alloc, command, OF_ALL, true)?;
+    let agenda = Command::new(alloc, "agenda").about("Some days, by default today");
+    let agenda = agenda.arg(word(alloc, "DATE", "The first day, as 2024-02-28"))?;
+    let todo = Command::new(alloc, "todo").about("The open entries, or those with some keyword");
+    let list = Command::new(alloc, "match").about("The entries of which an expression holds");
+    let list = list.arg(word(alloc, "EXPR", "The expression, as work/!NEXT").required(true))?;
+    let clock = Command::new(alloc, "clock").about("A clock table, by default this week's");
+    let clock = clock.arg(word(alloc, "BLOCK", "A block of time, as today or 2024-W09"))?;
+    let next = Command::new(alloc, "next").about("What comes next of each stamp, by time");
+    command
+        .subcommand(with_options(alloc, agenda, OF_AGENDA, false)?)?
+        .subcommand(todo.arg(words(alloc, "KEYWORD", "Keywords; without them the open ones"))?)?
+        .subcommand(list)?
+        .subcommand(with_options(alloc, clock, OF_CLOCK, false)?)?
+        .subcommand(with_options(alloc, next, OF_NEXT, false)?)
+}
+
+fn word<'a>(alloc: Global, name: &'static str, help: &'static str) -> Arg<'a> {
+    Arg::new(alloc, name).help(help).action(ArgAction::Set)
+}
+
+fn words<'a>(alloc: Global, name: &'static str, help: &'static str) -> Arg<'a> {
+    word(alloc, name, help)
+        .num_args(0..)
+        .action(ArgAction::Append)
+}
+
+fn with_options<'a>(
+    alloc: Global,
+    mut command: Command<'a>,
+    table: &'static str,
+    is_global: bool,
+) -> Result<Command<'a>, AllocError> {
+    for line in table.lines() {
+        command = command.arg(option(alloc, line).global(is_global))?;
+    }
+    Ok(command)
+}
+
+fn option<'a>(alloc: Global, line: &'static str) -> Arg<'a> {
+    let mut fields = line.splitn(4, ';');
+    let letter = fields.next().unwrap_or("");
+    let name = fields.next().unwrap_or("");
+    let value = fields.next().unwrap_or("");
+    let mut arg = word(alloc, name, fields.next().unwrap_or("")).long(name);
+    if let Some(letter) = letter.chars().next() {
+        arg = arg.short(letter);
+    }
+    if value.is_empty() {
+        return arg.action(ArgAction::SetTrue);
+    }
+    let arg = arg.value_name(value);
+    match name {
+        "file" | "inherit" => arg.action(ArgAction::Append),
+        "profile" => arg.value_parser(value_parser!(u32).range(1..=2)),
+        "days" => arg.value_parser(value_parser!(u32).range(1..=366)),
+        "level" => arg.value_parser(value_parser!(u32).range(1..=99)),
+        "within" => arg.value_parser(value_parser!(u32).range(0..=100_000)),
+        _ => arg,
+    }
+}
