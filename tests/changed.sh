@@ -98,6 +98,7 @@ if [ -z "$stopped" ]; then
     done
     step "what docs/definitions.md names" . sh tests/shown.sh
     step "the worked streams" . make --no-print-directory rows
+    step "orgq beside orgviews" . make --no-print-directory orgq-test
     step "refused memory, and reads and writes that fail" . make --no-print-directory faults
 fi
 

@@ -59,6 +59,9 @@ counted shown
 echo "gate: the worked streams over the program that was just built, and over texts in one string"
 counted rows crates/orgviews/out/orgviews crates/org_measure/out/org_measure
 
+echo "gate: orgq beside orgviews, and its own worked cases"
+counted orgq crates/orgq/out/orgq crates/orgviews/out/orgviews
+
 echo "gate: memory that is refused, streams that are cut, reads and writes that fail"
 counted refused crates/orgviews/out/orgviews crates/org_measure/out/org_measure calls
 counted devices crates/orgviews/out/orgviews

@@ -1,0 +1,28 @@
+# Completion of orgq for bash.
+_orgq() {
+    local word=${COMP_WORDS[COMP_CWORD]} before=${COMP_WORDS[COMP_CWORD-1]}
+    local options="--file --at --keywords --inherit --profile --places --json --csv --color --quiet --help"
+    local part command=""
+    for part in "${COMP_WORDS[@]:1:COMP_CWORD-1}"; do
+        case $part in agenda|todo|match|clock|next) command=$part ;; esac
+    done
+    case $before in
+        -f|--file) COMPREPLY=($(compgen -f -- "$word")); return ;;
+        --color) COMPREPLY=($(compgen -W "auto always never" -- "$word")); return ;;
+        --profile) COMPREPLY=($(compgen -W "1 2" -- "$word")); return ;;
+        --step) COMPREPLY=($(compgen -W "day week" -- "$word")); return ;;
+        --at|--keywords|--inherit|--days|--level|--within|-d) return ;;
+    esac
+    case $command in
+        agenda) options="$options --days" ;;
+        clock) options="$options --level --step --effort --match" ;;
+        next) options="$options --days --within" ;;
+        "") options="$options agenda todo match clock next" ;;
+    esac
+    if [ "$command" = clock ] && [ "${word#-}" = "$word" ]; then
+        options="today yesterday thisweek lastweek thismonth lastmonth thisyear lastyear"
+    fi
+    COMPREPLY=($(compgen -W "$options" -- "$word"))
+    [ ${#COMPREPLY[@]} -gt 0 ] || COMPREPLY=($(compgen -f -X '!*.org' -- "$word"))
+}
+complete -o filenames -F _orgq orgq
