@@ -4,3 +4,4 @@ pub mod LawLemmas
 pub mod MissedLemmas
 pub mod NextLemmas
 pub mod PlaceLemmas
+pub mod StampLemmas

@@ -1,5 +1,5 @@
 -- Files under names, and what inheritance looks at in them (Org Syntax, "Headings and Sections").
-use Rattle.std.specs.Prelude.{◌≡◌, ◌≤◌, ℕ, List, length, map, take}
+use Rattle.std.specs.Prelude.{◌≡◌, ◌≤◌, ◌++◌, ◌∷◌, [], ℕ, List, length, map, take, Result, OnOk}
 use Rattle.std.specs.List.{All}
 use Rattle.org_agenda.specs.Headings.{AllHaveHeads}
 use Rattle.org_base.specs.declared.limits.TheConstants.{MOST_FILES}
@@ -21,6 +21,10 @@ pub record IsRead (file : FileView) (outline : OutlineView) (count : ℕ) : Type
   pub counted : count ≡ length (sections file.text)
   pub marked : length file.marks ≡ length (sections file.text)
   pub short : length file.text ≤ max_bytes
+
+-- a text under a name behind others
+abbrev pub with_file : List NamedText → List ℕ → List ℕ → List NamedText
+with_file files name text = files ++ record { name = name; text = text } ∷ []
 
 -- files in order, and the names whose values headings inherit
 pub record LibraryView : Type 0 where
@@ -47,3 +51,7 @@ pub record AreFirst (f : NamedText → Scope) (files : List NamedText) (count : 
   pub named : scopes ≡ map f (take count files)
   pub heads : AllHaveHeads scopes
   pub texts : All (λ (scope : Scope). AreOfText scope.entries) scopes
+
+-- a text under a name is put behind the files of a library, unless it's refused
+abbrev pub PutsFile : {T E : Type 0} → Result T E → LibraryView → LibraryView → List ℕ → List ℕ → Type 0
+PutsFile result old new name text = OnOk result (new.files ≡ with_file old.files name text)

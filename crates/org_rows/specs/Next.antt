@@ -1,5 +1,8 @@
 -- Which stamps come next (profile).
-use Rattle.std.specs.Prelude.{ℕ, Bool, true, not, ◌&&◌, ◌||◌, ◌==◌, nat_lt, nat_le, if◌then◌else◌, List, [], ◌∷◌, ◌++◌, Option, Some, None, fold}
+use Rattle.std.specs.BTreeSet.{BTreeSet, contains}
+use Rattle.std.specs.Ordering.{nat_cmp, ordering_then}
+use Rattle.std.specs.declared.cmp.Ordering.{Ordering}
+use Rattle.std.specs.Prelude.{◌≡◌, ℕ, Bool, true, not, ◌&&◌, ◌||◌, ◌==◌, nat_lt, nat_le, if◌then◌else◌, List, [], ◌∷◌, ◌++◌, Option, Some, None, fold}
 use Rattle.std.specs.List.{list_any, range_with_len}
 use Rattle.org_agenda.specs.Days.{AgendaView, day_rows}
 use Rattle.org_agenda.specs.Laws.{reminds}
@@ -27,6 +30,22 @@ is_of row upcoming = is_of_row row upcoming.row
 abbrev pub with_row : Moment → ℕ → List Upcoming → Row → List Upcoming
 with_row now day next row =
     if is_ahead now day row && not (list_any (is_of row) next) then next ++ record { day = day; row = row } ∷ [] else next
+
+-- the same of one that is ahead
+abbrev pub with_new : List Upcoming → ℕ → Row → List Upcoming
+with_new next day row = if not (list_any (is_of row) next) then next ++ record { day = day; row = row } ∷ [] else next
+
+-- a stamp by the places of its file, of its heading and in its section
+abbrev pub stamp_cmp : ℕ × ℕ × ℕ → ℕ × ℕ × ℕ → Ordering
+stamp_cmp a b = ordering_then (ordering_then (nat_cmp a.0 b.0) (nat_cmp a.1 b.1)) (nat_cmp a.2 b.2)
+
+-- a row is of it
+abbrev pub is_at_stamp : ℕ → ℕ → ℕ → Upcoming → Bool
+is_at_stamp file heading at upcoming = (file == upcoming.row.file) && (heading == upcoming.row.heading) && (at == upcoming.row.stamp_at)
+
+-- these are the stamps that rows are of
+abbrev pub AreStampsOf : BTreeSet (ℕ × ℕ × ℕ) → List Upcoming → Type 0
+AreStampsOf stamps next = (file heading at : ℕ) → contains stamp_cmp stamps (file, heading, at) ≡ list_any (is_at_stamp file heading at) next
 
 -- the same with all rows of a day
 abbrev pub with_day : Moment → AgendaView → List Upcoming → ℕ → List Upcoming

@@ -1,9 +1,8 @@
 //! What a row's heading says.
-ghost use Rattle.std.specs.Prelude.{◌≡◌, ◌<◌, length, slice_get, Some, IfSome};
+ghost use Rattle.std.specs.Prelude.{◌≡◌, ◌<◌, length};
 ghost use Rattle.std.specs.Option.{option_copied};
-ghost use Rattle.org_agenda.specs.Headings.{AllHaveHeads, IsHeadOf, keyword_in};
+ghost use Rattle.org_agenda.specs.Headings.{keyword_in};
 ghost use Rattle.org_base.specs.Spans.{bytes_in};
-ghost use Rattle.org_head.specs.Head.{head_of, priority_of};
 ghost use Rattle.org_inherit.specs.Category.{category};
 ghost use Rattle.org_inherit.specs.Tags.{all_tags};
 ghost use Rattle.org_base.specs.Results.{Gives};
@@ -60,7 +59,7 @@ impl<'a, 'b> Heading<'a, 'b> {
 
     /// Its keyword, if it has one.
     pub fn keyword(&self) -> Option<&[u8]>
-        ensures value { option_copied result ≡ keyword_in self.now.entry.now.text self.now.head.now }
+        ensures value { let h = self.now in option_copied result ≡ keyword_in h.entry.now.text h.head.now }
     {
         let span = self.head.keyword?;
         Some(self.entry.part(span))

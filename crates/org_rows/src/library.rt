@@ -1,9 +1,9 @@
 //! Files in order.
-ghost use Rattle.std.specs.Prelude.{◌≡◌, ◌<◌, ◌≤◌, [], ◌∷◌, ◌++◌, length, slice_get, string_bytes, Some, IfErr, IfOk, IfSome, IsOkUnless, OnErr, OnOk};
+ghost use Rattle.std.specs.Prelude.{◌≡◌, ◌<◌, ◌≤◌, [], length, slice_get, string_bytes, Some, IfOk, IfSome, IsOkUnless, OnErr};
 ghost use Rattle.org_base.specs.Codes.{memory_fault};
 ghost use Rattle.org_base.specs.Results.{Gives};
 ghost use Rattle.org_base.specs.declared.limits.TheConstants.{MOST_FILES};
-ghost use Rattle.org_rows.specs.Files.{AreRead, scopes_of};
+ghost use Rattle.org_rows.specs.Files.{AreRead, PutsFile, scopes_of};
 ghost use Rattle.org_rows.specs.Places.{IsPlaceIn};
 
 use crate::place::Place;
@@ -66,7 +66,7 @@ impl<T: Text> Library<T> {
     pub fn add(&mut self, name: String, text: T) -> Result<(), Fault>
         ensures names { self.new.inherited ≡ self.old.inherited }
         ensures err { OnErr result (self.new ≡ self.old) }
-        ensures ok { OnOk result (self.new.files ≡ self.old.files ++ record { name = string_bytes name; text = T.content text } ∷ []) }
+        ensures ok { PutsFile result self.old self.new (string_bytes name) (T.content text) }
         ensures memory { length self.old.files < MOST_FILES → IsOkUnless result memory_fault }
     {
         if self.files.len() >= MOST_FILES {

@@ -1,15 +1,15 @@
 //! Which stamps come next.
 ghost use Rattle.std.specs.Prelude.{◌≡◌, fold, IsOkUnless, OnOk};
-ghost use Rattle.std.specs.List.{list_any};
 ghost use Rattle.org_base.specs.Codes.{memory_fault};
 ghost use Rattle.org_base.specs.Results.{GivesItems};
 ghost use Rattle.org_agenda.specs.Laws.{reminds};
-ghost use Rattle.org_rows.specs.Next.{is_ahead, is_of, is_of_row, next_rows, starts_by, with_row};
+ghost use Rattle.org_rows.specs.Next.{AreStampsOf, is_ahead, next_rows, starts_by, with_new, with_row};
 
 use org_agenda::{Agenda, Row, RowKind};
 use org_base::Fault;
 use org_cal::{Day, Moment, TimeOfDay};
 use std::alloc::{AllocError, Global};
+use std::collections::BTreeSet;
 
 /// A row that comes on a day.
 #[derive(Clone, Copy, Debug, PartialEq, Eq)]
@@ -25,42 +25,65 @@ pub fn next_rows(alloc: Global, agenda: &Agenda, now: &Moment) -> Result<Vec<Upc
     ensures memory { IsOkUnless result memory_fault }
 {
     let mut next = Vec::new(alloc);
+    let mut stamps = BTreeSet::new(alloc);
     for ahead in 0..agenda.count() {
         let rows = agenda.rows(alloc, ahead)?;
-        push_day(&mut next, now, agenda.day(ahead), rows.as_slice())?;
+        push_day(
+            &mut next,
+            &mut stamps,
+            now,
+            agenda.day(ahead),
+            rows.as_slice(),
+        )?;
     }
     Ok(next)
 }
 
-// Puts those of a day's rows behind others that come next.
+// Puts those of a day's rows behind others that come next, which are of these stamps.
 fn push_day(
     next: &mut Vec<Upcoming>,
+    stamps: &mut BTreeSet<(usize, usize, usize)>,
     now: &Moment,
     day: Day,
     rows: &[Row],
 ) -> Result<(), AllocError>
-    ensures { OnOk result (next.new.items ≡ fold (with_row now.now day) next.old.items rows.now) }
+    requires known { AreStampsOf stamps.old next.old.items }
+    ensures value { OnOk result (next.new.items ≡ fold (with_row now.now day) next.old.items rows.now) }
+    ensures known { OnOk result (AreStampsOf stamps.new next.new.items) }
 {
     for row in rows {
-        if is_ahead(now, day, row) && !is_seen(next.as_slice(), row) {
-            next.push(Upcoming { day, row: *row })?;
+        if is_ahead(now, day, row) {
+            push_new(next, stamps, day, row)?;
         }
     }
     Ok(())
 }
 
-// Whether a row of the same stamp is there.
-fn is_seen(next: &[Upcoming], row: &Row) -> bool
-    ensures { result ≡ list_any (is_of row.now) next.now }
+// Puts a row behind others, unless one of them is of its stamp.
+fn push_new(
+    next: &mut Vec<Upcoming>,
+    stamps: &mut BTreeSet<(usize, usize, usize)>,
+    day: Day,
+    row: &Row,
+) -> Result<(), AllocError>
+    requires known { AreStampsOf stamps.old next.old.items }
+    ensures value { OnOk result (next.new.items ≡ with_new next.old.items day row.now) }
+    ensures known { OnOk result (AreStampsOf stamps.new next.new.items) }
 {
-    next.iter().any(|upcoming| is_of(row, &upcoming.row))
+    let stamp = stamp_of(row);
+    if stamps.contains(&stamp) {
+        return Ok(());
+    }
+    stamps.insert(stamp)?;
+    next.push(Upcoming { day, row: *row })?;
+    Ok(())
 }
 
-// Whether two rows are of one stamp.
-fn is_of(row: &Row, other: &Row) -> bool
-    ensures { result ≡ is_of_row row.now other.now }
+// The stamp of a row: the places of its file, of its heading and in its section.
+fn stamp_of(row: &Row) -> (usize, usize, usize)
+    ensures value { result ≡ (row.now.file, row.now.heading, row.now.stamp_at) }
 {
-    row.file == other.file && row.heading == other.heading && row.stamp_at == other.stamp_at
+    (row.file, row.heading, row.stamp_at)
 }
 
 // Whether a row of a day isn't before the moment, and no late row or warning.

@@ -1,9 +1,15 @@
 -- What the lines of views stand for.
-use Rattle.std.specs.Prelude.{◌≡◌, List, [], ◌∷◌, ◌++◌, Option, Some, Result, IfOk, ℕ, map, string_bytes}
+use Rattle.std.specs.Prelude.{◌≡◌, List, [], ◌∷◌, ◌++◌, Option, None, Some, Result, IfOk, ℕ, map, string_bytes}
 use Rattle.std.specs.List.{flat_map, range_with_len}
-use Rattle.org_agenda.specs.Days.{AgendaView, day_rows}
+use Rattle.org_agenda.specs.Days.{AgendaView, agenda_of, day_rows}
+use Rattle.org_agenda.specs.Lists.{Listing, list_rows}
+use Rattle.org_agenda.specs.Sources.{sources_of}
 use Rattle.org_agenda.specs.declared.row.Row.{Row}
+use Rattle.org_base.specs.declared.profile.Profile.{Profile}
 use Rattle.org_clocktable.specs.declared.row.TableRow.{TableRow}
+use Rattle.org_inherit.specs.Scope.{Scope}
+use Rattle.org_layout.specs.Days.{agenda_lines}
+use Rattle.org_layout.specs.Lines.{list_lines}
 use Rattle.orgq.specs.declared.view.Answer.{Answer}
 use Rattle.orgq.specs.declared.view.Line.{Line}
 use Rattle.orgq.specs.declared.view.Line.TheVariants.{Heading, Row as RowLine, Table}
@@ -27,3 +33,23 @@ lines_on agenda day = lines_under (Some day) (day_rows agenda.profile agenda.sou
 -- those of an agenda's days
 abbrev pub lines_of : AgendaView → List Line
 lines_of agenda = flat_map (lines_on agenda) (range_with_len agenda.first agenda.count)
+
+-- the list of rows: a line for each
+abbrev pub ShowsList : {E : Type 0} → Result Answer E → List Scope → List Row → Type 0
+ShowsList result scopes rows = Answers result (list_lines scopes rows) (map (row_line None) rows)
+
+-- the list of all files
+abbrev pub ShowsListing : {E : Type 0} → Result Answer E → List Scope → Listing → Type 0
+ShowsListing result scopes listing = ShowsList result scopes (list_rows listing None scopes)
+
+-- an agenda: a line for each day and each row
+abbrev pub ShowsAgenda : {E : Type 0} → Result Answer E → List Scope → AgendaView → Type 0
+ShowsAgenda result scopes agenda = Answers result (agenda_lines scopes agenda) (lines_of agenda)
+
+-- the agenda of so many days from a first one on over all stamps of files
+abbrev pub over_all : Profile → List Scope → ℕ → ℕ → ℕ → AgendaView
+over_all p scopes today first count = agenda_of p (sources_of 0 scopes) today first count
+
+-- that agenda, shown
+abbrev pub ShowsDays : {E : Type 0} → Result Answer E → List Scope → Profile → ℕ → ℕ → ℕ → Type 0
+ShowsDays result scopes p today first count = ShowsAgenda result scopes (over_all p scopes today first count)

@@ -1,5 +1,4 @@
 //! What is asked, and the answer to it.
-ghost use Rattle.std.specs.Prelude.{◌<◌, ◌^◌, length};
 ghost use Rattle.org_rows.specs.Files.{AreRead};
 
 use crate::coming::coming;

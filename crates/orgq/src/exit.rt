@@ -1,5 +1,5 @@
 //! Exit statuses.
-ghost use Rattle.std.specs.Prelude.{◌≡◌, if◌then◌else◌};
+ghost use Rattle.std.specs.Prelude.{◌≡◌};
 ghost use Rattle.orgq.specs.Exit.{status_of};
 
 /// Arguments, the moment or an expression are refused.

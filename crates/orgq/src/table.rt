@@ -1,5 +1,5 @@
 //! Clock tables, with what each line stands for.
-ghost use Rattle.std.specs.Prelude.{◌≤◌, ◌<◌, ◌^◌, length};
+ghost use Rattle.std.specs.Prelude.{◌≤◌, length};
 ghost use Rattle.org_base.specs.declared.limits.TheConstants.{MOST_FILES};
 ghost use Rattle.org_rows.specs.Files.{AreRead};
 

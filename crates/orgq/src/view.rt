@@ -1,14 +1,10 @@
 //! The text of views, with what each of its lines stands for.
-ghost use Rattle.std.specs.Prelude.{◌≡◌, ◌+◌, ◌<◌, ◌≤◌, ◌^◌, None, length, map, string_bytes, IfOk, OnOk, IsOkUnless};
-ghost use Rattle.org_agenda.specs.Days.{agenda_of};
-ghost use Rattle.org_agenda.specs.Lists.{list_rows, todo_listing, Matching};
-ghost use Rattle.org_agenda.specs.Sources.{sources_of};
-ghost use Rattle.org_base.specs.Results.{Adds};
+ghost use Rattle.std.specs.Prelude.{◌≡◌, ◌+◌, ◌≤◌, map, None, IfOk};
+ghost use Rattle.org_agenda.specs.Lists.{todo_listing, Matching};
+ghost use Rattle.org_base.specs.Results.{Adds, Gives};
 ghost use Rattle.org_cal.specs.declared.day.TheConstants.{LAST_DAY};
-ghost use Rattle.org_layout.specs.Days.{agenda_lines};
-ghost use Rattle.org_layout.specs.Lines.{list_lines};
 ghost use Rattle.org_rows.specs.Files.{AreRead};
-ghost use Rattle.orgq.specs.Views.{Answers, lines_of, lines_under, row_line};
+ghost use Rattle.orgq.specs.Views.{ShowsDays, ShowsList, ShowsListing, lines_of, lines_under, over_all, row_line};
 
 use org_agenda::{Agenda, Row, match_rows, sources_of, todo_rows};
 use org_base::{Fault, Profile, Texts};
@@ -45,7 +41,7 @@ impl Answer {
 /// The list of the headings that have one of these keywords, or of none, one that isn't done.
 pub fn todo_list(alloc: Global, inherits: &Inherits<'_>, words: &Texts) -> Result<Answer, Fault>
     requires read { AreRead inherits.now }
-    ensures value { let rows = list_rows (todo_listing words.now) None inherits.now in Answers result (list_lines inherits.now rows) (map (row_line None) rows) }
+    ensures value { ShowsListing result inherits.now (todo_listing words.now) }
 {
     let rows = todo_rows(alloc, inherits, None, words)?;
     listed(alloc, inherits, rows.as_slice())
@@ -59,14 +55,14 @@ pub fn match_list(
     moment: Moment,
 ) -> Result<Answer, Fault>
     requires read { AreRead inherits.now }
-    ensures value { let rows = list_rows (Matching expression.now moment) None inherits.now in Answers result (list_lines inherits.now rows) (map (row_line None) rows) }
+    ensures value { ShowsListing result inherits.now (Matching expression.now moment) }
 {
     let rows = match_rows(alloc, inherits, None, expression, moment)?;
     listed(alloc, inherits, rows.as_slice())
 }
 
 fn listed(alloc: Global, inherits: &Inherits<'_>, rows: &[Row]) -> Result<Answer, Fault>
-    ensures { Answers result (list_lines inherits.now rows.now) (map (row_line None) rows.now) }
+    ensures { ShowsList result inherits.now rows.now }
 {
     let mut text = String::new(alloc);
     list_text(alloc, &mut text, rows, inherits)?;
@@ -112,7 +108,7 @@ pub fn agenda_days(
     days: Days,
 ) -> Result<Answer, Fault>
     requires read { AreRead inherits.now }
-    ensures value { let agenda = agenda_of profile (sources_of 0 inherits.now) today days.first days.count in Answers result (agenda_lines inherits.now agenda) (lines_of agenda) }
+    ensures value { ShowsDays result inherits.now profile today days.first days.count }
 {
     let agenda = agenda_over(alloc, inherits, profile, today, days)?;
     let mut text = String::new(alloc);
@@ -130,7 +126,7 @@ pub fn agenda_over(
     days: Days,
 ) -> Result<Agenda, Fault>
     requires read { AreRead inherits.now }
-    ensures value { IfOk result (λ agenda. agenda ≡ agenda_of profile (sources_of 0 inherits.now) today days.first days.count) }
+    ensures value { Gives result (over_all profile inherits.now today days.first days.count) }
 {
     let sources = sources_of(alloc, inherits)?;
     Agenda::new(alloc, sources, profile, today, days.first, days.count)

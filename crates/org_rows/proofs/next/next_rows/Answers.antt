@@ -10,5 +10,8 @@ loop-ahead-preserved c =
     let a = c.args.agenda.now in
     let rows : c.as_slice.result.now ≡ day_rows a.profile a.sources a.today c.day.result =
     c.as_slice.ensures.value ∙ c.in_ok-rows.ensures.value ∙ ap (day_rows a.profile a.sources a.today) (sym c.day.ensures.value) in
-    days_next (with_day c.args.now.now a) [] _ c.loop-ahead.next.items a.first c.loop-ahead.ahead c.day.result c.day.ensures.value c.loop-ahead.invariant
-    (c.in_ok-push_day.ensures ∙ ap (fold (with_row c.args.now.now c.day.result) c.loop-ahead.next.items) rows)
+    record {
+      value = days_next (with_day c.args.now.now a) [] _ c.loop-ahead.next.items a.first c.loop-ahead.ahead c.day.result c.day.ensures.value c.loop-ahead.invariant.value
+          (c.in_ok-push_day.ensures.value ∙ ap (fold (with_row c.args.now.now c.day.result) c.loop-ahead.next.items) rows);
+      known = c.in_ok-push_day.ensures.known;
+    }
