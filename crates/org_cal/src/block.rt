@@ -1,8 +1,9 @@
 //! Blocks of time by their names.
-ghost use Rattle.std.specs.Prelude.{◌≡◌, ◌^◌, ◌<◌, ◌≤◌};
+ghost use Rattle.std.specs.Prelude.{◌≡◌, ◌^◌, ◌<◌, ◌≤◌, Some, None, IfOk, IfErr};
 ghost use Rattle.std.specs.Option.{option_map};
 ghost use Rattle.org_cal.specs.Added.{day_of_month};
 ghost use Rattle.org_cal.specs.Blocks.{block_of, dated_block, day_block, month_block, months_from, part_of_year, quarter_block, this_month, week_block, week_from, year_block};
+ghost use Rattle.org_cal.specs.Faults.{option_fault};
 ghost use Rattle.org_cal.specs.Periods.{days_of};
 ghost use Rattle.org_cal.specs.declared.day.TheConstants.{LAST_MONTH};
 
@@ -10,9 +11,23 @@ use crate::day::{Day, LAST_MONTH};
 use crate::digits::{four_digits, two_digits};
 use crate::period::Period;
 use jiff_core::civil;
+use org_base::{Code, Fault};
+
+impl Period {
+    /// The block of time that the text names (Org manual 9.6, "The clock table"): `YYYY`, `YYYY-MM`, `YYYY-Q1` to
+    /// `YYYY-Q4`, `YYYY-Www` (ISO 8601), `YYYY-MM-DD`, `today`, `yesterday`, `thisweek`, `lastweek`, `thismonth`,
+    /// `lastmonth`, `thisyear` or `lastyear`. `Option` where it names none, where there is no such block, or where the
+    /// block leaves the years 1 to 9999.
+    pub fn of_block(text: &[u8], today: Day) -> Result<Period, Fault>
+        ensures value { IfOk result (λ period. block_of text.now today ≡ Some (period.first, period.last)) }
+        ensures option { IfErr result (λ fault. (fault ≡ option_fault) × (block_of text.now today ≡ None)) }
+    {
+        named(text, today).ok_or(Fault::Plain(Code::Option))
+    }
+}
 
 // The block that a text names on a day.
-pub(crate) fn named(text: &[u8], today: Day) -> Option<Period>
+fn named(text: &[u8], today: Day) -> Option<Period>
     ensures value { option_map days_of result ≡ block_of text.now today }
 {
     if text == b"today".as_slice() {

@@ -100,9 +100,7 @@ impl Classes {
     pub fn has_setting(&self) -> bool
         ensures value { result ≡ list_any is_setting_class self.now }
     {
-        self.as_slice()
-            .iter()
-            .any(|class| matches!(*class, Class::Setting))
+        has_setting(self.as_slice())
     }
 
     /// The classes, to go over.
@@ -111,4 +109,13 @@ impl Classes {
     {
         self.classes.as_slice()
     }
+}
+
+// Whether there is a setting line among lines of these classes.
+pub(crate) fn has_setting(classes: &[Class]) -> bool
+    ensures value { result ≡ list_any is_setting_class classes.now }
+{
+    classes
+        .iter()
+        .any(|class| matches!(*class, Class::Setting))
 }

@@ -8,7 +8,7 @@ ghost use Rattle.org_class.specs.Sections.{sections};
 ghost use Rattle.org_settings.specs.Settings.{settings_of};
 ghost use Rattle.org_class.specs.Ticks.{AllClassified, SomeClassified};
 
-use crate::class::{Class, Classes};
+use crate::class::{Class, has_setting};
 use crate::section::classify;
 use crate::spans::sections;
 use org_base::{Fault, Meter, Span, Texts};
@@ -36,14 +36,14 @@ pub fn push_setting_lines<T: Text>(
     texts: &mut Texts,
     text: &T,
     section: Span,
-    classes: &Classes,
+    classes: &[Class],
 ) -> Result<(), Fault>
     requires within { section.at + section.len ≤ length (T.content text.now) }
     ensures ok { GainsSettings result texts.old texts.new (T.content text.now) section classes.now }
     ensures err { OnErr result (StandStill texts.old texts.new) }
     ensures memory { IsOkUnless result memory_fault }
 {
-    if !classes.has_setting() {
+    if !has_setting(classes) {
         return Ok(());
     }
     push_lines(alloc, texts, text, section, classes)
@@ -54,7 +54,7 @@ fn push_lines<T: Text>(
     texts: &mut Texts,
     text: &T,
     section: Span,
-    classes: &Classes,
+    classes: &[Class],
 ) -> Result<(), Fault>
     requires within { section.at + section.len ≤ length (T.content text.now) }
     ensures ok { GainsSettings result texts.old texts.new (T.content text.now) section classes.now }
@@ -63,7 +63,7 @@ fn push_lines<T: Text>(
 {
     let mut place = 0;
     for line in Lines::new(alloc, text, section) {
-        push_setting(texts, classes.get(place), line?)?;
+        push_setting(texts, classes.get(place).copied(), line?)?;
         place += 1;
     }
     Ok(())
@@ -82,7 +82,7 @@ pub fn read_settings<T: Text>(alloc: Global, meter: &mut Meter, text: &T) -> Res
     let mut lines = Texts::new(alloc);
     for span in spans.as_slice() {
         let classes = classify(alloc, meter, text, *span)?;
-        push_setting_lines(alloc, &mut lines, text, *span, &classes)?;
+        push_setting_lines(alloc, &mut lines, text, *span, classes.as_slice())?;
     }
     Settings::of_lines(alloc, &lines)
 }

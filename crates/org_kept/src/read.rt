@@ -39,7 +39,7 @@ fn read_one<T: Text>(
     ensures counts { meter.new ≡ ticked Read meter.old }
     ensures memory { IsOkUnless result memory_fault }
 {
-    let classes = section.classes().as_slice();
+    let classes = section.classes();
     let entry = read_entry(alloc, meter, text, span, classes, settings)?;
     Ok(section.read(alloc, entry)?)
 }

@@ -1,13 +1,13 @@
 //! What is kept of a section.
 ghost use Rattle.std.specs.Option.{option_copied};
-ghost use Rattle.std.specs.Prelude.{◌≡◌, ◌<◌, ◌≤◌, ◌++◌, Some, None, length, OnOk, OnErr, IsOkUnless};
+ghost use Rattle.std.specs.Prelude.{◌≡◌, ◌<◌, ◌≤◌, ◌++◌, Some, None, length, IfOk, OnOk, OnErr, IsOkUnless};
 ghost use Rattle.org_base.specs.Codes.{memory_fault};
 ghost use Rattle.org_base.specs.Results.{Gives};
-ghost use Rattle.org_kept.specs.Held.{held};
+ghost use Rattle.org_kept.specs.Held.{classes_held, held};
 ghost use Rattle.org_kept.specs.Sections.{has_setting, is_pending, line_count, said, section_len};
 
 use org_base::Fault;
-use org_class::Classes;
+use org_class::{Class, Classes};
 use org_entry::Entry;
 use org_outline::Entries;
 use org_sequence::Measured;
@@ -16,25 +16,25 @@ use std::marker::Model;
 use std::rc::Rc;
 
 // How long a section is, how many lines it has, whether one of them is a setting line, the classes of its lines, and what
-// it says, where it was read. Classes and entry are shared by all copies.
+// it says, where it was read. Classes and entry are shared by all copies; a heading alone keeps no classes.
 #[derive(Debug, Drop)]
 pub(crate) struct Section {
     len: u32,
     lines: u32,
     sets: bool,
-    classes: Rc<Classes>,
+    classes: Option<Rc<Classes>>,
     entry: Option<Rc<Entry>>,
 }
 
 impl Model for Section {
-    ghost use Rattle.org_kept.specs.Held.{held};
+    ghost use Rattle.org_kept.specs.Held.{classes_held, held};
     ghost use Rattle.org_kept.specs.Sections.{AreCounts, SectionView};
 
     ghost Value = { SectionView };
 
-    ghost view = { λ s. record { len = s.len; classes = s.classes.value; entry = held s.entry } };
+    ghost view = { λ s. record { len = s.len; classes = classes_held s.classes; entry = held s.entry } };
 
-    ghost invariant = { λ s. AreCounts s.len s.lines s.sets s.classes.value };
+    ghost invariant = { λ s. AreCounts s.len s.lines s.sets (classes_held s.classes) };
 }
 
 impl Measured for Section {
@@ -80,7 +80,7 @@ impl Section {
     {
         let lines = classes.count() as u32;
         let sets = classes.has_setting();
-        let classes = Rc::new(alloc, classes)?;
+        let classes = shared(alloc, classes)?;
         Ok(Section {
             len,
             lines,
@@ -94,7 +94,10 @@ impl Section {
     fn with(&self, entry: Option<Rc<Entry>>) -> Result<Section, AllocError>
         ensures value { Gives result (record self.now { entry = held entry }) }
     {
-        let classes = self.classes.clone()?;
+        let classes = match &self.classes {
+            None => None,
+            Some(classes) => Some(classes.clone()?),
+        };
         Ok(Section {
             len: self.len,
             lines: self.lines,
@@ -126,10 +129,13 @@ impl Section {
         self.len
     }
 
-    pub(crate) fn classes(&self) -> &Classes
+    pub(crate) fn classes(&self) -> &[Class]
         ensures value { result.now ≡ self.now.classes }
     {
-        self.classes.as_ref()
+        match &self.classes {
+            None => &[Class::Heading],
+            Some(classes) => classes.as_slice(),
+        }
     }
 
     // What it says, where it was read.
@@ -154,4 +160,15 @@ impl Section {
             Some(entry) => entries.push_shared(entry),
         }
     }
+}
+
+// The classes of a section's lines, to be shared.
+fn shared(alloc: Global, classes: Classes) -> Result<Option<Rc<Classes>>, AllocError>
+    ensures value { IfOk result (λ shared. classes_held shared ≡ classes) }
+{
+    if let [Class::Heading] = classes.as_slice() {
+        return Ok(None);
+    }
+    let classes = Rc::new(alloc, classes)?;
+    Ok(Some(classes))
 }

@@ -27,15 +27,15 @@ impl<'a> Model for Ancestors<'a> {
     ghost invariant = { λ s. behind s.next ≤ length s.outline.now };
 }
 
-impl<'a> Ancestors<'a> {
-    // Those of the entry at a place.
-    pub(crate) fn of(outline: &'a Outline, place: usize) -> Ancestors<'a>
-        requires { place < length outline.now }
-        ensures value { result ≡ ancestors (levels outline.now) place }
+impl Outline {
+    /// The places of the ancestors, the nearest first: the parent, its parent and so on.
+    pub fn ancestors(&self, place: usize) -> Ancestors<'_>
+        requires { place < length self.now }
+        ensures value { result ≡ ancestors (levels self.now) place }
     {
         Ancestors {
-            outline,
-            next: outline.parent(place),
+            outline: self,
+            next: self.parent(place),
         }
     }
 }

@@ -5,9 +5,8 @@ ghost use Rattle.org_base.specs.Codes.{memory_fault};
 ghost use Rattle.org_base.specs.Results.{Gives, GivesItems};
 ghost use Rattle.org_base.specs.declared.code.Code.TheVariants.{Memory};
 ghost use Rattle.org_outline.specs.Levels.{levels, held_in};
-ghost use Rattle.org_outline.specs.Tree.{all_ends, ancestors, end_of, parent};
+ghost use Rattle.org_outline.specs.Tree.{all_ends, end_of, parent};
 
-use crate::ancestors::Ancestors;
 use crate::body::Body;
 use crate::entries::Entries;
 use org_base::{Code, Fault};
@@ -102,14 +101,6 @@ impl Outline {
     {
         let body = self.body.as_ref()?;
         body.parent(place)
-    }
-
-    /// The places of the ancestors, the nearest first: the parent, its parent and so on.
-    pub fn ancestors(&self, place: usize) -> Ancestors<'_>
-        requires { place < length self.now }
-        ensures value { result ≡ ancestors (levels self.now) place }
-    {
-        Ancestors::of(self, place)
     }
 
     /// Where the subtree ends: the place of the first later heading that isn't below the entry, else the number of

@@ -23,15 +23,28 @@ impl<'a, T: Measured> Model for Items<'a, T> {
     ghost view = { λ s. s.run.now ++ drop s.at s.sequence.now };
 }
 
-impl<'a, T: Measured> Items<'a, T> {
-    pub(crate) fn new(sequence: &'a Sequence<T>) -> Items<'a, T>
-        ensures value { result ≡ sequence.now }
+impl<T: Measured> Sequence<T> {
+    /// The items in order.
+    pub fn iter(&self) -> Items<'_, T>
+        ensures value { result ≡ self.now }
     {
         Items {
-            sequence,
+            sequence: self,
             run: &[],
             at: 0,
         }
+    }
+}
+
+impl<'a, T: Measured> IntoIterator for &'a Sequence<T> {
+    type Item = &'a T;
+
+    type IntoIter = Items<'a, T>;
+
+    ghost into_iter_gives = { λ sequence items. items ≡ sequence.now };
+
+    fn into_iter(self) -> Items<'a, T> {
+        self.iter()
     }
 }
 

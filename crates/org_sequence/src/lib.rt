@@ -12,6 +12,7 @@ mod join;
 mod leaf;
 mod measured;
 mod replace;
+mod search;
 mod sequence;
 mod sums;
 mod tree;

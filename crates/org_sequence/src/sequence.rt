@@ -4,7 +4,6 @@ ghost use Rattle.std.specs.Prelude.{◌↔◌, slice_index_or, IsTrue, IfOk, OnO
 ghost use Rattle.std.specs.List.{sum_by, count_by, splice};
 ghost use Rattle.org_sequence.specs.Parts.{items_of, HoldsPlace, IsItemOf, IsFirstPassing};
 
-use crate::items::Items;
 use crate::join::{build, join_of};
 use crate::leaf::leaf;
 use crate::measured::{Measure, Measured, Sign};
@@ -270,24 +269,5 @@ impl<T: Measured> Sequence<T> {
             alloc: self.alloc,
             root,
         })
-    }
-
-    /// The items in order.
-    pub fn iter(&self) -> Items<'_, T>
-        ensures value { result ≡ self.now }
-    {
-        Items::new(self)
-    }
-}
-
-impl<'a, T: Measured> IntoIterator for &'a Sequence<T> {
-    type Item = &'a T;
-
-    type IntoIter = Items<'a, T>;
-
-    ghost into_iter_gives = { λ sequence items. items ≡ sequence.now };
-
-    fn into_iter(self) -> Items<'a, T> {
-        self.iter()
     }
 }

@@ -5,8 +5,8 @@ ghost use Rattle.org_sequence.specs.Parts.{HoldsPlace, IsItemOf, IsFirstPassing}
 ghost use Rattle.org_sequence.specs.Shape.{least};
 ghost use Rattle.org_sequence.specs.Sums.{AreSums, amount_in, bears};
 
-use crate::leaf::{find_in, first_in};
 use crate::measured::{Measure, Measured, Sign};
+use crate::search::{find_in, first_in};
 use crate::sums::{Sums, sums_of};
 use std::marker::Model;
 use std::rc::Rc;

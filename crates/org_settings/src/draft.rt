@@ -4,6 +4,7 @@ ghost use Rattle.org_base.specs.Codes.{memory_fault};
 ghost use Rattle.org_base.specs.Results.{Gives, lent_in};
 ghost use Rattle.org_settings.specs.Keywords.{standard_keywords};
 ghost use Rattle.org_settings.specs.Draft.{nothing_said, with_line, ended};
+ghost use Rattle.org_settings.specs.Settings.{settings_of};
 ghost use Rattle.org_settings.specs.SettingLines.{tags_in, category_in};
 
 use crate::keywords::Keywords;
@@ -83,6 +84,22 @@ impl SettingsDraft {
         let keywords = or_standard(alloc, keywords)?;
         let default_priority = default_priority.unwrap_or(b'B');
         Ok(Settings::new(keywords, file_tags, category, properties, default_priority))
+    }
+}
+
+impl Settings {
+    /// What setting lines say together (Org manual 9.6, "In-buffer Settings"). Of no lines these are the keyword `TODO`,
+    /// the done keyword `DONE`, no tags, no category, no properties, and the default priority B. Want of memory is the
+    /// only refusal.
+    pub fn of_lines(alloc: Global, lines: &Texts) -> Result<Settings, Fault>
+        ensures value { Gives result (settings_of lines.now) }
+        ensures memory { IsOkUnless result memory_fault }
+    {
+        let mut said = SettingsDraft::new(alloc);
+        for place in 0..lines.count() {
+            said.add(alloc, lines.get(place))?;
+        }
+        Ok(said.ended(alloc)?)
     }
 }
 

@@ -1,7 +1,7 @@
 use Rattle.std.proofs.Common.{arith}
 use Rattle.org_sequence.specs.Sums.{amount_in}
 use Rattle.org_sequence.proofs.Joins.{size_more}
-use Rattle.org_sequence.proofs.leaf.find_in.Goals as goal
+use Rattle.org_sequence.proofs.search.find_in.Goals as goal
 
 pub returns-then-place-before : goal.returns-then-place-before
 returns-then-place-before g c =

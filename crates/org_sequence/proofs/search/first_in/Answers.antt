@@ -2,7 +2,7 @@ use Rattle.std.proofs.Common.{drop, length-drop, arith, ap, sym, ◌∙◌, ◌+
 use Rattle.std.proofs.lemmas.List.{take_rest}
 use Rattle.org_sequence.specs.Sums.{bears}
 use Rattle.org_sequence.proofs.Finds.{position_at}
-use Rattle.org_sequence.proofs.leaf.first_in.Goals as goal
+use Rattle.org_sequence.proofs.search.first_in.Goals as goal
 
 pub returns-then-has_sign : goal.returns-then-has_sign
 returns-then-has_sign g c =
