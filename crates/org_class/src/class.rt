@@ -93,7 +93,7 @@ impl Classes {
     pub fn get(&self, place: usize) -> Option<Class>
         ensures value { result ≡ slice_get self.now place }
     {
-        self.as_slice().get(place).copied()
+        class_at(self.as_slice(), place)
     }
 
     /// Whether there is a setting line among them.
@@ -109,6 +109,13 @@ impl Classes {
     {
         self.classes.as_slice()
     }
+}
+
+// The class at a place, if there is one.
+pub(crate) fn class_at(classes: &[Class], place: usize) -> Option<Class>
+    ensures value { result ≡ slice_get classes.now place }
+{
+    classes.get(place).copied()
 }
 
 // Whether there is a setting line among lines of these classes.

@@ -8,7 +8,7 @@ ghost use Rattle.org_class.specs.Sections.{sections};
 ghost use Rattle.org_settings.specs.Settings.{settings_of};
 ghost use Rattle.org_class.specs.Ticks.{AllClassified, SomeClassified};
 
-use crate::class::{Class, has_setting};
+use crate::class::{Class, class_at, has_setting};
 use crate::section::classify;
 use crate::spans::sections;
 use org_base::{Fault, Meter, Span, Texts};
@@ -63,7 +63,7 @@ fn push_lines<T: Text>(
 {
     let mut place = 0;
     for line in Lines::new(alloc, text, section) {
-        push_setting(texts, classes.get(place).copied(), line?)?;
+        push_setting(texts, class_at(classes, place), line?)?;
         place += 1;
     }
     Ok(())

@@ -1,9 +1,9 @@
 //! The calls of an engine that change it.
 
 use crate::text_calls::shows;
-use org_base::Fault;
+use org_base::{Fault, Texts};
 use org_cal::Moment;
-use org_engine::Engine;
+use org_engine::{Engine, View};
 use org_pieces::Pieces;
 use std::alloc::Global;
 
@@ -111,8 +111,16 @@ fn works_off(engine: &mut Engine<Pieces>) -> Result<bool, Fault> {
     Ok(false)
 }
 
-/// The background steps of a file.
+const LISTED: &str = "  a:          TODO a\n";
+
+// The list of open headings.
+fn lists(alloc: Global, engine: &mut Engine<Pieces>) -> Result<bool, Fault> {
+    let words = Texts::new(alloc);
+    Ok(engine.query(View::Todo(None, &words), None)?.as_str() == LISTED)
+}
+
+/// The background steps of a file, and a list of what they read.
 pub fn works(alloc: Global) -> Result<bool, Fault> {
     let mut engine = engine(alloc)?;
-    works_off(&mut engine)
+    Ok(works_off(&mut engine)? && lists(alloc, &mut engine)?)
 }

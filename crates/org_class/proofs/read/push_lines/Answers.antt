@@ -9,6 +9,6 @@ loop-line-preserved g c =
     let count = ap length step.1 in
     record {
       few = omega (arith, count, c.loop-line.invariant.few);
-      all = setting_more c.args.classes.now c.loop-line.place c.loop-line.texts _ _ _ _ step.0 _ _ step.1 step.2.bytes c.get.ensures.value c.in_ok-push_setting.ensures.ok c.loop-line.invariant.all;
+      all = setting_more c.args.classes.now c.loop-line.place c.loop-line.texts _ _ _ _ step.0 _ _ step.1 step.2.bytes c.class_at.ensures.value c.in_ok-push_setting.ensures.ok c.loop-line.invariant.all;
       still = still_more _ _ _ _ c.loop-line.invariant.still c.in_ok-push_setting.ensures.ok;
     }

@@ -1,6 +1,5 @@
 -- A section begins behind the lines of those before it, and a text has no more lines than bytes.
 use Rattle.std.proofs.Common.{◌+◌, ◌∙◌, arith, ap}
-use Rattle.std.specs.List.{sum_by}
 use Rattle.std.proofs.lemmas.List.Sums.{sum_by-take-le}
 use Rattle.org_kept.specs.Sections.{line_count}
 use Rattle.org_kept.proofs.BegunLemmas.{lines_until}
