@@ -71,11 +71,7 @@ pub(crate) struct Stretch {
 }
 
 // What a change of a text touches; the sections of the new text's part stand in the place of the touched ones.
-pub(crate) fn touched<T: Text>(
-    old: &Listed<'_, T>,
-    new: &T,
-    change: Change<'_>,
-) -> Stretch
+pub(crate) fn touched<T: Text>(old: &Listed<'_, T>, new: &T, change: Change<'_>) -> Stretch
     requires kept { AreOf (T.content old.now.text.now) old.now.list.now }
     requires within { LiesIn (T.content old.now.text.now) change }
     requires changed { T.content new.now ≡ edited (T.content old.now.text.now) change }
