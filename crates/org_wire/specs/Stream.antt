@@ -284,9 +284,27 @@ abbrev pub reading_of : List ℕ → Reading
 reading_of [] = record { next = Ended; rest = [] }
 reading_of (b ∷ bytes) = after_cut (cut_at 10 (b ∷ bytes))
 
--- where want of memory may be answered instead: a whole command, and not a bad line or a frame's own checks
+-- a command that may take memory: all but those of another moment, of a profile, and of letting go of a world
+abbrev pub MayTakeMemory : Command → Type 0
+MayTakeMemory (At moment) = ⊥
+MayTakeMemory (Profile profile) = ⊥
+MayTakeMemory (Unpin session) = ⊥
+MayTakeMemory (Add name text) = Unit {0}
+MayTakeMemory (Drop name) = Unit {0}
+MayTakeMemory (Edit seen at del ins) = Unit {0}
+MayTakeMemory (Complete seen line keyword) = Unit {0}
+MayTakeMemory (Inherit names) = Unit {0}
+MayTakeMemory (Pin session) = Unit {0}
+MayTakeMemory (Text name) = Unit {0}
+MayTakeMemory (Todo session file words) = Unit {0}
+MayTakeMemory (Match session file text) = Unit {0}
+MayTakeMemory (Agenda session date days) = Unit {0}
+MayTakeMemory (Clock session text) = Unit {0}
+
+-- where want of memory may be answered instead: a whole command that may take memory, and not a bad line or a frame's own
+-- checks
 abbrev pub IsReplaceable : Next → Type 0
-IsReplaceable (Given command) = Unit {0}
+IsReplaceable (Given command) = MayTakeMemory command
 IsReplaceable (Refused fault) = ⊥
 IsReplaceable (Last fault) = ⊥
 IsReplaceable Ended = ⊥
