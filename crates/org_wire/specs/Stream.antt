@@ -231,6 +231,14 @@ abbrev pub pinned_line : Option (ℕ × List ℕ) → Line
 pinned_line None = Bad
 pinned_line (Some session) = view_line (Some session.0) session.1
 
+-- a line of a profile or a pin, cut behind its first word; any other asks the current world for a view
+abbrev pub others_line : List ℕ → lines.Cut → Line
+others_line line cut = if bytes_eq cut.before (codes "profile") then profile_line cut.after
+    else if bytes_eq cut.before (codes "pin") then pin_line (number_of cut.after)
+    else if bytes_eq cut.before (codes "unpin") then unpin_line (number_of cut.after)
+    else if bytes_eq cut.before (codes "pinned") then pinned_line (first_number (cut_at 32 cut.after))
+    else view_line None line
+
 -- a line of several words, cut behind its first; without one the current world is asked for a view
 abbrev pub words_line : List ℕ → Option lines.Cut → Line
 words_line line None = view_line None line
@@ -241,11 +249,7 @@ words_line line (Some cut) = if bytes_eq cut.before (codes "edit") then edit_lin
     else if bytes_eq cut.before (codes "inherit") then inherit_line cut.after
     else if bytes_eq cut.before (codes "at") then at_line (cut_at 32 cut.after)
     else if bytes_eq cut.before (codes "add") then add_line (cut_at 32 cut.after)
-    else if bytes_eq cut.before (codes "profile") then profile_line cut.after
-    else if bytes_eq cut.before (codes "pin") then pin_line (number_of cut.after)
-    else if bytes_eq cut.before (codes "unpin") then unpin_line (number_of cut.after)
-    else if bytes_eq cut.before (codes "pinned") then pinned_line (first_number (cut_at 32 cut.after))
-    else view_line None line
+    else others_line line cut
 
 -- what a line says
 unfoldable pub line_of : List ℕ → Line

@@ -59,7 +59,7 @@ told_text (Err fault) = reply.Refused fault
 pub record IsViewServed (view : View) (session : Option ℕ) (old : State) (answer : Reply) (new : State) : Type 0 where
   pub done : (answer ≡ out_of_memory → ⊥) → (question : step.Question) × AsksOf (Asks view) (step.world_for session old) question
       × (answer ≡ shown (step.step (step.Ask question session) old).reply) × (new ≡ (step.step (step.Ask question session) old).after)
-  pub memory : answer ≡ out_of_memory → (new ≡ old) × MayTakeMemory command
+  pub memory : answer ≡ out_of_memory → new ≡ old
 
 -- the same of an engine
 abbrev pub ServesView : View → Option ℕ → EngineView → Reply → EngineView → Type 0

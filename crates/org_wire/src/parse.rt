@@ -1,7 +1,7 @@
 //! What a line says, read without memory.
-ghost use Rattle.std.specs.Prelude.{◌≡◌, length};
+ghost use Rattle.std.specs.Prelude.{◌≡◌, ◌≤◌, length};
 ghost use Rattle.org_wire.specs.Lines.{cut_at};
-ghost use Rattle.org_wire.specs.Stream.{add_line, at_line, complete_line, drop_line, edit_line, first_number, inherit_line, line_of, number_of, pin_line, pinned_line, profile_line, seen_of, text_line, unpin_line};
+ghost use Rattle.org_wire.specs.Stream.{add_line, at_line, complete_line, drop_line, edit_line, first_number, inherit_line, line_of, number_of, others_line, pin_line, pinned_line, profile_line, seen_of, text_line, unpin_line};
 ghost use Rattle.org_wire.specs.Parsed.{IsWithin, said};
 
 use crate::command::Command;
@@ -22,20 +22,49 @@ pub(crate) fn parse_line(line: &[u8]) -> Parsed<'_>
     let Some((word, rest)) = cut(line, b' ') else {
         return parse_view(None, line);
     };
-    match word {
-        b"edit" => parse_edit(rest),
-        b"complete" => parse_complete(rest),
-        b"text" => parse_text(rest),
-        b"drop" => parse_drop(rest),
-        b"inherit" => parse_inherit(rest),
-        b"at" => parse_at(rest),
-        b"add" => parse_add(rest),
-        b"profile" => parse_profile(rest),
-        b"pin" => parse_pin(rest),
-        b"unpin" => parse_unpin(rest),
-        b"pinned" => parse_pinned(rest),
-        _ => parse_view(None, line),
+    if word == b"edit".as_slice() {
+        return parse_edit(rest);
     }
+    if word == b"complete".as_slice() {
+        return parse_complete(rest);
+    }
+    if word == b"text".as_slice() {
+        return parse_text(rest);
+    }
+    if word == b"drop".as_slice() {
+        return parse_drop(rest);
+    }
+    if word == b"inherit".as_slice() {
+        return parse_inherit(rest);
+    }
+    if word == b"at".as_slice() {
+        return parse_at(rest);
+    }
+    if word == b"add".as_slice() {
+        return parse_add(rest);
+    }
+    parse_others(line, word, rest)
+}
+
+// What a line says whose first word is none of those before: of profiles and pins, or a view.
+fn parse_others<'a>(line: &'a [u8], word: &[u8], rest: &'a [u8]) -> Parsed<'a>
+    requires shorter { length rest.now ≤ length line.now }
+    ensures value { others_line line.now (record { before = word.now; after = rest.now }) ≡ said result }
+    ensures within { IsWithin (length line.now) result }
+{
+    if word == b"profile".as_slice() {
+        return parse_profile(rest);
+    }
+    if word == b"pin".as_slice() {
+        return parse_pin(rest);
+    }
+    if word == b"unpin".as_slice() {
+        return parse_unpin(rest);
+    }
+    if word == b"pinned".as_slice() {
+        return parse_pinned(rest);
+    }
+    parse_view(None, line)
 }
 
 // What stands behind `pinned`.
