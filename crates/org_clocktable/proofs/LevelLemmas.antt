@@ -11,7 +11,7 @@ use Rattle.std.proofs.lemmas.Str.Parse.{IsNumeralModel, numerals_by_value, tells
 use Rattle.org_clocktable.specs.Laws.{LevelsAreSpelled}
 use Rattle.org_clocktable.specs.Options.{level_of}
 
-numerals : IsNumeralModel (AllDigits 10) (digits_value 10)
+pub numerals : IsNumeralModel (AllDigits 10) (digits_value 10)
 numerals = numerals_by_value (AllDigits 10) tells_digits
 
 two_decimal : (h l : ℕ) → 1 ≤ h → h ≤ 9 → l ≤ 9 → decimal (10 * h + l) ≡ (48 + h) ∷ (48 + l) ∷ []

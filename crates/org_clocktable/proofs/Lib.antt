@@ -7,3 +7,4 @@ pub mod MarkLemmas
 pub mod WalkLemmas
 pub mod TotalLemmas
 pub mod LevelLemmas
+pub mod OptionLemmas

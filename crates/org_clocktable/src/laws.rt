@@ -1,5 +1,6 @@
 //! Laws of clock tables. Each is a function without parameters whose contract is the law.
 ghost use Rattle.org_clocktable.specs.Laws.{LevelsAreSpelled, StepsMakeTheWhole, TotalsAreOfAllThatCount, TotalsAreOfFiles};
+ghost use Rattle.org_clocktable.specs.Spelled.{OptionsAreSpelled};
 
 /// What a heading has in the steps of a period adds up to what it has in the whole, whichever the step.
 pub fn steps_make_the_whole()
@@ -19,4 +20,10 @@ pub fn totals_are_of_all_that_count()
 /// The word behind `maxlevel=` is a level exactly where it is the decimal text of 1 to 99.
 pub fn levels_are_spelled()
     ensures { LevelsAreSpelled }
+{}
+
+/// A text asks for a table exactly where it spells it: options in any order with one space between, one block, one level of
+/// 1 to 99, each of the others at most once, and the expression behind them with the rest of the text.
+pub fn options_are_spelled()
+    ensures { OptionsAreSpelled }
 {}
