@@ -5,10 +5,13 @@ use Rattle.org_base.specs.Codes.{memory_fault}
 use Rattle.org_base.specs.declared.fault.Fault.{Fault}
 use Rattle.org_inherit.specs.Scope.{Scope}
 use Rattle.org_layout.specs.Lines.{list_lines}
-use Rattle.org_match.specs.Refusal.{IsRefusal}
+use Rattle.org_match.specs.Patterns.{regexp_fault}
+use Rattle.org_match.specs.Refusal.{AreReadable, IsRefusal, patterns}
+use Rattle.org_match.proofs.Refusable.{readable_or_refused}
 use Rattle.std.specs.Prelude.{None, Option, Result, Ok, Err, IfErr, IfOk, Some, bytes_eq, chars, cond, false, is_some, not, true}
 use Rattle.org_engine.specs.Outlines.{scopes_of}
 use Rattle.std.specs.Option.{option_copied, option_map}
+use Rattle.std.specs.Str.{IsUtf8}
 use Rattle.org_cal.specs.declared.moment.Moment.{Moment}
 use Rattle.org_base.specs.declared.code.Code.TheVariants as code
 use Rattle.org_base.specs.declared.fault.Fault.TheVariants.{Plain}
@@ -78,9 +81,9 @@ todo_declined file words world fault why = (TodoList (option_copied file) words.
 
 -- the answers to a match list
 pub match_shown : (file : Option (Bor (List ℕ))) (asked : Bor (List ℕ)) (world : WorldView) (over : Option ℕ) (expr : Expr) (text : List ℕ) →
-    IsPlaceOver (option_copied file) world over → Reads (chars asked.now) expr → text ≡ list_view (Matching expr world.moment) over world → TellsOf (Match file asked) world (Shown text)
-match_shown file asked world over expr text (there, place) reads is =
-    (MatchList (option_copied file) (Ok expr), (refl, reads), there_is (option_copied file) world _ _ there (ap Shown (sym (is ∙ ap (λ o. list_view (Matching expr world.moment) o world) place))))
+    IsPlaceOver (option_copied file) world over → Reads (chars asked.now) expr → AreReadable (patterns expr) → text ≡ list_view (Matching expr world.moment) over world → TellsOf (Match file asked) world (Shown text)
+match_shown file asked world over expr text (there, place) reads readable is =
+    (MatchList (option_copied file) (Ok expr), (refl, (reads, readable)), there_is (option_copied file) world _ _ there (ap Shown (sym (is ∙ ap (λ o. list_view (Matching expr world.moment) o world) place))))
 
 pub match_declined : (file : Option (Bor (List ℕ))) (asked : Bor (List ℕ)) (world : WorldView) (over : Option ℕ) (fault : Fault) →
     IsPlaceOver (option_copied file) world over → IsUnread asked.now fault → TellsOf (Match file asked) world (Refused fault)
@@ -93,13 +96,17 @@ gone_either file world (Ok expr) fault why = is_gone file world _ fault why
 gone_either file world (Err f) fault why = is_gone file world _ fault why
 
 -- a text is read as something
-read_as : (text : List ℕ) (r : Result Expr Fault) → IfOk r (Reads (chars text)) → IfErr r (IsRefusal (chars text)) → (read : Result Expr Fault) × IsReadAs text read
-read_as text (Ok expr) reads why = (Ok expr, reads)
-read_as text (Err fault) reads (inl none) = (Err fault, inl none)
-read_as text (Err fault) reads (inr (expr, there, refused)) = (Ok expr, there)
+read_as : (text : List ℕ) → IsUtf8 text → (r : Result Expr Fault) → IfOk r (Reads (chars text)) → IfOk r (λ expr. AreReadable (patterns expr)) → IfErr r (IsRefusal (chars text)) →
+    (read : Result Expr Fault) × IsReadAs text read
+read_as text utf8 (Ok expr) reads built why = (Ok expr, (reads, built))
+read_as text utf8 (Err fault) reads built (inl none) = (Err fault, inl none)
+read_as text utf8 (Err fault) reads built (inr (expr, there, refused)) = elim (readable_or_refused text utf8 expr there) [
+  | inl all ↦ (Ok expr, (there, all))
+  | inr one ↦ (Err regexp_fault, inr (refl, (expr, there, one)))
+]
 
-pub match_gone : (file : Option (Bor (List ℕ))) (asked : Bor (List ℕ)) (world : WorldView) (r : Result Expr Fault) (fault : Fault) →
-    IfOk r (Reads (chars asked.now)) → IfErr r (IsRefusal (chars asked.now)) → IsMissingFault (option_copied file) world fault → TellsOf (Match file asked) world (Refused fault)
-match_gone file asked world r fault reads why gone =
-    let read = read_as asked.now r reads why in
+pub match_gone : (file : Option (Bor (List ℕ))) (asked : Bor (List ℕ)) (world : WorldView) (r : Result Expr Fault) (fault : Fault) → IsUtf8 asked.now →
+    IfOk r (Reads (chars asked.now)) → IfOk r (λ expr. AreReadable (patterns expr)) → IfErr r (IsRefusal (chars asked.now)) → IsMissingFault (option_copied file) world fault → TellsOf (Match file asked) world (Refused fault)
+match_gone file asked world r fault utf8 reads built why gone =
+    let read = read_as asked.now utf8 r reads built why in
     (MatchList (option_copied file) read.0, (refl, read.1), gone_either (option_copied file) world read.0 fault gone)

@@ -145,6 +145,8 @@ pub(crate) fn match_text<T: Text>(
     ensures few { OnErr result (ReadsSome world.old world.new meter.old meter.new) }
     ensures quiet { IfRefused result (λ _. ReadsNone world.old world.new meter.old meter.new) }
 {
+    // No effect at run time: that the text is UTF-8 is known to the proof from this use on.
+    let _ = text.as_bytes();
     let read = Match::read(alloc, text);
     let over = place_over(world, file)?;
     let expression = read?;

@@ -1,16 +1,12 @@
 -- How a stream is cut into commands (profile).
-use Rattle.std.specs.Prelude.{◌≡◌, ◌≢◌, ◌<◌, ◌≤◌, ◌^◌, ℕ, List, [], ◌∷◌, ◌++◌, length}
+use Rattle.std.specs.Prelude.{◌≡◌, ◌≢◌, ◌<◌, ◌≤◌, ℕ, List, [], ◌∷◌, ◌++◌, length}
 use Rattle.std.specs.List.{All}
 use Rattle.org_base.specs.declared.code.Code.TheVariants as code
-use Rattle.org_base.specs.declared.fault.Fault.{Fault}
-use Rattle.org_base.specs.declared.fault.Fault.TheVariants.{Plain, Stale, MatchAt}
-use Rattle.org_wire.specs.Run.{written}
-use Rattle.org_wire.specs.Stream.{Bad, Framed, Plainly, Reading, framed, line_of, reading_of}
+use Rattle.org_base.specs.declared.fault.Fault.TheVariants.{Plain}
+use Rattle.org_wire.specs.Stream.{Bad, Framed, Plainly, framed, line_of, reading_of}
 use Rattle.org_wire.specs.declared.command.Command.{Command}
 use Rattle.org_wire.specs.declared.command.Frame.{Frame}
 use Rattle.org_wire.specs.declared.command.Next.TheVariants.{Given, Refused, Last, Ended}
-use Rattle.org_wire.specs.declared.reply.Reply.{Reply}
-use Rattle.org_wire.specs.declared.reply.Reply.TheVariants as reply
 
 -- what stands before a line feed is a line: it has at most 4096 bytes, or all of it is passed over; a payload is what
 -- stands right behind, as long as its line says and at most 67,108,864 bytes; what ends before that is cut
