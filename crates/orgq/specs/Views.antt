@@ -5,7 +5,7 @@ use Rattle.org_agenda.specs.Days.{AgendaView, agenda_of, day_rows}
 use Rattle.org_agenda.specs.Lists.{Listing, list_rows}
 use Rattle.org_agenda.specs.Sources.{sources_of}
 use Rattle.org_agenda.specs.declared.row.Row.{Row}
-use Rattle.org_base.specs.declared.profile.Profile.{Profile}
+use Rattle.org_agenda.specs.declared.standpoint.Standpoint.{Standpoint}
 use Rattle.org_clocktable.specs.declared.row.TableRow.{TableRow}
 use Rattle.org_inherit.specs.Scope.{Scope}
 use Rattle.org_layout.specs.Days.{agenda_lines}
@@ -47,9 +47,9 @@ abbrev pub ShowsAgenda : {E : Type 0} → Result Answer E → List Scope → Age
 ShowsAgenda result scopes agenda = Answers result (agenda_lines scopes agenda) (lines_of agenda)
 
 -- the agenda of so many days from a first one on over all stamps of files
-abbrev pub over_all : Profile → List Scope → ℕ → ℕ → ℕ → AgendaView
-over_all p scopes today first count = agenda_of p (sources_of 0 scopes) today first count
+abbrev pub over_all : Standpoint → List Scope → ℕ → ℕ → AgendaView
+over_all seen scopes first count = agenda_of seen.profile (sources_of 0 scopes) seen.today first count
 
 -- that agenda, shown
-abbrev pub ShowsDays : {E : Type 0} → Result Answer E → List Scope → Profile → ℕ → ℕ → ℕ → Type 0
-ShowsDays result scopes p today first count = ShowsAgenda result scopes (over_all p scopes today first count)
+abbrev pub ShowsDays : {E : Type 0} → Result Answer E → List Scope → Standpoint → ℕ → ℕ → Type 0
+ShowsDays result scopes seen first count = ShowsAgenda result scopes (over_all seen scopes first count)

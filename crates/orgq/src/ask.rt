@@ -6,6 +6,7 @@ use crate::options::{clock_options, texts};
 use crate::table::clock_table;
 use crate::view::{Answer, Days, agenda_days, agenda_over, match_list, todo_list};
 use clap::ArgMatches;
+use org_agenda::Standpoint;
 use org_base::{Code, Fault, Profile, Texts};
 use org_cal::{Day, Moment};
 use org_clocktable::TableSpec;
@@ -124,23 +125,34 @@ fn asked_table<'a>(alloc: Global, own: &ArgMatches<'a>) -> Result<Asked<'a>, Pro
     }
 }
 
+/// What is asked, in which profile, and at which moment.
+#[derive(Clone, Copy, Debug)]
+pub struct Question<'a, 'b> {
+    pub asked: &'a Asked<'b>,
+    pub profile: Profile,
+    pub moment: Moment,
+}
+
 /// The answer over files that were read.
 pub fn answer(
     alloc: Global,
     inherits: &Inherits<'_>,
-    asked: &Asked<'_>,
-    profile: Profile,
-    now: Moment,
+    question: &Question<'_, '_>,
 ) -> Result<Answer, Fault>
     requires read { AreRead inherits.now }
 {
-    match asked {
-        Asked::Agenda(days) => agenda_days(alloc, inherits, profile, now.day, *days),
+    let now = question.moment;
+    let standpoint = Standpoint {
+        profile: question.profile,
+        today: now.day,
+    };
+    match question.asked {
+        Asked::Agenda(days) => agenda_days(alloc, inherits, &standpoint, *days),
         Asked::Todo(words) => todo_list(alloc, inherits, words),
         Asked::Match(expression) => matching(alloc, inherits, expression, now),
         Asked::Clock(options, _) => clock(alloc, inherits, options.as_str(), now),
         Asked::Next(days, within) => {
-            let agenda = agenda_over(alloc, inherits, profile, now.day, *days)?;
+            let agenda = agenda_over(alloc, inherits, &standpoint, *days)?;
             coming(alloc, inherits, &agenda, &now, *within)
         }
     }

@@ -1,13 +1,13 @@
 //! One question, from the arguments to the exit status.
 
-use crate::ask::{Asked, Problem, answer, read_question};
+use crate::ask::{Asked, Problem, Question, answer, read_question};
 use crate::clock::{moment, now};
 use crate::exit::{BAD_ARGUMENTS, STOPPED, status_of};
 use crate::options::{form, is_colored, profile, texts};
 use crate::show::{Look, printed};
 use crate::sources::{load_all, paths};
 use clap::ArgMatches;
-use org_base::{Code, Fault, Profile};
+use org_base::{Code, Fault};
 use org_cal::Moment;
 use org_rows::{FilesRead, Library};
 use org_text::Whole;
@@ -94,8 +94,12 @@ fn over_files<R: AllocGlobal + Files + Env + Print + Eprint + Clone + Drop>(
         is_colored,
         list: asked.list(),
     };
-    let profile = profile(matches.get_one::<u32>("profile").unwrap_or(1));
-    match text_of(rt.alloc(), &library, asked, profile, moment, &look) {
+    let question = Question {
+        asked,
+        profile: profile(matches.get_one::<u32>("profile").unwrap_or(1)),
+        moment: *moment,
+    };
+    match text_of(rt.alloc(), &library, &question, &look) {
         Ok((has_row, text)) => {
             let wanted = if matches.get_flag("quiet") {
                 &[]
@@ -112,13 +116,11 @@ fn over_files<R: AllocGlobal + Files + Env + Print + Eprint + Clone + Drop>(
 fn text_of(
     alloc: Global,
     library: &Library<Whole>,
-    asked: &Asked<'_>,
-    profile: Profile,
-    moment: &Moment,
+    question: &Question<'_, '_>,
     look: &Look,
 ) -> Result<(bool, Vec<u8>), Fault> {
     let inherits = library.inherits()?;
-    let answer = answer(alloc, &inherits, asked, profile, *moment)?;
+    let answer = answer(alloc, &inherits, question)?;
     let files = FilesRead {
         library,
         inherits: &inherits,

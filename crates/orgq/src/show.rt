@@ -43,26 +43,27 @@ pub fn printed<T: Text>(
             return Ok(out);
         };
         lines = rest;
-        push_line(
-            alloc,
-            &mut out,
-            files,
-            line,
-            text.trim_end_matches('\n'),
-            look,
-        )?;
+        let text = text.trim_end_matches('\n');
+        push_line(alloc, &mut out, files, &AnswerLine { line, text }, look)?;
     }
     Ok(out)
+}
+
+// A line of an answer: what it stands for, and its text.
+#[derive(Clone, Copy)]
+struct AnswerLine<'a> {
+    line: &'a Line,
+    text: &'a str,
 }
 
 fn push_line<T: Text>(
     alloc: Global,
     out: &mut Vec<u8>,
     files: &FilesRead<'_, '_, T>,
-    line: &Line,
-    text: &str,
+    shown: &AnswerLine<'_>,
     look: &Look,
 ) -> Result<(), Fault> {
+    let (line, text) = (shown.line, shown.text);
     match look.form {
         Form::Plain => Ok(push_text(out, line, text, look.is_colored)?),
         Form::Places => {

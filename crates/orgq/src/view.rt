@@ -6,8 +6,8 @@ ghost use Rattle.org_cal.specs.declared.day.TheConstants.{LAST_DAY};
 ghost use Rattle.org_rows.specs.Files.{AreRead};
 ghost use Rattle.orgq.specs.Views.{ShowsDays, ShowsList, ShowsListing, lines_of, lines_under, over_all, row_line};
 
-use org_agenda::{Agenda, Row, match_rows, sources_of, todo_rows};
-use org_base::{Fault, Profile, Texts};
+use org_agenda::{Agenda, Row, Standpoint, match_rows, sources_of, todo_rows};
+use org_base::{Fault, Texts};
 use org_cal::{Day, LAST_DAY, Moment};
 use org_clocktable::TableRow;
 use org_inherit::Inherits;
@@ -103,14 +103,13 @@ impl Days {
 pub fn agenda_days(
     alloc: Global,
     inherits: &Inherits<'_>,
-    profile: Profile,
-    today: Day,
+    standpoint: &Standpoint,
     days: Days,
 ) -> Result<Answer, Fault>
     requires read { AreRead inherits.now }
-    ensures value { ShowsDays result inherits.now profile today days.first days.count }
+    ensures value { ShowsDays result inherits.now standpoint.now days.first days.count }
 {
-    let agenda = agenda_over(alloc, inherits, profile, today, days)?;
+    let agenda = agenda_over(alloc, inherits, standpoint, days)?;
     let mut text = String::new(alloc);
     agenda_text(alloc, &mut text, inherits, &agenda)?;
     let lines = agenda_lines(alloc, &agenda)?;
@@ -121,15 +120,14 @@ pub fn agenda_days(
 pub fn agenda_over(
     alloc: Global,
     inherits: &Inherits<'_>,
-    profile: Profile,
-    today: Day,
+    standpoint: &Standpoint,
     days: Days,
 ) -> Result<Agenda, Fault>
     requires read { AreRead inherits.now }
-    ensures value { Gives result (over_all profile inherits.now today days.first days.count) }
+    ensures value { Gives result (over_all standpoint.now inherits.now days.first days.count) }
 {
     let sources = sources_of(alloc, inherits)?;
-    Agenda::new(alloc, sources, profile, today, days.first, days.count)
+    Agenda::new(alloc, sources, standpoint, days.first, days.count)
 }
 
 fn agenda_lines(alloc: Global, agenda: &Agenda) -> Result<Vec<Line>, Fault>
