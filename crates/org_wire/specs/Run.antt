@@ -13,7 +13,7 @@ use Rattle.org_wire.specs.Replies.{reply_bytes, fault_bytes}
 use Rattle.org_wire.specs.Stream.{reading_of, IsReplaceable, IsUnfinished}
 use Rattle.org_wire.specs.declared.command.Command.{Command}
 use Rattle.org_wire.specs.declared.command.Command.TheVariants.{Add, Agenda, At, Clock, Complete, Drop, Edit, Inherit, Match, Pin, Profile, Text, Todo, Unpin}
-use Rattle.org_wire.specs.declared.counted.Counted.{Counted}
+use Rattle.org_wire.specs.Views.{CountedView}
 use Rattle.org_wire.specs.declared.command.Next.{Next}
 use Rattle.org_wire.specs.declared.command.Next.TheVariants.{Given, Refused, Last, Ended}
 use Rattle.org_wire.specs.declared.reply.Reply.{Reply}
@@ -131,7 +131,7 @@ pub record IsRun (bytes : List ℕ) (old : State) (end : End) (new : State) (had
   pub front : end ≡ broken → IsFront bytes old new had has
 
 -- the same of the known bytes of a stream, of a writer and of an engine
-abbrev pub IsRunOver : {W : Type 0} → (W → Option (List ℕ)) → Option (List ℕ) → Counted W → EngineView → End → Counted W → EngineView → Type 0
+abbrev pub IsRunOver : {W : Type 0} → (W → Option (List ℕ)) → Option (List ℕ) → CountedView W → EngineView → End → CountedView W → EngineView → Type 0
 IsRunOver contents stream had old end has new =
     IfSome stream (λ bytes. IsRun bytes old.state end new.state (contents had.inner) (contents has.inner))
 
@@ -146,6 +146,6 @@ pub record AnswersTaken (bytes : List ℕ) (old new : State) (had has held : Opt
   pub ends : IsUnfinished (reading_of part).next
 
 -- the same of the known bytes of a stream, of those that its reader still holds, of a writer and of an engine
-abbrev pub AnswersAllTaken : {W : Type 0} → (W → Option (List ℕ)) → Option (List ℕ) → Counted W → EngineView → Option (List ℕ) → Counted W → EngineView → Type 0
+abbrev pub AnswersAllTaken : {W : Type 0} → (W → Option (List ℕ)) → Option (List ℕ) → CountedView W → EngineView → Option (List ℕ) → CountedView W → EngineView → Type 0
 AnswersAllTaken contents stream had old held has new =
     IfSome stream (λ bytes. AnswersTaken bytes old.state new.state (contents had.inner) (contents has.inner) held)

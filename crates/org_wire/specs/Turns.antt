@@ -18,7 +18,7 @@ use Rattle.org_wire.specs.declared.command.Command.TheVariants.{Add, Agenda, At,
 use Rattle.org_wire.specs.declared.command.Next.{Next}
 use Rattle.org_wire.specs.declared.command.Next.TheVariants.{Given, Refused, Last, Ended}
 use Rattle.org_wire.specs.declared.reply.Reply.{Reply}
-use Rattle.org_wire.specs.declared.counted.Counted.{Counted}
+use Rattle.org_wire.specs.Views.{CountedView}
 use Rattle.org_wire.specs.declared.reply.Reply.TheVariants as reply
 use Rattle.org_wire.specs.declared.whole.End.{End}
 use Rattle.org_wire.specs.declared.whole.End.TheVariants.{Stopped}
@@ -92,6 +92,6 @@ Answered (Last fault) old answer new = ⊥
 Answered Ended old answer new = ⊥
 
 -- a writer got the line of a fault whole, no call failed, and the run ends with the fault's code
-abbrev pub EndsAt : {W : Type 0} → (W → Option (List ℕ)) → Fault → Counted W → End → Counted W → Type 0
+abbrev pub EndsAt : {W : Type 0} → (W → Option (List ℕ)) → Fault → CountedView W → End → CountedView W → Type 0
 EndsAt contents fault old end new =
     (end ≡ Stopped (code_of fault)) × AppendsTo contents old new (fault_bytes fault) × (new.failed ≡ old.failed)

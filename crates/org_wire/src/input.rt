@@ -13,6 +13,7 @@ use org_base::{Bytes, Code, Fault};
 use org_text::MAX_BYTES;
 use std::alloc::Global;
 use std::io::Read;
+use std::marker::Model;
 
 // The most reads of a run.
 const MOST_READS: u64 = 1_099_511_627_776;
@@ -42,6 +43,14 @@ pub struct Input<'a, R> {
     room: Room,
     line: LineBuffer,
     alloc: Global,
+}
+
+impl<'a, R> Model for Input<'a, R> {
+    ghost use Rattle.org_wire.specs.Views.{InputView};
+
+    ghost Value = { InputView R };
+
+    ghost view = { λ i. record { reader = i.reader; room = i.room; line = i.line } };
 }
 
 // Puts the bytes at the end, unless memory was refused before, and answers whether it never was.
