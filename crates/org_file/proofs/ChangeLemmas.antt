@@ -130,10 +130,10 @@ one_is t x at span word plan f w =
     ap (λ n. take n (drop k t) ++ (word ++ joined_parts t (k + span.len) rest)) none ∙ ap (λ r. word ++ r) text1 in
     λ i. record { at = k; del = len i; ins = text i }
 
--- and they are one
-one_change : (t x : List ℕ) (at : ℕ) (span : Span) (word : List ℕ) (plan : Plan) → IsFront (drop at t) x → at + length x ≤ length t → CanWrite x span plan →
-    with_parts t (keyword_part at span word ∷ (shift_part at plan.shifts.0 ++ shift_part at plan.shifts.1)) ≡ replace t (at + span.at) (plan_end span plan - span.at) (word ++ plan_text x span plan)
-one_change t x at span word plan f within w =
+-- they stand one behind the other
+pub plan_apart : (t x : List ℕ) (at : ℕ) (span : Span) (word : List ℕ) (plan : Plan) → at + length x ≤ length t → CanWrite x span plan →
+    AreApart (at + span.at) (length t) (keyword_part at span word ∷ (shift_part at plan.shifts.0 ++ shift_part at plan.shifts.1))
+plan_apart t x at span word plan within w =
     let k : ℕ = at + span.at in
     let e0 : ℕ = span.at + span.len in
     let first : Option Shift = plan.shifts.0 in
@@ -147,8 +147,14 @@ one_change t x at span word plan f within w =
     let last : AreApart (at + e2) (length t) [] = omega (arith, bounds.1, within) in
     let apart2 : AreApart (at + e1) (length t) (shift_part at second) = subst (AreApart (at + e1) (length t)) (sym two) (apart_shift x at e1 (length t) second [] w.second last) in
     let apart1 : AreApart (at + e0) (length t) rest = apart_shift x at e0 (length t) first (shift_part at second) w.first apart2 in
-    let apart : AreApart k (length t) (keyword_part at span word ∷ rest) = (omega arith, subst (λ n. AreApart n (length t) rest) (sym low) apart1) in
-    parts_are_one_change t k (keyword_part at span word ∷ rest) apart ∙ ap (λ (p : Part). replace t p.at p.del p.ins) (one_is t x at span word plan f w)
+    (omega arith, subst (λ n. AreApart n (length t) rest) (sym low) apart1)
+
+-- and they are one
+one_change : (t x : List ℕ) (at : ℕ) (span : Span) (word : List ℕ) (plan : Plan) → IsFront (drop at t) x → at + length x ≤ length t → CanWrite x span plan →
+    with_parts t (keyword_part at span word ∷ (shift_part at plan.shifts.0 ++ shift_part at plan.shifts.1)) ≡ replace t (at + span.at) (plan_end span plan - span.at) (word ++ plan_text x span plan)
+one_change t x at span word plan f within w =
+    let parts : List Part = keyword_part at span word ∷ (shift_part at plan.shifts.0 ++ shift_part at plan.shifts.1) in
+    parts_are_one_change t (at + span.at) parts (plan_apart t x at span word plan within w) ∙ ap (λ (p : Part). replace t p.at p.del p.ins) (one_is t x at span word plan f w)
 
 -- the text of a heading's entry, where its section stands
 pub record IsEntryOf (t : List ℕ) (place : ℕ) (settings : FileSettings) (entry : Entry) : Type 0 where
@@ -218,6 +224,7 @@ pub record ChangeIs (t : List ℕ) (place : ℕ) (settings : FileSettings) (entr
   pub is : with_parts t (plan_parts (section_start t place) (heading_line entry) old settings plan)
       ≡ replace t (section_start t place + (keyword_span (heading_line entry) old).at) (plan_end (keyword_span (heading_line entry) old) plan - (keyword_span (heading_line entry) old).at)
       ((keyword_word settings.keywords plan.keyword ++ gap_behind old) ++ plan_text entry.text (keyword_span (heading_line entry) old) plan)
+  pub apart : AreApart (section_start t place + (keyword_span (heading_line entry) old).at) (length t) (plan_parts (section_start t place) (heading_line entry) old settings plan)
 
 pub change_is : (t : List ℕ) (place : ℕ) (settings : FileSettings) (entry : Entry) (old : Option Span) (plan : Plan) → IsEntryOf t place settings entry → CanWrite entry.text (keyword_span (heading_line entry) old) plan → ChangeIs t place settings entry old plan
 change_is t place settings entry old plan e w =
@@ -247,6 +254,7 @@ change_is t place settings entry old plan e w =
       part = text_part t (at + span.at) (plan_end span plan - span.at) e.utf8 from to;
       one = one_is t x at span (keyword_word settings.keywords plan.keyword ++ gap_behind old) plan (front_there t s x at p places.text) w;
       is = one_change t x at span (keyword_word settings.keywords plan.keyword ++ gap_behind old) plan (front_there t s x at p places.text) (omega (arith, inside, short)) w;
+      apart = plan_apart t x at span (keyword_word settings.keywords plan.keyword ++ gap_behind old) plan (omega (arith, inside, short)) w;
     }
 
 -- a part of a text in the front of it

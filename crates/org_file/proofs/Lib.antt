@@ -6,3 +6,4 @@ pub mod EntryLemmas
 pub mod PlanLemmas
 pub mod ChangeLemmas
 pub mod CompleteLemmas
+pub mod LawLemmas

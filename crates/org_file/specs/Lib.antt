@@ -2,3 +2,4 @@ pub mod Reading
 pub mod Parts
 pub mod Completion
 pub mod Written
+pub mod Laws
