@@ -1,10 +1,12 @@
 -- What calls of an engine and of its parts say, by the step.
-use Rattle.std.specs.Prelude.{◌≡◌, ◌≢◌, ◌<◌, ℕ, true, false, List, Option, Some, Result, Ok, IfErr, IfOk, String, is_some, length, slice_get, string_bytes}
+use Rattle.std.specs.Prelude.{◌≡◌, ◌≢◌, ◌<◌, ℕ, true, false, not, nat_le, if◌then◌else◌, List, Option, None, Some, Result, Ok, Err, IfErr, IfOk, IfSome, String, is_some, length, slice_get, string_bytes}
 use Rattle.std.specs.Borrow.{Bor}
 use Rattle.std.specs.Option.{option_map}
 use Rattle.org_base.specs.Codes.{memory_fault}
 use Rattle.org_base.specs.FileName.{is_file_name}
+use Rattle.org_base.specs.declared.code.Code.TheVariants as code
 use Rattle.org_base.specs.declared.fault.Fault.{Fault}
+use Rattle.org_base.specs.declared.fault.Fault.TheVariants as fault
 use Rattle.org_engine.specs.Step.{AddFile, Answers, Command, Refused, Reply, Serial, Shown, changes, file_named, most_files, put}
 use Rattle.org_engine.specs.World.{EngineView, FileView, KeptWorld, State}
 use Rattle.org_file.specs.Completion.{completed, completion_part}
@@ -82,3 +84,15 @@ pub record IsCompletionIn {T : Type 0} (content : T → List ℕ) (name : List �
   pub found : file_named name kept.world.files ≡ Some file
   pub revision : IsRevision content file.text r
   pub part : completion_part file.text line keyword kept.world.moment ≡ Ok (part_of r)
+
+-- why no file of this name can be added, whatever its text
+abbrev pub name_fault : List ℕ → List FileView → Option Fault
+name_fault name files =
+    if not (is_file_name name) then Some (fault.Plain code.Command)
+    else (if is_some (file_named name files) then Some (fault.Plain code.Taken)
+    else (if nat_le most_files (length files) then Some (fault.Plain code.Files)
+    else None))
+
+-- that is answered surely: want of memory never stands in its place
+abbrev pub RefusesSurelyBy : {T : Type 0} → Option Fault → Result T Fault → Type 0
+RefusesSurelyBy owed result = IfSome owed (λ fault. result ≡ Err fault)

@@ -2,7 +2,7 @@
 ghost use Rattle.std.specs.Prelude.{◌≡◌, IfOk, IfErr, IfSome, OnOk, OnErr, None, Some, false, string_bytes, nat_le};
 ghost use Rattle.std.specs.Str.{is_utf8};
 ghost use Rattle.org_base.specs.Results.{Gives, IfRefused};
-ghost use Rattle.org_engine.specs.Calls.{IsChangeIn, IsNewFile, Puts, Refuses, RefusesSurely, RefusesName, Tells};
+ghost use Rattle.org_engine.specs.Calls.{IsChangeIn, IsNewFile, Puts, Refuses, RefusesSurely, RefusesSurelyBy, RefusesName, Tells, name_fault};
 ghost use Rattle.org_engine.specs.Computed.{FailsSurely};
 ghost use Rattle.org_engine.specs.Marks.{AddsMarks, AddsNoMarks, CompletesMarks, CompletesNone, DropsMarks, EditsMarks, EditsNoMarks, IsQuiet, PutsMarks, PutsNoMarks, ReadsAtMostOne};
 ghost use Rattle.org_engine.specs.Step.{last_serial, AddFile, Complete, DropFile, EditFile, Refused, Serial, text_seen};
@@ -29,6 +29,7 @@ impl<T: Text> Engine<T> {
     pub fn add(&mut self, name: &str, text: &[u8]) -> Result<u64, Fault>
         ensures ok { Tells (AddFile name.now text.now) self.old result self.new }
         ensures err { Refuses (AddFile name.now text.now) self.old result self.new }
+        ensures sure { RefusesSurelyBy (name_fault name.now self.old.state.world.files) result }
         ensures marks { OnOk result (AddsMarks text.now self.old self.new) }
         ensures few { OnErr result (AddsNoMarks text.now self.old self.new) }
         ensures quiet { IfRefused result (λ _. IsQuiet self.old self.new) }
@@ -46,6 +47,7 @@ impl<T: Text> Engine<T> {
     pub fn add_bytes(&mut self, name: &str, text: Bytes) -> Result<u64, Fault>
         ensures ok { Tells (AddFile name.now text) self.old result self.new }
         ensures err { Refuses (AddFile name.now text) self.old result self.new }
+        ensures sure { RefusesSurelyBy (name_fault name.now self.old.state.world.files) result }
         ensures marks { OnOk result (AddsMarks text self.old self.new) }
         ensures few { OnErr result (AddsNoMarks text self.old self.new) }
         ensures quiet { IfRefused result (λ _. IsQuiet self.old self.new) }
@@ -62,6 +64,8 @@ impl<T: Text> Engine<T> {
     fn admit(&self, name: &str) -> Result<(), Fault>
         ensures ok { OnOk result (IsNewFile name.now self.now.state.world.files) }
         ensures err { IfErr result (RefusesName name.now self.now.state) }
+        ensures none { OnOk result (name_fault name.now self.now.state.world.files ≡ None) }
+        ensures fault { IfErr result (λ fault. name_fault name.now self.now.state.world.files ≡ Some fault) }
     {
         if !is_file_name(name.as_bytes()) {
             return Err(Fault::Plain(Code::Command));
