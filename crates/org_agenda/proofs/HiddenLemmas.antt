@@ -1,5 +1,5 @@
 -- No list and no agenda shows a hidden heading.
-use Rattle.std.proofs.Common.{◌≡◌, ◌∙◌, ◌+◌, ℕ, zero, suc, Bool, true, false, List, [], ◌∷◌, ◌++◌, map, refl, sym, ap, subst, arith, inl, inr}
+use Rattle.std.proofs.Common.{◌≡◌, ◌∙◌, ◌+◌, ℕ, zero, suc, Bool, true, false, List, [], ◌∷◌, refl, sym, ap, arith, inl, inr}
 use Rattle.std.specs.Prelude.{if◌then◌else◌, nat_lt, Option, None, Some, slice_get}
 use Rattle.std.specs.List.{All}
 use Rattle.std.proofs.lemmas.Bool.{cases_Bool}
@@ -14,9 +14,9 @@ use Rattle.org_inherit.specs.Scope.{Scope}
 use Rattle.org_stamp.specs.declared.stamp.Found.{Found}
 use Rattle.org_stamp.specs.declared.stamp.Stamp.{Stamp}
 use Rattle.org_agenda.specs.Kept.{HiddenGiveNoStamps, HiddenStandNowhere, IsInSight}
-use Rattle.org_agenda.specs.Lists.{Listing, Ranked, file_rows, head_rows, in_order, is_listed, is_over, list_rows, over_rows, ranked_row, rows_from, scope_rows}
+use Rattle.org_agenda.specs.Lists.{Listing, Ranked, file_rows, head_rows, is_listed, is_over, list_rows, over_rows, ranked_row, rows_from}
 use Rattle.org_agenda.specs.Order.{by_key}
-use Rattle.org_agenda.specs.Sources.{entry_sources, file_sources, head_sources, owner_of, plain_sources, put, source_at, sources_from, sources_of, with_line, with_planned, with_planning}
+use Rattle.org_agenda.specs.Sources.{entry_sources, file_sources, head_sources, owner_of, plain_sources, put, source_at, sources_from, sources_of, with_planned, with_planning}
 use Rattle.org_agenda.specs.declared.lists.TheConstants.{PRIORITIES}
 use Rattle.org_agenda.specs.declared.row.Row.{Row}
 use Rattle.org_agenda.specs.declared.source.Owner.{Owner}

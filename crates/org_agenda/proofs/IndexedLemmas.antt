@@ -1,6 +1,6 @@
 -- Headings in order, and the stamps of each.
 use Rattle.std.proofs.Common.{◌≡◌, ◌∙◌, ◌⊎◌, ℕ, zero, suc, ◌+◌, ◌<◌, ◌≤◌, Bool, true, false, List, [], ◌∷◌, ◌++◌, inl, inr, length, drop, get_or, cond, sym, ap, ap₂, refl, subst, arith, append-nil, append_assoc, true≢false}
-use Rattle.std.specs.Prelude.{Option, None, Some, filter, slice_get, slice_index_or, nat_le, nat_eq, ◌&&◌}
+use Rattle.std.specs.Prelude.{Option, None, Some, filter, slice_get, nat_le, nat_eq, ◌&&◌}
 use Rattle.std.specs.List.{AllByRecursion, flat_map, list_any, range_with_len}
 use Rattle.std.specs.List.Sorted.{IsStrictlySortedBy}
 use Rattle.std.specs.BTreeMap.{is_at}
@@ -10,16 +10,15 @@ use Rattle.std.specs.declared.ops.Bound.TheVariants.{Included, Excluded}
 use Rattle.std.proofs.lemmas.Bool.{cases_Bool, cases_lt, or_cases}
 use Rattle.std.proofs.lemmas.Bool.Decides.{nat_tests}
 use Rattle.std.proofs.lemmas.List.{drop_more, drop_all}
-use Rattle.std.proofs.lemmas.Option.{get_or_from_slice_get, slice_get_read}
+use Rattle.std.proofs.lemmas.Option.{get_or_from_slice_get}
 use Rattle.std.proofs.lemmas.List.Concat.{flat_map-cons}
-use Rattle.org_base.specs.declared.profile.Profile.{Profile}
 use Rattle.org_entry.specs.declared.entry.Entry.{Entry}
 use Rattle.org_index.specs.Lane.{spot_cmp}
 use Rattle.org_index.proofs.SpotLemmas.{at_spot, on_days}
 use Rattle.org_inherit.specs.Scope.{Scope}
-use Rattle.org_agenda.specs.Indexed.{headings_of, near_in, sources_if}
-use Rattle.org_agenda.specs.Near.{is_near, near_sources}
+use Rattle.org_agenda.specs.Indexed.{asked_in, asked_of, headings_of, is_asked, sources_if}
 use Rattle.org_agenda.specs.Sources.{file_sources, sources_at, sources_from, sources_of}
+use Rattle.org_agenda.specs.declared.indexed.Asked.{Asked}
 use Rattle.org_agenda.specs.declared.source.Source.{Source}
 
 -- each is at least the number, and more than the one before
@@ -76,31 +75,31 @@ filter_append p (x ∷ xs) ys = elim (cases_Bool (p x)) [
   | inr no' ↦ rw no' (filter_append p xs ys)
 ]
 
-module _ (q : Profile) (from to today : ℕ) (scope : Scope) (file : ℕ) where
+module _ (a : Asked) (scope : Scope) (file : ℕ) where
   -- the stamps of entries, one by one
   entries_near : (es : List Entry) (i : ℕ) → ((k : ℕ) → slice_get scope.entries (i + k) ≡ slice_get es k) →
-      flat_map (near_in q from to today scope file) (range_with_len i (length es)) ≡ near_sources q from to today (sources_from scope file i es)
+      flat_map (asked_in a scope file) (range_with_len i (length es)) ≡ asked_of a (sources_from scope file i es)
   entries_near [] i same = refl
   entries_near (e ∷ es) i same =
       let here : slice_get scope.entries i ≡ Some e = ap (λ k. slice_get scope.entries k) (let z : i ≡ i + 0 = omega arith in z) ∙ same 0 in
-      flat_map-cons (near_in q from to today scope file) i (range_with_len (i + 1) (length es))
-      ∙ ap₂ (λ a b. a ++ b) (ap (λ (o : Option Entry). near_sources q from to today (sources_if scope file i o)) here)
+      flat_map-cons (asked_in a scope file) i (range_with_len (i + 1) (length es))
+      ∙ ap₂ (λ a b. a ++ b) (ap (λ (o : Option Entry). asked_of a (sources_if scope file i o)) here)
       (entries_near es (i + 1) (λ k. ap (λ j. slice_get scope.entries j) (let z : i + 1 + k ≡ i + suc k = omega arith in z) ∙ same (suc k)))
-      ∙ sym (filter_append (is_near q from to today) (sources_at scope file i e) (sources_from scope file (i + 1) es))
+      ∙ sym (filter_append (is_asked a) (sources_at scope file i e) (sources_from scope file (i + 1) es))
 
   past_end : (es : List Entry) (j : ℕ) → length es ≤ j → slice_get es j ≡ None
   past_end [] j le = refl
   past_end (e ∷ es) zero le = absurd (omega (arith, le))
   past_end (e ∷ es) (suc j) le = past_end es j (omega (arith, le))
 
-  pub none_past : (j : ℕ) → length scope.entries ≤ j → near_in q from to today scope file j ≡ []
-  none_past j le = ap (λ (o : Option Entry). near_sources q from to today (sources_if scope file j o)) (past_end scope.entries j le)
+  pub none_past : (j : ℕ) → length scope.entries ≤ j → asked_in a scope file j ≡ []
+  none_past j le = ap (λ (o : Option Entry). asked_of a (sources_if scope file j o)) (past_end scope.entries j le)
 
   -- the headings that are asked give all that are near
-  pub file_near : (hs : List ℕ) → Ascend 0 hs → ((j : ℕ) → (Among j hs → ⊥) → near_in q from to today scope file j ≡ []) →
-      flat_map (near_in q from to today scope file) hs ≡ near_sources q from to today (file_sources scope file)
+  pub file_near : (hs : List ℕ) → Ascend 0 hs → ((j : ℕ) → (Among j hs → ⊥) → asked_in a scope file j ≡ []) →
+      flat_map (asked_in a scope file) hs ≡ asked_of a (file_sources scope file)
   file_near hs up none =
-      merged (near_in q from to today scope file) hs 0 (length scope.entries) up (λ j le. none_past j (omega (arith, le))) (λ j low high out. none j out)
+      merged (asked_in a scope file) hs 0 (length scope.entries) up (λ j le. none_past j (omega (arith, le))) (λ j low high out. none j out)
       ∙ entries_near scope.entries 0 (λ k. ap (λ j. slice_get scope.entries j) (let z : 0 + k ≡ k = omega arith in z))
 
 -- the spots of one file
@@ -160,19 +159,19 @@ heading_more f old new all k rest ks new_is rest_is so_far =
     ∙ so_far
 
 -- one file more
-pub near_file_more : (q : Profile) (from to today : ℕ) (scopes : List Scope) (i : ℕ) (scope : Scope) (old new all : List Source) → i < length scopes → slice_get scopes i ≡ Some scope → new ≡ old ++ near_sources q from to today (file_sources scope i) →
-    old ++ near_sources q from to today (sources_of i (drop i scopes)) ≡ all → new ++ near_sources q from to today (sources_of (i + 1) (drop (i + 1) scopes)) ≡ all
-near_file_more q from to today scopes i scope old new all lt there is so_far =
+pub near_file_more : (a : Asked) (scopes : List Scope) (i : ℕ) (scope : Scope) (old new all : List Source) → i < length scopes → slice_get scopes i ≡ Some scope → new ≡ old ++ asked_of a (file_sources scope i) →
+    old ++ asked_of a (sources_of i (drop i scopes)) ≡ all → new ++ asked_of a (sources_of (i + 1) (drop (i + 1) scopes)) ≡ all
+near_file_more a scopes i scope old new all lt there is so_far =
     let rest : List Scope = drop (i + 1) scopes in
     let first : drop i scopes ≡ scope ∷ rest = drop_more scopes i scope lt ∙ ap (λ x. x ∷ rest) (get_or_from_slice_get scopes i scope scope there) in
-    ap (λ x. x ++ near_sources q from to today (sources_of (i + 1) rest)) is
-    ∙ append_assoc old (near_sources q from to today (file_sources scope i)) (near_sources q from to today (sources_of (i + 1) rest))
-    ∙ ap (λ x. old ++ x) (sym (filter_append (is_near q from to today) (file_sources scope i) (sources_of (i + 1) rest)))
-    ∙ ap (λ ss. old ++ near_sources q from to today (sources_of i ss)) (sym first)
+    ap (λ x. x ++ asked_of a (sources_of (i + 1) rest)) is
+    ∙ append_assoc old (asked_of a (file_sources scope i)) (asked_of a (sources_of (i + 1) rest))
+    ∙ ap (λ x. old ++ x) (sym (filter_append (is_asked a) (file_sources scope i) (sources_of (i + 1) rest)))
+    ∙ ap (λ ss. old ++ asked_of a (sources_of i ss)) (sym first)
     ∙ so_far
 
-pub near_files_whole : (q : Profile) (from to today : ℕ) (scopes : List Scope) (i : ℕ) (xs all : List Source) → length scopes ≤ i → xs ++ near_sources q from to today (sources_of i (drop i scopes)) ≡ all → xs ≡ all
-near_files_whole q from to today scopes i xs all le h = sym (append-nil xs) ∙ ap (λ ss. xs ++ near_sources q from to today (sources_of i ss)) (sym (drop_all i scopes le)) ∙ h
+pub near_files_whole : (a : Asked) (scopes : List Scope) (i : ℕ) (xs all : List Source) → length scopes ≤ i → xs ++ asked_of a (sources_of i (drop i scopes)) ≡ all → xs ≡ all
+near_files_whole a scopes i xs all le h = sym (append-nil xs) ∙ ap (λ ss. xs ++ asked_of a (sources_of i ss)) (sym (drop_all i scopes le)) ∙ h
 
 -- what passes a test goes behind, one by one
 pub passed_more : (p : Source → Bool) (xs : List Source) (i : ℕ) (x : Source) (old new all : List Source) → i < length xs → x ≡ get_or xs i x → p x ≡ true → new ≡ old ++ x ∷ [] →
@@ -193,6 +192,3 @@ passed_over p xs i x old all lt at fails so_far =
 
 pub passed_whole : (p : Source → Bool) (xs : List Source) (i : ℕ) (old all : List Source) → length xs ≤ i → old ++ filter p (drop i xs) ≡ all → old ≡ all
 passed_whole p xs i old all le h = sym (append-nil old) ∙ ap (λ ys. old ++ filter p ys) (sym (drop_all i xs le)) ∙ h
-
-pub lent : (es fs : List Entry) (place : ℕ) (entry : Entry) → place < length es → entry ≡ slice_index_or es place entry → es ≡ fs → slice_get fs place ≡ Some entry
-lent es fs place entry inside is same = subst (λ x. slice_get x place ≡ Some entry) same (slice_get_read es (length es) place entry refl inside is)

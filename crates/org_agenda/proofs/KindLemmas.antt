@@ -15,7 +15,7 @@ use Rattle.org_repeat.specs.Starts.{IsNextAfter}
 use Rattle.org_repeat.proofs.DecidedLemmas.{next_is_decided, occurs_is_decided}
 use Rattle.org_stamp.specs.declared.mark.Delay.{Delay}
 use Rattle.org_stamp.specs.declared.stamp.Stamp.{Stamp}
-use Rattle.org_agenda.specs.Days.{due_day, is_due, is_shown, occurs_delayed, occurs_later}
+use Rattle.org_agenda.specs.Days.{due_day, is_due, occurs_delayed, occurs_later}
 use Rattle.org_index.specs.Delays.{days_in, delay_or}
 use Rattle.org_agenda.specs.declared.source.Source.{Source}
 use Rattle.org_agenda.specs.declared.row.RowKind.TheVariants.{Listed, OnDay, InRange, OnSchedule, LateSchedule, OnDeadline, Warning, LateDeadline}

@@ -10,7 +10,6 @@ use Rattle.std.proofs.lemmas.Bool.Decides.{nat_tests}
 use Rattle.std.proofs.lemmas.List.{take_all, take_more}
 use Rattle.std.proofs.lemmas.List.Elements.{Contains-push_cases}
 use Rattle.org_base.specs.Counts.{Counts, ticked}
-use Rattle.org_base.specs.declared.profile.Profile.{Profile}
 use Rattle.org_base.specs.declared.meter.Tick.TheVariants.{Examine}
 use Rattle.org_index.specs.Extents.{extent_of}
 use Rattle.org_index.specs.Lane.{spot_cmp}
@@ -18,8 +17,9 @@ use Rattle.org_index.specs.Near.{is_candidate, is_touching, meets_if, touches, t
 use Rattle.org_index.specs.Ticks.{Examines, examined}
 use Rattle.org_index.specs.declared.extent.Extent.{Extent}
 use Rattle.org_inherit.specs.Scope.{Scope}
-use Rattle.org_agenda.specs.Indexed.{AddsHeading, AddsHeadings, AreIndexed, HasHeading, HoldNear, HoldsNearOf, HoldsTouchingOf, IsIdOf, KeepsHeadings, index_of, sources_in}
-use Rattle.org_agenda.specs.Near.{is_near, is_pressing}
+use Rattle.org_agenda.specs.Indexed.{AddsHeading, AddsHeadings, AreIndexed, HasHeading, HoldAsked, HoldsNearOf, HoldsTouchingOf, IsIdOf, KeepsHeadings, index_of, is_asked, sources_in}
+use Rattle.org_agenda.specs.Near.{is_pressing}
+use Rattle.org_agenda.specs.declared.indexed.Asked.{Asked}
 use Rattle.org_agenda.specs.declared.source.Source.{Source}
 
 -- what no item passes leaves nothing
@@ -36,12 +36,15 @@ found_meets pairs from to today id e got near = ap (λ (o : Option Extent). meet
 found_touches : (pairs : List (ℕ × Extent)) (from to id : ℕ) (e : Extent) → lookup (is_at (nat_cmp id)) pairs ≡ Some e → touches from to e ≡ true → is_touching pairs from to id ≡ true
 found_touches pairs from to id e got near = ap (λ (o : Option Extent). touches_if from to o) got ∙ near
 
-module _ (q : Profile) (place : ℕ → Option (ℕ × ℕ)) (pressing others : List (ℕ × Extent)) (from to today : ℕ) (one two : BTreeSet (ℕ × ℕ))
-    (first : HoldsNearOf from to today place pressing one) (keeps : KeepsHeadings one two) (second : HoldsTouchingOf from to place others two) where
+module _ (a : Asked) (place : ℕ → Option (ℕ × ℕ)) (pressing others : List (ℕ × Extent)) (one two : BTreeSet (ℕ × ℕ))
+    (first : HoldsNearOf a place pressing one) (keeps : KeepsHeadings one two) (second : HoldsTouchingOf a place others two) where
   -- a stamp that is near leads to its heading
-  leads : (s : Source) (file i id : ℕ) → is_near q from to today s ≡ true → IsIdOf q place (index_of pressing others s) file i s id → HasHeading two file i
+  leads : (s : Source) (file i id : ℕ) → is_asked a s ≡ true → IsIdOf a.standpoint.profile place (index_of pressing others s) file i s id → HasHeading two file i
   leads s file i id near is =
-      let e = extent_of q s.stamp in
+      let from = a.from in
+      let to = a.to in
+      let today = a.standpoint.today in
+      let e = extent_of a.standpoint.profile s.stamp in
       elim (cases_Bool (is_pressing s)) [
         | inl presses ↦
             let got : lookup (is_at (nat_cmp id)) pressing ≡ Some e = subst (λ b. lookup (is_at (nat_cmp id)) (if b then pressing else others) ≡ Some e) presses is.0 in
@@ -54,9 +57,9 @@ module _ (q : Profile) (place : ℕ → Option (ℕ × ℕ)) (pressing others : 
             second id file i (found_touches others from to id e got touch) is.1
       ]
 
-  pub hold_near : (scopes : List Scope) → AreIndexed q place pressing others scopes → HoldNear q from to today two scopes
+  pub hold_near : (scopes : List Scope) → AreIndexed a.standpoint.profile place pressing others scopes → HoldAsked a two scopes
   hold_near scopes stands file i scope there out =
-      none_left (is_near q from to today) (sources_in scope file i) (λ s member near. stands.ids file i scope s there member (λ id is. out (leads s file i id near is)))
+      none_left (is_asked a) (sources_in scope file i) (λ s member near. stands.ids file i scope s there member (λ id is. out (leads s file i id near is)))
 
 pub examined_sum : (a b : ℕ) (counts : Counts) → examined b (examined a counts) ≡ examined (a + b) counts
 examined_sum a zero counts = ap (λ n. examined n counts) (let e : a ≡ a + 0 = omega arith in e)

@@ -1,6 +1,6 @@
 -- Days of delays, and what the rows of ranges show.
-use Rattle.std.proofs.Common.{◌≡◌, ◌≢◌, ◌∙◌, ◌<◌, ◌≤◌, ◌+◌, ◌*◌, ◌/◌, eq-eqb, ℕ, refl, sym, ap, subst, arith}
-use Rattle.std.specs.Prelude.{◌==◌, Bool, true, false, Option, None, Some, unwrap_or}
+use Rattle.std.proofs.Common.{◌≡◌, ◌∙◌, ◌≤◌, ◌+◌, ◌*◌, eq-eqb, ℕ, refl, sym, ap, subst, arith}
+use Rattle.std.specs.Prelude.{Option, Some, unwrap_or}
 use Rattle.std.proofs.Math.Nat.{mul-div-le, lt-mul-div-succ}
 use Rattle.std.proofs.lemmas.Bool.{ne_eqb}
 use Rattle.org_base.specs.declared.profile.Profile.{Profile}

@@ -17,6 +17,7 @@ use Rattle.org_agenda.specs.declared.source.Role.TheVariants.{Plain, Scheduled, 
 use Rattle.org_agenda.specs.declared.row.Row.{Row}
 use Rattle.org_agenda.specs.declared.row.RowKind.{RowKind}
 use Rattle.org_agenda.specs.declared.row.RowKind.TheVariants.{Listed, OnDay, InRange, OnSchedule, LateSchedule, OnDeadline, Warning, LateDeadline}
+use Rattle.org_agenda.specs.declared.standpoint.Standpoint.{Standpoint}
 
 -- `-N` moves each occurrence, `--N` the base day alone
 abbrev pub occurs_later : Profile → Bool → Stamp → ℕ → ℕ → Bool
@@ -145,5 +146,5 @@ abbrev pub rows_ahead : AgendaView → ℕ → List Row
 rows_ahead agenda ahead = day_rows agenda.profile agenda.sources agenda.today (agenda.first + ahead)
 
 -- some stamps give the rows that all give, on each day from one to another
-abbrev pub GiveAllRows : Profile → List Source → ℕ → ℕ → ℕ → List Source → Type 0
-GiveAllRows p all today from to some = (day : ℕ) → from ≤ day → day ≤ to → day_rows p some today day ≡ day_rows p all today day
+abbrev pub GiveAllRows : Standpoint → List Source → ℕ → ℕ → List Source → Type 0
+GiveAllRows seen all from to some = (day : ℕ) → from ≤ day → day ≤ to → day_rows seen.profile some seen.today day ≡ day_rows seen.profile all seen.today day

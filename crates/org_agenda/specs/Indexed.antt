@@ -1,21 +1,22 @@
 -- Stamps that are found by indexes (profile).
-use Rattle.std.specs.Prelude.{◌≡◌, ℕ, if◌then◌else◌, List, [], Option, Some, None, IsTrue, Contains, map, slice_get}
+use Rattle.std.specs.Prelude.{◌≡◌, ℕ, if◌then◌else◌, Bool, List, [], Option, Some, None, IsTrue, Contains, map, slice_get}
 use Rattle.std.specs.Ordering.{nat_cmp}
 use Rattle.std.specs.BTreeMap.{is_at}
 use Rattle.std.specs.BTreeSet.{BTreeSet, contains}
 use Rattle.std.specs.List.{All}
 use Rattle.std.specs.Map.{lookup}
+use Rattle.org_base.specs.Counts.{Counts}
 use Rattle.org_base.specs.declared.profile.Profile.{Profile}
 use Rattle.org_entry.specs.Entry.{entry_of}
 use Rattle.org_entry.specs.declared.entry.Entry.{Entry}
 use Rattle.org_settings.specs.Settings.{FileSettings}
 use Rattle.org_index.specs.Extents.{extent_of}
 use Rattle.org_index.specs.Lane.{spot_cmp}
-use Rattle.org_index.specs.Near.{is_candidate, is_touching}
+use Rattle.org_index.specs.Near.{CountsCandidates, CountsTouching, is_candidate, is_touching}
 use Rattle.org_index.specs.declared.extent.Extent.{Extent}
 use Rattle.org_inherit.specs.Scope.{Scope}
 use Rattle.org_agenda.specs.Headings.{AllHaveHeads}
-use Rattle.org_agenda.specs.Near.{IsSound, is_pressing, near_sources}
+use Rattle.org_agenda.specs.Near.{IsSound, is_near, is_pressing, near_sources}
 use Rattle.org_agenda.specs.Sources.{file_sources, sources_at, sources_of}
 use Rattle.org_agenda.specs.declared.indexed.Asked.{Asked}
 use Rattle.org_agenda.specs.declared.source.Source.{Source}
@@ -29,30 +30,30 @@ sources_if scope file i (Some e) = sources_at scope file i e
 abbrev pub sources_in : Scope → ℕ → ℕ → List Source
 sources_in scope file i = sources_if scope file i (slice_get scope.entries i)
 
--- those that are near
-abbrev pub near_in : Profile → ℕ → ℕ → ℕ → Scope → ℕ → ℕ → List Source
-near_in p from to today scope file i = near_sources p from to today (sources_in scope file i)
+-- the stamp is near the days that are asked
+abbrev pub is_asked : Asked → Source → Bool
+is_asked a s = is_near a.standpoint.profile a.from a.to a.standpoint.today s
 
--- the same by what is asked
-abbrev pub asked_in : Asked → Scope → ℕ → ℕ → List Source
-asked_in a scope file i = near_in a.profile a.from a.to a.today scope file i
-
--- of some stamps those that are near the days that are asked
+-- of some stamps those that are near
 abbrev pub asked_of : Asked → List Source → List Source
-asked_of a sources = near_sources a.profile a.from a.to a.today sources
+asked_of a sources = near_sources a.standpoint.profile a.from a.to a.standpoint.today sources
+
+-- those of the entry at a place of a file
+abbrev pub asked_in : Asked → Scope → ℕ → ℕ → List Source
+asked_in a scope file i = asked_of a (sources_in scope file i)
+
+-- those of a file
+abbrev pub asked_of_file : Asked → Scope → ℕ → List Source
+asked_of_file a scope file = asked_of a (file_sources scope file)
 
 -- the set has the heading, by the places of its file and of itself
 abbrev pub HasHeading : BTreeSet (ℕ × ℕ) → ℕ → ℕ → Type 0
 HasHeading places file i = IsTrue (contains spot_cmp places (file, i))
 
 -- whose heading isn't in the set has no stamp that is near
-abbrev pub HoldNear : Profile → ℕ → ℕ → ℕ → BTreeSet (ℕ × ℕ) → List Scope → Type 0
-HoldNear p from to today places scopes =
-    (file i : ℕ) (scope : Scope) → slice_get scopes file ≡ Some scope → (HasHeading places file i → ⊥) → near_in p from to today scope file i ≡ []
-
--- the same by what is asked
 abbrev pub HoldAsked : Asked → BTreeSet (ℕ × ℕ) → List Scope → Type 0
-HoldAsked a places scopes = HoldNear a.profile a.from a.to a.today places scopes
+HoldAsked a places scopes =
+    (file i : ℕ) (scope : Scope) → slice_get scopes file ≡ Some scope → (HasHeading places file i → ⊥) → asked_in a scope file i ≡ []
 
 -- the same in one file
 abbrev pub HoldAskedIn : Asked → BTreeSet (ℕ × ℕ) → ℕ → Scope → Type 0
@@ -91,13 +92,22 @@ AddsHeading place id new = (file i : ℕ) → place id ≡ Some (file, i) → Ha
 abbrev pub AddsHeadings : (ℕ → Option (ℕ × ℕ)) → List ℕ → BTreeSet (ℕ × ℕ) → Type 0
 AddsHeadings place ids new = (id file i : ℕ) → Contains ids id → place id ≡ Some (file, i) → HasHeading new file i
 
--- the headings of all ids in an index that are near are there
-abbrev pub HoldsNearOf : ℕ → ℕ → ℕ → (ℕ → Option (ℕ × ℕ)) → List (ℕ × Extent) → BTreeSet (ℕ × ℕ) → Type 0
-HoldsNearOf from to today place pairs new = (id file i : ℕ) → IsTrue (is_candidate pairs from to today id) → place id ≡ Some (file, i) → HasHeading new file i
+-- the headings of all ids in an index that are near the days that are asked are there
+abbrev pub HoldsNearOf : Asked → (ℕ → Option (ℕ × ℕ)) → List (ℕ × Extent) → BTreeSet (ℕ × ℕ) → Type 0
+HoldsNearOf a place pairs new =
+    (id file i : ℕ) → IsTrue (is_candidate pairs a.from a.to a.standpoint.today id) → place id ≡ Some (file, i) → HasHeading new file i
 
 -- the same of those that touch the days
-abbrev pub HoldsTouchingOf : ℕ → ℕ → (ℕ → Option (ℕ × ℕ)) → List (ℕ × Extent) → BTreeSet (ℕ × ℕ) → Type 0
-HoldsTouchingOf from to place pairs new = (id file i : ℕ) → IsTrue (is_touching pairs from to id) → place id ≡ Some (file, i) → HasHeading new file i
+abbrev pub HoldsTouchingOf : Asked → (ℕ → Option (ℕ × ℕ)) → List (ℕ × Extent) → BTreeSet (ℕ × ℕ) → Type 0
+HoldsTouchingOf a place pairs new = (id file i : ℕ) → IsTrue (is_touching pairs a.from a.to id) → place id ≡ Some (file, i) → HasHeading new file i
+
+-- all ids in an index that are near the days that are asked are counted
+abbrev pub CountsNearOf : Asked → List (ℕ × Extent) → Counts → Counts → Type 0
+CountsNearOf a pairs old new = CountsCandidates pairs a.from a.to a.standpoint.today old new
+
+-- the same of those that touch the days
+abbrev pub CountsTouchingOf : Asked → List (ℕ × Extent) → Counts → Counts → Type 0
+CountsTouchingOf a pairs old new = CountsTouching pairs a.from a.to old new
 
 -- the headings of spots
 abbrev pub headings_of : List (ℕ × ℕ) → List ℕ

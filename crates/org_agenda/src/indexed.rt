@@ -2,16 +2,19 @@
 ghost use Rattle.std.specs.Prelude.{◌≡◌, ◌+◌, ◌^◌, ◌<◌, ◌≤◌, ℕ, Option, OnErr, OnOk, IsOkUnless};
 ghost use Rattle.org_base.specs.Codes.{memory_fault};
 ghost use Rattle.org_base.specs.Results.{Adds, GivesItems};
-ghost use Rattle.org_index.specs.Near.{CountsCandidates, CountsTouching};
 ghost use Rattle.org_index.specs.Ticks.{Examines};
+ghost use Rattle.org_agenda.specs.Facts.{HasOwnHead, stamps_at};
 ghost use Rattle.org_agenda.specs.Headings.{AllHaveHeads, HaveHeads};
-ghost use Rattle.org_agenda.specs.Indexed.{AddsHeading, AddsHeadings, HoldAsked, HoldAskedIn, HoldsNearOf, HoldsTouchingOf, KeepsHeadings, asked_in, asked_of};
-ghost use Rattle.org_agenda.specs.Near.{is_near, is_pressing};
-ghost use Rattle.org_agenda.specs.Sources.{file_sources, sources_of};
+ghost use Rattle.org_agenda.specs.Indexed.{AddsHeading, AddsHeadings, CountsNearOf, CountsTouchingOf, HoldAsked, HoldAskedIn, HoldsNearOf, HoldsTouchingOf, KeepsHeadings, asked_of, asked_of_file, is_asked};
+ghost use Rattle.org_agenda.specs.Near.{is_pressing};
+ghost use Rattle.org_agenda.specs.Sources.{sources_of};
 
+use crate::facts::HeadingFacts;
+use crate::headings::heading_at;
 use crate::source::{Role, Source};
-use crate::sources::push_entry;
-use org_base::{Fault, Meter, Profile};
+use crate::sources::write_heading;
+use crate::standpoint::Standpoint;
+use org_base::{Fault, Meter};
 use org_cal::Day;
 use org_index::{DayIndex, Extent};
 use org_inherit::{Inherit, Inherits};
@@ -26,13 +29,12 @@ pub trait Owners {
         ensures value { result ≡ place self.now id };
 }
 
-// The days that are asked, and the profile in which stamps are read.
+// The days that are asked, from one to another, and how stamps are looked at.
 #[derive(Clone, Copy)]
 pub(crate) struct Asked {
-    pub(crate) profile: Profile,
-    pub(crate) from: u32,
-    pub(crate) to: u32,
-    pub(crate) today: u32,
+    pub(crate) standpoint: Standpoint,
+    pub(crate) from: Day,
+    pub(crate) to: Day,
 }
 
 // The stamps of files that are near the days, in order: of the headings in the set, outside which none has any.
@@ -40,75 +42,68 @@ pub(crate) fn near_of(
     alloc: Global,
     inherits: &Inherits<'_>,
     places: &BTreeSet<(usize, usize)>,
-    asked: Asked,
+    asked: &Asked,
 ) -> Result<Vec<Source>, AllocError>
     requires heads { AllHaveHeads inherits.now }
-    requires all { HoldAsked asked places.now inherits.now }
-    ensures value { GivesItems result (asked_of asked (sources_of 0 inherits.now)) }
+    requires all { HoldAsked asked.now places.now inherits.now }
+    ensures value { GivesItems result (asked_of asked.now (sources_of 0 inherits.now)) }
 {
-    let mut sources = Vec::new(alloc);
-    let mut entry = Vec::new(alloc);
-    let mut own = Vec::new(alloc);
+    let mut near = NearSources {
+        found: Vec::new(alloc),
+        own: Vec::new(alloc),
+    };
     for file in 0..inherits.count() {
-        push_file_near(
-            &mut sources,
-            &mut entry,
-            &mut own,
-            file,
-            inherits.get(file),
-            places,
-            asked,
-        )?;
+        near.push_file(file, inherits.get(file), places, asked)?;
     }
-    Ok(sources)
+    Ok(near.found)
 }
 
-// Puts those of a file behind others.
-fn push_file_near(
-    sources: &mut Vec<Source>,
-    entry: &mut Vec<Source>,
-    own: &mut Vec<Source>,
-    file: usize,
-    inherit: &Inherit<'_>,
-    places: &BTreeSet<(usize, usize)>,
-    asked: Asked,
-) -> Result<(), AllocError>
-    requires heads { HaveHeads inherit.now.settings inherit.now.entries }
-    requires few { file + 1 < 2 ^ 64 }
-    requires all { HoldAskedIn asked places.now file inherit.now }
-    ensures ok { Adds result sources.old sources.new (asked_of asked (file_sources inherit.now file)) }
-{
-    for (_, heading) in places.range((file, 0)..(file + 1, 0)) {
-        push_near(sources, entry, own, file, inherit, *heading, asked)?;
-    }
-    Ok(())
+// The stamps that are near the days, as far as they are found, and those of one heading.
+#[derive(Drop)]
+struct NearSources {
+    found: Vec<Source>,
+    own: Vec<Source>,
 }
 
-// Puts those of the entry at a place, if it is there, behind others.
-fn push_near(
-    sources: &mut Vec<Source>,
-    entry: &mut Vec<Source>,
-    own: &mut Vec<Source>,
-    file: usize,
-    inherit: &Inherit<'_>,
-    place: usize,
-    asked: Asked,
-) -> Result<(), AllocError>
-    requires heads { HaveHeads inherit.now.settings inherit.now.entries }
-    ensures ok { Adds result sources.old sources.new (asked_in asked inherit.now file place) }
-{
-    let outline = inherit.outline();
-    if place >= outline.count() {
-        return Ok(());
+impl NearSources {
+    // Puts those of a file behind others.
+    fn push_file(
+        &mut self,
+        file: usize,
+        inherit: &Inherit<'_>,
+        places: &BTreeSet<(usize, usize)>,
+        asked: &Asked,
+    ) -> Result<(), AllocError>
+        requires heads { HaveHeads inherit.now.settings inherit.now.entries }
+        requires few { file + 1 < 2 ^ 64 }
+        requires all { HoldAskedIn asked.now places.now file inherit.now }
+        ensures ok { Adds result self.old.found self.new.found (asked_of_file asked.now inherit.now file) }
+    {
+        for (_, heading) in places.range((file, 0)..(file + 1, 0)) {
+            if let Some(facts) = heading_at(inherit, file, *heading) {
+                self.push_heading(&facts, asked)?;
+            }
+        }
+        Ok(())
     }
-    entry.clear();
-    push_entry(entry, own, file, inherit, place, outline.entry(place))?;
-    push_if_near(sources, entry.as_slice(), asked)
+
+    // Puts those of a heading behind others.
+    fn push_heading(
+        &mut self,
+        facts: &HeadingFacts<'_, '_>,
+        asked: &Asked,
+    ) -> Result<(), AllocError>
+        requires head { HasOwnHead facts.now }
+        ensures ok { Adds result self.old.found self.new.found (asked_of asked.now (stamps_at facts.now)) }
+    {
+        write_heading(&mut self.own, facts)?;
+        push_near(&mut self.found, self.own.as_slice(), asked)
+    }
 }
 
 // Puts those of some stamps that are near behind others.
-fn push_if_near(sources: &mut Vec<Source>, some: &[Source], asked: Asked) -> Result<(), AllocError>
-    ensures ok { Adds result sources.old sources.new (asked_of asked some.now) }
+fn push_near(sources: &mut Vec<Source>, some: &[Source], asked: &Asked) -> Result<(), AllocError>
+    ensures ok { Adds result sources.old sources.new (asked_of asked.now some.now) }
 {
     for source in some {
         if is_near(source, asked) {
@@ -119,12 +114,13 @@ fn push_if_near(sources: &mut Vec<Source>, some: &[Source], asked: Asked) -> Res
 }
 
 // Whether a stamp is near the days.
-fn is_near(source: &Source, asked: Asked) -> bool
-    ensures { result ≡ is_near asked.profile asked.from asked.to asked.today source.now }
+fn is_near(source: &Source, asked: &Asked) -> bool
+    ensures { result ≡ is_asked asked.now source.now }
 {
-    let extent = Extent::of(&source.stamp, asked.profile);
-    extent.touches(asked.from, asked.to)
-        || (is_pressing(source) && extent.warns(asked.from, asked.to, asked.today))
+    let (from, to) = (asked.from.number(), asked.to.number());
+    let extent = Extent::of(&source.stamp, asked.standpoint.profile);
+    extent.touches(from, to)
+        || (is_pressing(source) && extent.warns(from, to, asked.standpoint.today.number()))
 }
 
 // Whether it stands in the planning line of a heading without a done keyword.
@@ -143,18 +139,17 @@ pub(crate) fn add_near<O: Owners>(
     meter: &mut Meter,
     index: &DayIndex,
     owners: &O,
-    from: Day,
-    to: Day,
-    today: Day,
+    asked: &Asked,
 ) -> Result<(), Fault>
-    requires order { from ≤ to }
+    requires order { asked.now.from ≤ asked.now.to }
     ensures keeps { OnOk result (KeepsHeadings places.old places.new) }
-    ensures adds { OnOk result (HoldsNearOf from to today (O.place owners.now) index.now places.new) }
-    ensures counts { OnOk result (CountsCandidates index.now from to today meter.old meter.new) }
+    ensures adds { OnOk result (HoldsNearOf asked.now (O.place owners.now) index.now places.new) }
+    ensures counts { OnOk result (CountsNearOf asked.now index.now meter.old meter.new) }
     ensures few { OnErr result (Examines meter.old meter.new) }
     ensures memory { IsOkUnless result memory_fault }
 {
-    let ids = index.candidates(meter, from, to, today)?;
+    let today = asked.standpoint.today;
+    let ids = index.candidates(meter, asked.from, asked.to, today)?;
     add_headings(places, owners, ids.as_slice())?;
     Ok(())
 }
@@ -165,17 +160,16 @@ pub(crate) fn add_touching<O: Owners>(
     meter: &mut Meter,
     index: &DayIndex,
     owners: &O,
-    from: Day,
-    to: Day,
+    asked: &Asked,
 ) -> Result<(), Fault>
-    requires order { from ≤ to }
+    requires order { asked.now.from ≤ asked.now.to }
     ensures keeps { OnOk result (KeepsHeadings places.old places.new) }
-    ensures adds { OnOk result (HoldsTouchingOf from to (O.place owners.now) index.now places.new) }
-    ensures counts { OnOk result (CountsTouching index.now from to meter.old meter.new) }
+    ensures adds { OnOk result (HoldsTouchingOf asked.now (O.place owners.now) index.now places.new) }
+    ensures counts { OnOk result (CountsTouchingOf asked.now index.now meter.old meter.new) }
     ensures few { OnErr result (Examines meter.old meter.new) }
     ensures memory { IsOkUnless result memory_fault }
 {
-    let ids = index.touching(meter, from, to)?;
+    let ids = index.touching(meter, asked.from, asked.to)?;
     add_headings(places, owners, ids.as_slice())?;
     Ok(())
 }

@@ -1,8 +1,9 @@
 //! Which rows a stamp gives on a day.
 ghost use Rattle.std.specs.Prelude.{◌≡◌, ◌<◌, ◌≤◌, ◌+◌, ◌-◌, nat_le, nat_lt, ◌&&◌, length, unwrap_or, OnOk};
 ghost use Rattle.org_cal.specs.declared.day.TheConstants.{LAST_DAY};
-ghost use Rattle.org_agenda.specs.Days.{due_day, is_due, is_shown, kind_rows, numbers, occurs_delayed, occurs_later, range_numbers, range_times, shown_from, source_rows, times};
+ghost use Rattle.org_agenda.specs.Days.{due_day, is_due, is_shown, numbers, occurs_delayed, occurs_later, range_numbers, range_times, shown_from, times};
 ghost use Rattle.org_agenda.specs.Results.{Gathers};
+ghost use Rattle.org_agenda.specs.Spread.{seen_kind, seen_rows};
 ghost use Rattle.org_agenda.specs.declared.lists.TheConstants.{PRIORITIES};
 ghost use Rattle.org_index.specs.Delays.{delay_or};
 ghost use Rattle.org_index.specs.declared.delays.TheConstants.{DELAY_LIMIT};
@@ -11,6 +12,7 @@ ghost use Rattle.org_repeat.specs.Decided.{occurs};
 use crate::buckets::Buckets;
 use crate::row::{Row, RowKind};
 use crate::source::{Role, Source};
+use crate::standpoint::Standpoint;
 use org_base::Profile;
 use org_cal::{Day, TimeOfDay};
 use org_index::{days_in, delay_or};
@@ -89,10 +91,11 @@ fn number_or_none(day: Option<Day>) -> u32
 }
 
 // Whether the stamp, if its role has rows of that kind, gives one on the day.
-fn is_shown(kind: RowKind, source: &Source, profile: Profile, today: Day, day: Day) -> bool
-    ensures { result ≡ is_shown profile kind source.now today day }
+fn is_shown(kind: RowKind, source: &Source, standpoint: &Standpoint, day: Day) -> bool
+    ensures { result ≡ is_shown standpoint.now.profile kind source.now standpoint.now.today day }
 {
     let stamp = &source.stamp;
+    let (profile, today) = (standpoint.profile, standpoint.today);
     match kind {
         RowKind::Listed => false,
         RowKind::OnDay => stamp.last.is_none() && occurs_on(stamp, profile, day),
@@ -103,19 +106,21 @@ fn is_shown(kind: RowKind, source: &Source, profile: Profile, today: Day, day: D
                 && stamp.day.number() + delay_or(0, stamp.delay) < today.number()
         }
         RowKind::OnDeadline => occurs_on(stamp, profile, day),
-        RowKind::Warning => is_due(source, today, day) && warns(stamp, profile, today),
+        RowKind::Warning => {
+            is_due(source, today, day)
+                && comes_near(due_day(stamp, profile, today), stamp.delay, today)
+        }
         RowKind::LateDeadline => {
             is_due(source, today, day) && stamp.day.number() < today.number()
         }
     }
 }
 
-// Whether the day of which a deadline warns is near.
-fn warns(stamp: &Stamp, profile: Profile, today: Day) -> bool
-    ensures { result ≡ (nat_le (due_day profile stamp.now today) (today + delay_or 14 stamp.now.delay) && nat_lt today (due_day profile stamp.now today)) }
+// Whether the day of a number is ahead, by at most 14 days, or those of a delay if there is one.
+fn comes_near(due: u32, delay: Option<Delay>, today: Day) -> bool
+    ensures { result ≡ (nat_le due (today + delay_or 14 delay) && nat_lt today due) }
 {
-    let due = due_day(stamp, profile, today);
-    due <= today.number() + delay_or(14, stamp.delay) && today.number() < due
+    due <= today.number() + delay_or(14, delay) && today.number() < due
 }
 
 fn times_of(
@@ -188,19 +193,18 @@ fn push_kind(
     rows: &mut Buckets,
     kind: RowKind,
     source: &Source,
-    profile: Profile,
-    today: Day,
+    standpoint: &Standpoint,
     day: Day,
 ) -> Result<(), AllocError>
     requires room { length rows.old ≡ PRIORITIES }
-    ensures ok { Gathers result rows.old rows.new (kind_rows profile kind source.now today day) }
+    ensures ok { Gathers result rows.old rows.new (seen_kind standpoint.now kind source.now day) }
     ensures room { OnOk result (length rows.new ≡ PRIORITIES) }
 {
-    if !is_shown(kind, source, profile, today, day) {
+    if !is_shown(kind, source, standpoint, day) {
         return Ok(());
     }
-    let (start, end) = times_of(kind, &source.stamp, profile, day);
-    let (number, of) = numbers_of(kind, &source.stamp, profile, day);
+    let (start, end) = times_of(kind, &source.stamp, standpoint.profile, day);
+    let (number, of) = numbers_of(kind, &source.stamp, standpoint.profile, day);
     let owner = source.owner;
     rows.add(
         owner.priority.number() as usize,
@@ -222,26 +226,25 @@ fn push_kind(
 pub(crate) fn push_source(
     rows: &mut Buckets,
     source: &Source,
-    profile: Profile,
-    today: Day,
+    standpoint: &Standpoint,
     day: Day,
 ) -> Result<(), AllocError>
     requires room { length rows.old ≡ PRIORITIES }
-    ensures ok { Gathers result rows.old rows.new (source_rows profile today day source.now) }
+    ensures ok { Gathers result rows.old rows.new (seen_rows standpoint.now day source.now) }
 {
     match source.role {
         Role::Plain => {
-            push_kind(rows, RowKind::OnDay, source, profile, today, day)?;
-            push_kind(rows, RowKind::InRange, source, profile, today, day)?;
+            push_kind(rows, RowKind::OnDay, source, standpoint, day)?;
+            push_kind(rows, RowKind::InRange, source, standpoint, day)?;
         }
         Role::Scheduled => {
-            push_kind(rows, RowKind::OnSchedule, source, profile, today, day)?;
-            push_kind(rows, RowKind::LateSchedule, source, profile, today, day)?;
+            push_kind(rows, RowKind::OnSchedule, source, standpoint, day)?;
+            push_kind(rows, RowKind::LateSchedule, source, standpoint, day)?;
         }
         Role::Deadline => {
-            push_kind(rows, RowKind::OnDeadline, source, profile, today, day)?;
-            push_kind(rows, RowKind::Warning, source, profile, today, day)?;
-            push_kind(rows, RowKind::LateDeadline, source, profile, today, day)?;
+            push_kind(rows, RowKind::OnDeadline, source, standpoint, day)?;
+            push_kind(rows, RowKind::Warning, source, standpoint, day)?;
+            push_kind(rows, RowKind::LateDeadline, source, standpoint, day)?;
         }
     }
     Ok(())

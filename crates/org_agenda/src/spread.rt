@@ -1,5 +1,5 @@
 //! Stamps by the days on which they may give rows.
-ghost use Rattle.std.specs.Prelude.{◌≡◌, ℕ, ◌+◌, ◌<◌, ◌≤◌, Some, true, false, IfOk, OnOk, length, slice_get};
+ghost use Rattle.std.specs.Prelude.{◌≡◌, ℕ, ◌+◌, ◌<◌, ◌≤◌, true, false, IfOk, OnOk, length};
 ghost use Rattle.org_agenda.specs.Days.{is_due, occurs_delayed, occurs_later};
 ghost use Rattle.org_index.specs.declared.delays.TheConstants.{DELAY_LIMIT};
 ghost use Rattle.org_agenda.specs.declared.spread.TheConstants.{NEVER};
@@ -8,6 +8,7 @@ ghost use Rattle.org_repeat.specs.Decided.{occurs};
 
 use crate::places::Places;
 use crate::source::{Role, Source};
+use crate::standpoint::Standpoint;
 use org_base::Profile;
 use org_cal::{Day, LAST_DAY};
 use org_index::days_in;
@@ -22,18 +23,17 @@ const NEVER: u32 = LAST_DAY + 1;
 pub(crate) fn spread(
     alloc: Global,
     sources: &[Source],
-    profile: Profile,
-    today: Day,
+    standpoint: &Standpoint,
     first: Day,
     count: u32,
 ) -> Result<Places, AllocError>
     requires { first + count ≤ NEVER }
-    ensures value { IfOk result (λ places. AreSpread profile sources.now today first places sources.now) }
+    ensures value { IfOk result (λ places. AreSpread standpoint.now sources.now first places sources.now) }
     ensures count { IfOk result (λ places. length places ≡ count) }
 {
     let mut places = Places::new(alloc, count as usize)?;
-    for (place, source) in sources.iter().enumerate() {
-        give(&mut places, sources, place, source, profile, today, first)?;
+    for place in 0..sources.len() {
+        give(&mut places, sources, place, standpoint, first)?;
     }
     Ok(places)
 }
@@ -43,19 +43,18 @@ fn give(
     places: &mut Places,
     sources: &[Source],
     place: usize,
-    source: &Source,
-    profile: Profile,
-    today: Day,
+    standpoint: &Standpoint,
     first: Day,
 ) -> Result<(), AllocError>
-    requires is { slice_get sources.now place ≡ Some source.now }
-    requires within { first + length places.old ≤ NEVER }
-    ensures ok { OnOk result (GiveMore profile sources.now today first places.old places.new source.now) }
+    requires place { place < length sources.now }
+    requires days { first + length places.old ≤ NEVER }
+    ensures ok { OnOk result (GiveMore standpoint.now sources.now first places.old places.new place) }
     ensures count { OnOk result (length places.new ≡ length places.old) }
 {
+    let source = &sources[place];
     let mut next = first.number();
     for _turn in 0..places.count() {
-        let day = next_shown(source, profile, today, next);
+        let day = next_shown(source, standpoint, next);
         let ahead = (day - first.number()) as usize;
         if ahead >= places.count() {
             return Ok(());
@@ -67,12 +66,13 @@ fn give(
 }
 
 // The first day, from one on, on which the stamp may give a row.
-fn next_shown(source: &Source, profile: Profile, today: Day, from: u32) -> u32
+fn next_shown(source: &Source, standpoint: &Standpoint, from: u32) -> u32
     requires { (1 ≤ from) × (from ≤ NEVER) }
     ensures late { from ≤ result }
-    ensures none { GivesNone profile source.now today from result }
+    ensures none { GivesNone standpoint.now source.now from result }
 {
     let stamp = &source.stamp;
+    let (profile, today) = (standpoint.profile, standpoint.today);
     match source.role {
         Role::Plain => next_on(stamp, profile, from),
         Role::Scheduled => earlier(

@@ -11,7 +11,8 @@ ghost use Rattle.org_agenda.specs.declared.source.Source.{Source as AnySource};
 
 use crate::indexed::{Asked, Owners, add_near, add_touching, near_of};
 use crate::source::Source;
-use org_base::{Fault, Meter, Profile, Tick};
+use crate::standpoint::Standpoint;
+use org_base::{Fault, Meter, Tick};
 use org_cal::Day;
 use org_index::DayIndex;
 use org_inherit::Inherits;
@@ -29,22 +30,21 @@ pub trait Stamps {
     // How many stamps are examined for the days from one to another, with a today.
     ghost examines: { Self → ℕ → ℕ → ℕ → ℕ };
 
-    /// The stamps to look at for the days from one to another, in order: on each of these days they give the rows that all
-    /// stamps give. Each stamp that is examined is counted. Want of memory is the only refusal, and then some may have been
-    /// counted.
+    /// The stamps to look at for the days from one to another, in order: on each of these days they give the rows that
+    /// all stamps give. Each stamp that is examined is counted. Want of memory is the only refusal, and then some may
+    /// have been counted.
     fn near(
         &self,
         alloc: Global,
         meter: &mut Meter,
-        profile: Profile,
+        standpoint: &Standpoint,
         from: Day,
         to: Day,
-        today: Day,
     ) -> Result<Vec<Source>, Fault>
-        requires stands { stands self.now profile }
+        requires stands { stands self.now standpoint.now.profile }
         requires order { from ≤ to }
-        ensures rows { IfOk result (λ found. GiveAllRows profile (sources self.now) today from to found.items) }
-        ensures counts { OnOk result (meter.new ≡ examined (examines self.now from to today) meter.old) }
+        ensures rows { IfOk result (λ found. GiveAllRows standpoint.now (sources self.now) from to found.items) }
+        ensures counts { OnOk result (meter.new ≡ examined (examines self.now from to standpoint.now.today) meter.old) }
         ensures few { OnErr result (Examines meter.old meter.new) }
         ensures memory { IsOkUnless result memory_fault };
 }
@@ -66,12 +66,11 @@ impl<'a> Stamps for AllStamps<'a> {
         &self,
         alloc: Global,
         meter: &mut Meter,
-        profile: Profile,
+        standpoint: &Standpoint,
         from: Day,
         to: Day,
-        today: Day,
     ) -> Result<Vec<Source>, Fault> {
-        let _ = (profile, from, to, today);
+        let _ = (standpoint.today, from, to);
         let sources = Vec::from_slice(alloc, self.sources)?;
         for _ in 0..self.sources.len() {
             meter.tick(Tick::Examine);
@@ -80,8 +79,8 @@ impl<'a> Stamps for AllStamps<'a> {
     }
 }
 
-/// The stamps of files' headings, by two indexes: one of those in the planning line of headings without a done keyword, one
-/// of all others.
+/// The stamps of files' headings, by two indexes: one of those in the planning line of headings without a done keyword,
+/// one of all others.
 #[derive(Drop)]
 pub struct IndexedStamps<'a, O: Owners> {
     pub inherits: &'a Inherits<'a>,
@@ -95,27 +94,25 @@ impl<'a, O: Owners> Stamps for IndexedStamps<'a, O> {
 
     ghost stands = { λ s p. AreIndexed p (O.place s.owners.now) s.pressing.now s.others.now s.inherits.now };
 
-    ghost examines = { λ s from to today. candidate_count from to today s.pressing.now + touching_count from to s.others.now };
+    ghost examines = { λ s a b today. candidate_count a b today s.pressing.now + touching_count a b s.others.now };
 
     fn near(
         &self,
         alloc: Global,
         meter: &mut Meter,
-        profile: Profile,
+        standpoint: &Standpoint,
         from: Day,
         to: Day,
-        today: Day,
     ) -> Result<Vec<Source>, Fault> {
         let mut places: BTreeSet<(usize, usize)> = BTreeSet::new(alloc);
         let owners = self.owners;
-        add_near(&mut places, meter, self.pressing, owners, from, to, today)?;
-        add_touching(&mut places, meter, self.others, owners, from, to)?;
         let asked = Asked {
-            profile,
-            from: from.number(),
-            to: to.number(),
-            today: today.number(),
+            standpoint: *standpoint,
+            from,
+            to,
         };
-        Ok(near_of(alloc, self.inherits, &places, asked)?)
+        add_near(&mut places, meter, self.pressing, owners, &asked)?;
+        add_touching(&mut places, meter, self.others, owners, &asked)?;
+        Ok(near_of(alloc, self.inherits, &places, &asked)?)
     }
 }

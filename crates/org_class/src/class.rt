@@ -122,7 +122,5 @@ pub(crate) fn class_at(classes: &[Class], place: usize) -> Option<Class>
 pub(crate) fn has_setting(classes: &[Class]) -> bool
     ensures value { result ≡ list_any is_setting_class classes.now }
 {
-    classes
-        .iter()
-        .any(|class| matches!(*class, Class::Setting))
+    classes.iter().any(|class| matches!(*class, Class::Setting))
 }

@@ -1,6 +1,6 @@
 -- Levels and their decimal texts.
-use Rattle.std.proofs.Common.{◌≡◌, ◌∙◌, ◌+◌, ◌-◌, ◌*◌, ◌/◌, ◌%◌, ◌^◌, ◌<◌, ◌≤◌, ℕ, Bool, true, false, List, [], ◌∷◌, ap, ap₂, arith, inl, inr, refl, sym}
-use Rattle.std.specs.Prelude.{◌&&◌, decimal, nat_le, Option, None, Some}
+use Rattle.std.proofs.Common.{◌≡◌, ◌∙◌, ◌+◌, ◌-◌, ◌*◌, ◌/◌, ◌%◌, ◌<◌, ◌≤◌, ℕ, true, List, [], ◌∷◌, ap, ap₂, arith, inl, inr, sym}
+use Rattle.std.specs.Prelude.{◌&&◌, decimal, nat_le, None, Some}
 use Rattle.std.specs.Char.{is_ascii_digit}
 use Rattle.std.specs.Str.Parse.{AllDigits, digits_value}
 use Rattle.std.proofs.lemmas.Bool.{cases_Bool, cases_lt}

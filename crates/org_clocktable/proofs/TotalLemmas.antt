@@ -1,14 +1,12 @@
 -- The first row of a step.
 use Rattle.std.proofs.Common.{◌≡◌, ◌∙◌, ◌+◌, ℕ, zero, suc, Bool, List, [], ◌∷◌, length, ap, ap₂, arith, refl, sym}
 use Rattle.std.specs.Prelude.{Some}
-use Rattle.std.specs.List.{sum_by}
 use Rattle.std.proofs.lemmas.List.Sums.{sum_by-cons}
 use Rattle.org_entry.specs.declared.entry.Entry.{Entry}
-use Rattle.org_clocktable.specs.Counted.{Counted, file_sum, total}
+use Rattle.org_clocktable.specs.Counted.{Counted, total}
 use Rattle.org_clocktable.specs.Laws.{TotalsAreOfAllThatCount, counting, counting_in}
 use Rattle.org_clocktable.specs.Table.{step_rows}
 use Rattle.org_clocktable.specs.declared.row.Of.TheVariants.{All}
-use Rattle.org_clocktable.specs.declared.row.TableRow.{TableRow}
 use Rattle.org_sum.specs.Measures.{clock_minutes, effort_minutes}
 use Rattle.org_sum.specs.Sums.{own, own_at, sum_below, whole_sum}
 

@@ -4,6 +4,7 @@ use Rattle.org_entry.specs.declared.entry.Entry.{Entry}
 use Rattle.org_clocktable.specs.Counted.{Counted, file_sum, heading_sum, total}
 use Rattle.org_clocktable.specs.declared.row.Of.TheVariants.{All, File, Heading}
 use Rattle.org_clocktable.specs.declared.row.TableRow.{TableRow}
+use Rattle.org_clocktable.specs.declared.rows.TableFile.{TableFile}
 use Rattle.org_outline.specs.Levels.{level_of, levels}
 use Rattle.org_outline.specs.Tree.{level_at}
 use Rattle.org_sum.specs.Measures.{clock_minutes, effort_minutes}
@@ -37,6 +38,18 @@ abbrev pub file_rows : ℕ × ℕ → ℕ → ℕ → Counted → List TableRow
 file_rows days most file counted =
     if nat_lt 0 (file_sum (clock_minutes days) counted)
     then record { of = File file; clock = file_sum (clock_minutes days) counted; effort = file_sum effort_minutes counted } ∷ heading_rows days most file counted else []
+
+-- the lines of a file by what the code knows of it
+abbrev pub lines_of : ℕ × ℕ → ℕ → TableFile → List TableRow
+lines_of days most file = file_rows days most file.place file.counted.now
+
+-- those of its entries
+abbrev pub heading_lines : ℕ × ℕ → ℕ → TableFile → List TableRow
+heading_lines days most file = heading_rows days most file.place file.counted.now
+
+-- that of the entry at a place
+abbrev pub line_at : ℕ × ℕ → ℕ → TableFile → ℕ → List TableRow
+line_at days most file i = rows_at days most file.place file.counted.now i
 
 -- those of files, the first of which stands at a place
 abbrev pub files_rows : ℕ × ℕ → ℕ → ℕ → List Counted → List TableRow

@@ -7,7 +7,7 @@ ghost use Rattle.org_cal.specs.Periods.{days_of};
 ghost use Rattle.org_clocktable.specs.Clocked.{AreOf, IsHeadingOrEnd, IsLastClocked};
 ghost use Rattle.org_clocktable.specs.Counted.{file_sum, total};
 ghost use Rattle.org_clocktable.specs.Marks.{IsLater};
-ghost use Rattle.org_clocktable.specs.Table.{entry_rows, file_rows, files_rows, heading_rows, rows_at, step_rows};
+ghost use Rattle.org_clocktable.specs.Table.{entry_rows, files_rows, heading_lines, line_at, lines_of, step_rows};
 ghost use Rattle.org_sum.specs.Measures.{clock_minutes, effort_minutes};
 
 use crate::counted::CountedFile;
@@ -18,9 +18,10 @@ use org_cal::Period;
 use org_entry::Entry;
 use std::alloc::{AllocError, Global};
 
-/// The rows of a clock table over a period (Org manual 9.6, "The clock table"): the total; then each file with clocks in the
-/// period, followed by its headings of at most this level that have some. They are at most as many files as an engine has. Each clock is looked at
-/// once, and then only headings with minutes in the period, their own or below them. Want of memory is the only refusal.
+/// The rows of a clock table over a period (Org manual 9.6, "The clock table"): the total; then each file with clocks
+/// in the period, followed by its headings of at most this level that have some. They are at most as many files as an
+/// engine has. Each clock is looked at once, and then only headings with minutes in the period, their own or below
+/// them. Want of memory is the only refusal.
 pub fn step_rows(
     alloc: Global,
     period: &Period,
@@ -86,11 +87,19 @@ fn push_files(
     ensures rows { Adds result rows.old rows.new (files_rows (days_of period.now) most 0 files.now) }
 {
     let mut sum = 0;
-    for (place, file) in files.iter().enumerate() {
-        let own = push_file(alloc, rows, period, most, place, file)?;
+    for (place, counted) in files.iter().enumerate() {
+        let file = TableFile { place, counted };
+        let own = push_file(alloc, rows, period, most, &file)?;
         sum += own;
     }
     Ok(sum)
+}
+
+// A file of a table, by its place among them.
+#[derive(Clone, Copy)]
+pub(crate) struct TableFile<'a, 'b> {
+    pub place: usize,
+    pub counted: &'a CountedFile<'b>,
 }
 
 // Puts the rows of a file behind others; answers what its clocks have.
@@ -99,24 +108,24 @@ fn push_file(
     rows: &mut Vec<TableRow>,
     period: &Period,
     most: u32,
-    place: usize,
-    file: &CountedFile<'_>,
+    file: &TableFile<'_, '_>,
 ) -> Result<u64, AllocError>
-    ensures sum { Gives result (file_sum (clock_minutes (days_of period.now)) file.now) }
+    ensures sum { Gives result (file_sum (clock_minutes (days_of period.now)) file.now.counted.now) }
     ensures below { IfOk result (λ sum. sum < 2 ^ 55) }
-    ensures rows { Adds result rows.old rows.new (file_rows (days_of period.now) most place file.now) }
+    ensures rows { Adds result rows.old rows.new (lines_of (days_of period.now) most file.now) }
 {
-    let marks = file.marks(alloc, period)?;
-    let clock = marks.before(file.outline().count());
+    let counted = file.counted;
+    let marks = counted.marks(alloc, period)?;
+    let clock = marks.before(counted.outline().count());
     if clock == 0 {
         return Ok(0);
     }
     rows.push(TableRow {
-        of: Of::File(place),
+        of: Of::File(file.place),
         clock,
-        effort: file.effort(),
+        effort: counted.effort(),
     })?;
-    push_headings(alloc, rows, most, place, file, &marks)?;
+    push_headings(alloc, rows, most, file, &marks)?;
     Ok(clock)
 }
 
@@ -124,14 +133,13 @@ fn push_headings(
     alloc: Global,
     rows: &mut Vec<TableRow>,
     most: u32,
-    at: usize,
-    file: &CountedFile<'_>,
+    file: &TableFile<'_, '_>,
     marks: &Marks,
 ) -> Result<(), AllocError>
-    requires { AreOf marks.now file.now }
-    ensures { Adds result rows.old rows.new (heading_rows marks.now.days most at file.now) }
+    requires { AreOf marks.now file.now.counted.now }
+    ensures { Adds result rows.old rows.new (heading_lines marks.now.days most file.now) }
 {
-    let mut found = headings_up(alloc, most, at, file, marks)?;
+    let mut found = headings_up(alloc, most, file, marks)?;
     found.reverse();
     rows.extend_from_slice(found.as_slice())?;
     Ok(())
@@ -141,24 +149,24 @@ fn push_headings(
 fn headings_up(
     alloc: Global,
     most: u32,
-    at: usize,
-    file: &CountedFile<'_>,
+    file: &TableFile<'_, '_>,
     marks: &Marks,
 ) -> Result<Vec<TableRow>, AllocError>
-    requires { AreOf marks.now file.now }
-    ensures { IfOk result (λ rows. reverse rows.items ≡ heading_rows marks.now.days most at file.now) }
+    requires { AreOf marks.now file.now.counted.now }
+    ensures { IfOk result (λ rows. reverse rows.items ≡ heading_lines marks.now.days most file.now) }
 {
     let mut rows = Vec::new(alloc);
-    let mut below = file.outline().count();
-    while let Some(place) = heading_before(file, marks, below) {
-        push_heading(&mut rows, most, at, place, file, marks)?;
+    let mut below = file.counted.outline().count();
+    while let Some(place) = heading_before(file.counted, marks, below) {
+        push_heading(&mut rows, most, file, marks, place)?;
         below = place;
     }
     Ok(rows)
 }
 
-// The last heading before another one, or before the end, that may have minutes: the parent of that one, or the last with
-// clocks of its own. What stands behind both has none, since all subtrees that begin there end before that heading.
+// The last heading before another one, or before the end, that may have minutes: the parent of that one, or the last
+// with clocks of its own. What stands behind both has none, since all subtrees that begin there end before that
+// heading.
 fn heading_before(file: &CountedFile<'_>, marks: &Marks, below: usize) -> Option<usize>
     requires marks { AreOf marks.now file.now }
     requires heading { IsHeadingOrEnd file.now.entries below }
@@ -186,48 +194,52 @@ fn later(a: Option<usize>, b: Option<usize>) -> Option<usize>
 fn push_heading(
     rows: &mut Vec<TableRow>,
     most: u32,
-    at: usize,
-    place: usize,
-    file: &CountedFile<'_>,
+    file: &TableFile<'_, '_>,
     marks: &Marks,
+    place: usize,
 ) -> Result<(), AllocError>
-    requires marks { AreOf marks.now file.now }
-    requires within { place < length file.now.entries }
-    ensures { Adds result rows.old rows.new (rows_at marks.now.days most at file.now place) }
+    requires marks { AreOf marks.now file.now.counted.now }
+    requires within { place < length file.now.counted.now.entries }
+    ensures { Adds result rows.old rows.new (line_at marks.now.days most file.now place) }
 {
-    let outline = file.outline();
-    let end = file.ends()[place];
+    let counted = file.counted;
+    let outline = counted.outline();
+    let end = counted.ends()[place];
     let clock = marks.before(end) - marks.before(place);
-    push_row(
-        rows,
-        most,
-        at,
-        place,
-        outline.entry(place),
+    let sums = HeadingSums {
+        file: file.place,
+        heading: place,
         clock,
-        file.efforts()[place],
-    )
+        effort: counted.efforts()[place],
+    };
+    push_row(rows, most, outline.entry(place), sums)
+}
+
+// A heading, by the places of its file and of its entry, with its sums.
+#[derive(Clone, Copy)]
+struct HeadingSums {
+    file: usize,
+    heading: usize,
+    clock: u64,
+    effort: u64,
 }
 
 fn push_row(
     rows: &mut Vec<TableRow>,
     most: u32,
-    file: usize,
-    place: usize,
     entry: &Entry,
-    clock: u64,
-    effort: u64,
+    sums: HeadingSums,
 ) -> Result<(), AllocError>
-    ensures { Adds result rows.old rows.new (entry_rows most file place clock effort entry.now) }
+    ensures { Adds result rows.old rows.new (entry_rows most sums.file sums.heading sums.clock sums.effort entry.now) }
 {
     let Some(head) = &entry.head else {
         return Ok(());
     };
-    if clock > 0 && head.level <= most {
+    if sums.clock > 0 && head.level <= most {
         rows.push(TableRow {
-            of: Of::Heading(file, place, head.level),
-            clock,
-            effort,
+            of: Of::Heading(sums.file, sums.heading, head.level),
+            clock: sums.clock,
+            effort: sums.effort,
         })?;
     }
     Ok(())

@@ -7,13 +7,12 @@ use Rattle.org_base.specs.declared.profile.Profile.{Profile}
 use Rattle.org_agenda.specs.Days.{AgendaView}
 use Rattle.org_agenda.specs.Sources.{sources_of}
 use Rattle.org_agenda.specs.Lists.{Listing, list_rows}
+use Rattle.org_agenda.specs.declared.standpoint.Standpoint.{Standpoint}
 use Rattle.org_inherit.specs.Scope.{Scope}
 use Rattle.org_layout.specs.Days.{agenda_lines}
 use Rattle.std.specs.List.{concat}
-use Rattle.org_cal.specs.Periods.{days_of}
 use Rattle.org_cal.specs.Pieces.{pieces}
 use Rattle.org_cal.specs.declared.moment.Moment.{Moment}
-use Rattle.org_cal.specs.declared.period.Period.{Period}
 use Rattle.org_clocktable.specs.Request.{TableRequest}
 use Rattle.org_clocktable.specs.Counted.{Counted, counted_of}
 use Rattle.org_clocktable.specs.Table.{step_rows}
@@ -33,8 +32,8 @@ abbrev pub days_over : Profile → List Scope → ℕ → ℕ → ℕ → List �
 days_over p scopes today first count = agenda_lines scopes (record { profile = p; sources = sources_of 0 scopes; today = today; first = first; count = count })
 
 -- an agenda shows so many days from a first one on, over all stamps
-abbrev pub ShowsDays : Profile → List Scope → ℕ → ℕ → ℕ → AgendaView → Type 0
-ShowsDays p scopes today first count agenda = agenda_lines scopes agenda ≡ days_over p scopes today first count
+abbrev pub ShowsDays : Standpoint → List Scope → ℕ → ℕ → AgendaView → Type 0
+ShowsDays seen scopes first count agenda = agenda_lines scopes agenda ≡ days_over seen.profile scopes seen.today first count
 
 -- the text of an agenda at the world's moment and in its profile
 unfoldable pub agenda_view : ℕ → ℕ → WorldView → List ℕ
@@ -56,10 +55,6 @@ scopes_named file scopes = filter (λ (scope : Scope). is_wanted file scope.file
 -- the text of a step: its line, and those of its rows
 unfoldable pub step_text : TableRequest Expr → List Scope → List Counted → ℕ × ℕ → List ℕ
 step_text table scopes files days = step_lines table.with_effort scopes days (step_rows days table.most files)
-
--- the text of the step over a period
-abbrev pub step_over : TableRequest Expr → List Scope → List Counted → Period → List ℕ
-step_over table scopes files period = step_text table scopes files (days_of period)
 
 -- the text of steps
 abbrev pub steps_text : TableRequest Expr → List Scope → List Counted → List (ℕ × ℕ) → List ℕ

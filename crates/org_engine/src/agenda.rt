@@ -12,17 +12,17 @@ ghost use Rattle.org_engine.specs.Views.{agenda_view, days_over, ShowsDays};
 use crate::limits::MOST_DAYS;
 use crate::shows::{Shows, view_of};
 use crate::world::World;
-use org_agenda::{Agenda, AllStamps, Stamps, sources_of};
-use org_base::{Code, Fault, Meter, Profile};
+use org_agenda::{Agenda, AllStamps, Stamps, Standpoint, sources_of};
+use org_base::{Code, Fault, Meter};
 use org_cal::{Day, LAST_DAY};
 use org_inherit::Inherits;
 use org_layout::agenda_text;
 use org_text::Text;
 use std::alloc::Global;
 
-// The text of the agenda of so many days from a date on. `Date` exactly where the calendar has no such day, `Days` exactly
-// where it has and the days are none, more than [`MOST_DAYS`], or end past 9999-12-31, both before anything is looked at;
-// else want of memory is the only refusal. Sections are classified and read as for a list.
+// The text of the agenda of so many days from a date on. `Date` exactly where the calendar has no such day, `Days`
+// exactly where it has and the days are none, more than [`MOST_DAYS`], or end past 9999-12-31, both before anything is
+// looked at; else want of memory is the only refusal. Sections are classified and read as for a list.
 pub(crate) fn dated_text<T: Text>(
     alloc: Global,
     meter: &mut Meter,
@@ -59,11 +59,10 @@ fn read_days(date: &str, days: u64) -> Result<(Day, u32), Fault>
     Ok((first, count))
 }
 
-// So many days from a first one on, in a profile, and the one that is today.
+// So many days from a first one on, and how stamps are looked at.
 #[derive(Drop)]
 struct Days {
-    profile: Profile,
-    today: Day,
+    standpoint: Standpoint,
     first: Day,
     count: u32,
     ghost within: { (1 ≤ count) × (first + count ≤ LAST_DAY + 1) },
@@ -72,7 +71,7 @@ struct Days {
 impl Shows for Days {
     ghost named = { λ d. None };
 
-    ghost shown = { λ d scopes. days_over d.profile scopes d.today d.first d.count };
+    ghost shown = { λ d scopes. days_over d.standpoint.profile scopes d.standpoint.today d.first d.count };
 
     fn file(&self) -> Option<&[u8]> {
         None
@@ -99,9 +98,12 @@ fn days_text<T: Text>(
     ensures few { OnErr result (ReadsSome world.old world.new meter.old meter.new) }
     ensures memory { IsOkUnless result memory_fault }
 {
-    let view = Days {
+    let standpoint = Standpoint {
         profile: world.profile(),
         today: world.moment().day,
+    };
+    let view = Days {
+        standpoint,
         first,
         count,
     };
@@ -111,30 +113,19 @@ fn days_text<T: Text>(
 // The agenda of these days over all stamps.
 fn agenda_of(alloc: Global, inherits: &Inherits<'_>, days: &Days) -> Result<Agenda, Fault>
     requires heads { AllHaveHeads inherits.now }
-    ensures value { IfOk result (ShowsDays days.now.profile inherits.now days.now.today days.now.first days.now.count) }
+    ensures value { IfOk result (ShowsDays days.now.standpoint inherits.now days.now.first days.now.count) }
     ensures memory { IsOkUnless result memory_fault }
 {
-    let Days {
-        profile,
-        today,
-        first,
-        count,
-    } = *days;
+    let (first, count) = (days.first, days.count);
     let sources = sources_of(alloc, inherits)?;
     let stamps = AllStamps {
         sources: sources.as_slice(),
     };
     // The engine counts no examined stamps.
     let mut examined = Meter::new();
-    let near = stamps.near(
-        alloc,
-        &mut examined,
-        profile,
-        first,
-        last_of(first, count),
-        today,
-    )?;
-    Agenda::new(alloc, near, profile, today, first, count)
+    let last = last_of(first, count);
+    let near = stamps.near(alloc, &mut examined, &days.standpoint, first, last)?;
+    Agenda::new(alloc, near, &days.standpoint, first, count)
 }
 
 fn last_of(first: Day, count: u32) -> Day

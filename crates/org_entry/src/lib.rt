@@ -6,6 +6,7 @@
 
 mod alone;
 mod details;
+mod document;
 mod draft;
 mod entry;
 pub mod laws;
@@ -17,6 +18,7 @@ mod stamps;
 mod text;
 
 pub use details::Details;
+pub use document::Document;
 pub use entry::Entry;
 pub use read::read_entry;
 pub use text::EntryText;

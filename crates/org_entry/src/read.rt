@@ -11,6 +11,7 @@ ghost use Rattle.org_entry.specs.Draft.{is_quiet, has_close};
 ghost use Rattle.org_entry.specs.Entry.{entry_of};
 
 use crate::alone::{heading_alone, heading_entry};
+use crate::document::Document;
 use crate::draft::Draft;
 use crate::entry::Entry;
 use memchr::memchr2;
@@ -21,7 +22,7 @@ use org_settings::Settings;
 use org_text::Text;
 use std::alloc::Global;
 
-/// What a section says, of its lines, their classes and its file's settings (Org Syntax, "Headings and Sections"). It is
+/// What a section of a document says, whose lines are of these classes (Org Syntax, "Headings and Sections"). It is
 /// determined by the section's bytes and the settings, wherever the section stands. One pass over the lines, linear in
 /// the section; its last lines aren't read where they can say nothing. Want of memory is the only refusal; the meter
 /// counts one entry read then too.
@@ -29,18 +30,18 @@ use std::alloc::Global;
 pub fn read_entry<T: Text>(
     alloc: Global,
     meter: &mut Meter,
-    text: &T,
+    document: &Document<'_, T>,
     section: Span,
     classes: &[Class],
-    settings: &Settings,
 ) -> Result<Entry, Fault>
-    requires within { section.at + section.len ≤ length (T.content text.now) }
-    requires belongs { classes.now ≡ section_classes (bytes_in (T.content text.now) section) }
-    ensures value { Gives result (entry_of settings.now (bytes_in (T.content text.now) section)) }
+    requires within { section.at + section.len ≤ length (T.content document.now.text.now) }
+    requires belongs { classes.now ≡ section_classes (bytes_in (T.content document.now.text.now) section) }
+    ensures value { Gives result (entry_of document.now.settings.now (bytes_in (T.content document.now.text.now) section)) }
     ensures counts { meter.new ≡ ticked Read meter.old }
     ensures memory { IsOkUnless result memory_fault }
 {
     meter.tick(Tick::Read);
+    let Document { text, settings } = *document;
     match heading_alone(text, section, classes) {
         Some(line) => heading_entry(alloc, settings, line),
         None => entry_in(alloc, text, section, classes, settings),

@@ -14,6 +14,7 @@ ghost use Rattle.org_kept.specs.Renewed.{IsRenewed};
 
 use crate::change::Change;
 use crate::fresh::{all_pending, list_of};
+use crate::listed::Listed;
 use crate::outline::{FileOutline, outline_in, shared};
 use crate::quiet::leaves_lines;
 use crate::read::{all_read, read_in};
@@ -22,7 +23,7 @@ use crate::settings::{settings_of, shared_settings};
 use crate::touched::changed_list;
 use org_base::{Fault, Meter};
 use org_class::Settings;
-use org_entry::Entry;
+use org_entry::{Document, Entry};
 use org_outline::Outline;
 use org_sequence::Sequence;
 use org_text::Text;
@@ -175,8 +176,11 @@ impl<T: Text> File<T> {
         ensures counts { meter.new ≡ ticked Read meter.old }
         ensures memory { IsOkUnless result memory_fault }
     {
-        let settings = self.settings.as_ref();
-        read_in(alloc, meter, &self.text, &mut self.list, settings, place)?;
+        let document = Document {
+            text: &self.text,
+            settings: self.settings.as_ref(),
+        };
+        read_in(alloc, meter, &document, &mut self.list, place)?;
         Ok(())
     }
 
@@ -208,8 +212,11 @@ impl<T: Text> File<T> {
         ensures few { OnErr result (SomeRead (unread self.old.marks) meter.old meter.new) }
         ensures memory { IsOkUnless result memory_fault }
     {
-        let settings = self.settings.as_ref();
-        let list = all_read(alloc, meter, &self.text, &self.list, settings)?;
+        let document = Document {
+            text: &self.text,
+            settings: self.settings.as_ref(),
+        };
+        let list = all_read(alloc, meter, &document, &self.list)?;
         self.list = list;
         Ok(())
     }
@@ -228,8 +235,11 @@ impl<T: Text> File<T> {
         if let Some(file) = self.ready()? {
             return Ok(file);
         }
-        let settings = self.settings.as_ref();
-        let list = all_read(alloc, meter, &self.text, &self.list, settings)?;
+        let document = Document {
+            text: &self.text,
+            settings: self.settings.as_ref(),
+        };
+        let list = all_read(alloc, meter, &document, &self.list)?;
         self.keep(alloc, list)
     }
 
@@ -283,7 +293,11 @@ impl<T: Text> File<T> {
         ensures few { OnErr result (FewNewClassified self.old.text change.entry meter.old meter.new) }
         ensures memory { IsOkUnless result memory_fault }
     {
-        let list = changed_list(alloc, meter, &self.list, &self.text, &text, change)?;
+        let old = Listed {
+            text: &self.text,
+            list: &self.list,
+        };
+        let list = changed_list(alloc, meter, &old, &text, change)?;
         let renewed = self.renewed(alloc, &text, &list, change)?;
         let Some(settings) = renewed else {
             self.text = text;
@@ -316,7 +330,12 @@ impl<T: Text> File<T> {
         ensures value { IfOk result (IsRenewed self.now.text (T.content text.now)) }
         ensures memory { IsOkUnless result memory_fault }
     {
-        if leaves_lines(alloc, &self.list, &self.text, list, text, change)? {
+        let old = Listed {
+            text: &self.text,
+            list: &self.list,
+        };
+        let new = Listed { text, list };
+        if leaves_lines(alloc, &old, &new, change)? {
             return Ok(None);
         }
         let settings = settings_of(alloc, text, list)?;

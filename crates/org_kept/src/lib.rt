@@ -9,6 +9,7 @@ mod change;
 mod file;
 mod fresh;
 pub mod laws;
+mod listed;
 mod outline;
 mod quiet;
 mod read;

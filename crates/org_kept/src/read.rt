@@ -15,8 +15,7 @@ ghost use Rattle.org_kept.specs.Sections.{is_pending};
 use crate::section::Section;
 use crate::settings::span_at;
 use org_base::{Fault, Meter, Span};
-use org_class::Settings;
-use org_entry::read_entry;
+use org_entry::{Document, read_entry};
 use org_sequence::{Measured, Sequence};
 use org_text::Text;
 use std::alloc::Global;
@@ -24,90 +23,85 @@ use std::alloc::Global;
 // Where at most one section in so many is still to be read, they are read one by one; a pass over all costs more then.
 const ONE_IN: u32 = 16;
 
-// A section of a text, read once as the meter counts, where memory is refused too.
+// A section of a document, read once as the meter counts, where memory is refused too.
 fn read_one<T: Text>(
     alloc: Global,
     meter: &mut Meter,
-    text: &T,
+    document: &Document<'_, T>,
     span: Span,
     section: &Section,
-    settings: &Settings,
 ) -> Result<Section, Fault>
-    requires within { span.at + span.len ≤ length (T.content text.now) }
-    requires belongs { section.now.classes ≡ section_classes (bytes_in (T.content text.now) span) }
-    ensures value { Gives result (read_part settings.now (T.content text.now) span section.now) }
+    requires within { span.at + span.len ≤ length (T.content document.now.text.now) }
+    requires belongs { section.now.classes ≡ section_classes (bytes_in (T.content document.now.text.now) span) }
+    ensures value { Gives result (read_part document.now.settings.now (T.content document.now.text.now) span section.now) }
     ensures counts { meter.new ≡ ticked Read meter.old }
     ensures memory { IsOkUnless result memory_fault }
 {
-    let classes = section.classes();
-    let entry = read_entry(alloc, meter, text, span, classes, settings)?;
+    let entry = read_entry(alloc, meter, document, span, section.classes())?;
     Ok(section.read(alloc, entry)?)
 }
 
-// The section at a place of a text, read once as the meter counts, where memory is refused too.
+// The section at a place of a document, read once as the meter counts, where memory is refused too.
 fn read_at<T: Text>(
     alloc: Global,
     meter: &mut Meter,
-    text: &T,
+    document: &Document<'_, T>,
     list: &Sequence<Section>,
-    settings: &Settings,
     place: u32,
 ) -> Result<Section, Fault>
-    requires kept { AreOf (T.content text.now) list.now }
+    requires kept { AreOf (T.content document.now.text.now) list.now }
     requires within { place < length list.now }
-    ensures value { Gives result (read_section settings.now (section_of (T.content text.now) place)) }
+    ensures value { Gives result (read_section document.now.settings.now (section_of (T.content document.now.text.now) place)) }
     ensures counts { meter.new ≡ ticked Read meter.old }
     ensures memory { IsOkUnless result memory_fault }
 {
-    let span = span_at(text, list, place);
-    read_one(alloc, meter, text, span, list.get(place), settings)
+    let span = span_at(document.text, list, place);
+    read_one(alloc, meter, document, span, list.get(place))
 }
 
-// Reads the section at a place of a text once, as the meter counts. Want of memory is the only refusal, and leaves the list
-// as before; then it is counted too.
+// Reads the section at a place of a document once, as the meter counts. Want of memory is the only refusal, and leaves the
+// list as before; then it is counted too.
 pub(crate) fn read_in<T: Text>(
     alloc: Global,
     meter: &mut Meter,
-    text: &T,
+    document: &Document<'_, T>,
     list: &mut Sequence<Section>,
-    settings: &Settings,
     place: u32,
 ) -> Result<(), Fault>
-    requires kept { AreOf (T.content text.now) list.old }
+    requires kept { AreOf (T.content document.now.text.now) list.old }
     requires within { place < length list.old }
-    ensures ok { OnOk result (list.new ≡ with_read settings.now (T.content text.now) place list.old) }
+    ensures ok { OnOk result (list.new ≡ with_read document.now.settings.now (T.content document.now.text.now) place list.old) }
     ensures err { OnErr result (list.new ≡ list.old) }
     ensures counts { meter.new ≡ ticked Read meter.old }
     ensures memory { IsOkUnless result memory_fault }
 {
     // For the proof alone: its contract says that the text is not too long.
-    let _len = text.len();
-    let section = read_at(alloc, meter, text, list, settings, place)?;
+    let _len = document.text.len();
+    let section = read_at(alloc, meter, document, list, place)?;
     Ok(list.set(place, section)?)
 }
 
-// The sections of a text, all of them read: each that wasn't before is read once, as the meter counts. Want of memory is the
+// The sections of a document, all of them read: each that wasn't before is read once, as the meter counts. Want of memory is the
 // only refusal; then some of them may have been counted.
 pub(crate) fn all_read<T: Text>(
     alloc: Global,
     meter: &mut Meter,
-    text: &T,
+    document: &Document<'_, T>,
     list: &Sequence<Section>,
-    settings: &Settings,
 ) -> Result<Sequence<Section>, Fault>
-    requires kept { AreOf (T.content text.now) list.now }
-    requires says { AllSay settings.now (T.content text.now) list.now }
-    ensures value { Gives result (read_sections settings.now (T.content text.now)) }
+    requires kept { AreOf (T.content document.now.text.now) list.now }
+    requires says { AllSay document.now.settings.now (T.content document.now.text.now) list.now }
+    ensures value { Gives result (read_sections document.now.settings.now (T.content document.now.text.now)) }
     ensures counts { OnOk result (meter.new ≡ have_read (count_by is_pending list.now) meter.old) }
     ensures few { OnErr result (SomeRead (count_by is_pending list.now) meter.old meter.new) }
     ensures memory { IsOkUnless result memory_fault }
 {
     if list.marks() <= list.len() / ONE_IN {
-        return read_singly(alloc, meter, text, list, settings);
+        return read_singly(alloc, meter, document, list);
     }
     // For the proof alone: its contract says that the text is not too long.
-    let _len = text.len();
-    let read = read_in_order(alloc, meter, text, list, settings)?;
+    let _len = document.text.len();
+    let read = read_in_order(alloc, meter, document, list)?;
     Ok(Sequence::of(alloc, read.as_slice())?)
 }
 
@@ -115,13 +109,12 @@ pub(crate) fn all_read<T: Text>(
 fn read_singly<T: Text>(
     alloc: Global,
     meter: &mut Meter,
-    text: &T,
+    document: &Document<'_, T>,
     list: &Sequence<Section>,
-    settings: &Settings,
 ) -> Result<Sequence<Section>, Fault>
-    requires kept { AreOf (T.content text.now) list.now }
-    requires says { AllSay settings.now (T.content text.now) list.now }
-    ensures value { Gives result (read_sections settings.now (T.content text.now)) }
+    requires kept { AreOf (T.content document.now.text.now) list.now }
+    requires says { AllSay document.now.settings.now (T.content document.now.text.now) list.now }
+    ensures value { Gives result (read_sections document.now.settings.now (T.content document.now.text.now)) }
     ensures counts { OnOk result (meter.new ≡ have_read (count_by is_pending list.now) meter.old) }
     ensures few { OnErr result (SomeRead (count_by is_pending list.now) meter.old meter.new) }
     ensures memory { IsOkUnless result memory_fault }
@@ -131,7 +124,7 @@ fn read_singly<T: Text>(
         let Some(place) = read.first_marked(0) else {
             return Ok(read);
         };
-        read_in(alloc, meter, text, &mut read, settings, place)?;
+        read_in(alloc, meter, document, &mut read, place)?;
     }
 }
 
@@ -139,19 +132,18 @@ fn read_singly<T: Text>(
 fn read_in_order<T: Text>(
     alloc: Global,
     meter: &mut Meter,
-    text: &T,
+    document: &Document<'_, T>,
     list: &Sequence<Section>,
-    settings: &Settings,
 ) -> Result<Vec<Section>, Fault>
-    requires kept { AreOf (T.content text.now) list.now }
-    requires says { AllSay settings.now (T.content text.now) list.now }
-    ensures value { GivesItems result (read_sections settings.now (T.content text.now)) }
+    requires kept { AreOf (T.content document.now.text.now) list.now }
+    requires says { AllSay document.now.settings.now (T.content document.now.text.now) list.now }
+    ensures value { GivesItems result (read_sections document.now.settings.now (T.content document.now.text.now)) }
     ensures counts { OnOk result (meter.new ≡ have_read (count_by is_pending list.now) meter.old) }
     ensures few { OnErr result (SomeRead (count_by is_pending list.now) meter.old meter.new) }
     ensures memory { IsOkUnless result memory_fault }
 {
     // For the proof alone: its contract says that the text is not too long.
-    let _len = text.len();
+    let _len = document.text.len();
     let mut all = Vec::with_capacity(alloc, list.len() as usize)?;
     let mut at = 0;
     for section in list {
@@ -159,7 +151,7 @@ fn read_in_order<T: Text>(
             at,
             len: section.len(),
         };
-        let read = read_or_shared(alloc, meter, text, span, section, settings)?;
+        let read = read_or_shared(alloc, meter, document, span, section)?;
         all.push(read)?;
         at += span.len;
     }
@@ -170,21 +162,20 @@ fn read_in_order<T: Text>(
 fn read_or_shared<T: Text>(
     alloc: Global,
     meter: &mut Meter,
-    text: &T,
+    document: &Document<'_, T>,
     span: Span,
     section: &Section,
-    settings: &Settings,
 ) -> Result<Section, Fault>
-    requires within { span.at + span.len ≤ length (T.content text.now) }
-    requires len { section.now.len ≡ length (bytes_in (T.content text.now) span) }
-    requires belongs { section.now.classes ≡ section_classes (bytes_in (T.content text.now) span) }
-    requires says { Says settings.now (bytes_in (T.content text.now) span) section.now }
-    ensures value { Gives result (read_section settings.now (bytes_in (T.content text.now) span)) }
+    requires within { span.at + span.len ≤ length (T.content document.now.text.now) }
+    requires len { section.now.len ≡ length (bytes_in (T.content document.now.text.now) span) }
+    requires belongs { section.now.classes ≡ section_classes (bytes_in (T.content document.now.text.now) span) }
+    requires says { Says document.now.settings.now (bytes_in (T.content document.now.text.now) span) section.now }
+    ensures value { Gives result (read_section document.now.settings.now (bytes_in (T.content document.now.text.now) span)) }
     ensures counts { meter.new ≡ have_read (pending_one section.now) meter.old }
     ensures memory { IsOkUnless result memory_fault }
 {
     if section.entry().is_some() {
         return Ok(section.share()?);
     }
-    read_one(alloc, meter, text, span, section, settings)
+    read_one(alloc, meter, document, span, section)
 }

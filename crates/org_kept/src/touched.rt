@@ -11,6 +11,7 @@ ghost use Rattle.org_kept.specs.Sections.{section_len};
 
 use crate::change::Change;
 use crate::fresh::classified;
+use crate::listed::Listed;
 use crate::section::Section;
 use org_base::{Fault, Meter, Span};
 use org_class::has_heading_at;
@@ -70,29 +71,24 @@ pub(crate) struct Stretch {
 }
 
 // What a change of a text touches; the sections of the new text's part stand in the place of the touched ones.
-pub(crate) fn touched<T: Text>(
-    list: &Sequence<Section>,
-    old: &T,
-    new: &T,
-    change: Change<'_>,
-) -> Stretch
-    requires kept { AreOf (T.content old.now) list.now }
-    requires within { LiesIn (T.content old.now) change }
-    requires changed { T.content new.now ≡ edited (T.content old.now) change }
-    ensures first { result.first ≡ first_edited (T.content old.now) change.entry }
-    ensures end { result.end ≡ edited_end (T.content old.now) change.entry }
+pub(crate) fn touched<T: Text>(old: &Listed<'_, T>, new: &T, change: Change<'_>) -> Stretch
+    requires kept { AreOf (T.content old.now.text.now) old.now.list.now }
+    requires within { LiesIn (T.content old.now.text.now) change }
+    requires changed { T.content new.now ≡ edited (T.content old.now.text.now) change }
+    ensures first { result.first ≡ first_edited (T.content old.now.text.now) change.entry }
+    ensures end { result.end ≡ edited_end (T.content old.now.text.now) change.entry }
     ensures order { result.first ≤ result.end }
-    ensures last { result.end ≤ length list.now }
+    ensures last { result.end ≤ length old.now.list.now }
     ensures inside { result.part.at + result.part.len ≤ length (T.content new.now) }
-    ensures part { AreEdited (T.content old.now) change.entry (T.content new.now) result.part }
+    ensures part { AreEdited (T.content old.now.text.now) change.entry (T.content new.now) result.part }
 {
     // For the proof alone: their contracts say that the texts are not too long.
-    let _old = old.len();
+    let _old = old.text.len();
     let _new = new.len();
-    let first = first_touched(list, new, change.at);
-    let end = begun_by(list, change.at + change.del);
-    let from = list.size_before(first);
-    let stop = list.size_before(end);
+    let first = first_touched(old.list, new, change.at);
+    let end = begun_by(old.list, change.at + change.del);
+    let from = old.list.size_before(first);
+    let stop = old.list.size_before(end);
     let to = stop - change.del + change.ins.len() as u32;
     Stretch {
         first,
@@ -109,25 +105,24 @@ pub(crate) fn touched<T: Text>(
 pub(crate) fn changed_list<T: Text>(
     alloc: Global,
     meter: &mut Meter,
-    list: &Sequence<Section>,
-    old: &T,
+    old: &Listed<'_, T>,
     new: &T,
     change: Change<'_>,
 ) -> Result<Sequence<Section>, Fault>
-    requires kept { AreOf (T.content old.now) list.now }
-    requires within { LiesIn (T.content old.now) change }
-    requires changed { T.content new.now ≡ edited (T.content old.now) change }
-    ensures value { Gives result (edited_list list.now (T.content old.now) change.entry) }
-    ensures counts { OnOk result (NewClassified (T.content old.now) change.entry meter.old meter.new) }
-    ensures few { OnErr result (FewNewClassified (T.content old.now) change.entry meter.old meter.new) }
+    requires kept { AreOf (T.content old.now.text.now) old.now.list.now }
+    requires within { LiesIn (T.content old.now.text.now) change }
+    requires changed { T.content new.now ≡ edited (T.content old.now.text.now) change }
+    ensures value { Gives result (edited_list old.now.list.now (T.content old.now.text.now) change.entry) }
+    ensures counts { OnOk result (NewClassified (T.content old.now.text.now) change.entry meter.old meter.new) }
+    ensures few { OnErr result (FewNewClassified (T.content old.now.text.now) change.entry meter.old meter.new) }
     ensures memory { IsOkUnless result memory_fault }
 {
     // For the proof alone: their contracts say that the texts are not too long.
-    let _old = old.len();
+    let _old = old.text.len();
     let _new = new.len();
-    let touched = touched(list, old, new, change);
+    let touched = touched(old, new, change);
     let fresh = classified(alloc, meter, new, touched.part)?;
-    let mut list = list.share()?;
+    let mut list = old.list.share()?;
     list.replace(touched.first, touched.end, fresh.as_slice())?;
     Ok(list)
 }

@@ -1,14 +1,13 @@
 -- The whole line of a heading, and sums as they are spelled.
-use Rattle.std.proofs.Common.{◌≡◌, ◌∙◌, ◌<◌, ◌≤◌, ◌+◌, ◌-◌, ◌*◌, ◌/◌, ◌%◌, ℕ, List, ◌++◌, ap, ap₂, arith, chars, inl, inr, refl, sym}
+use Rattle.std.proofs.Common.{◌≡◌, ◌≤◌, ◌+◌, ◌-◌, ◌*◌, ◌/◌, ◌%◌, ℕ, List, ◌++◌, ap, ap₂, arith, chars, inl, inr}
 use Rattle.std.specs.Prelude.{◌⊎◌, codes, decimal, false, max, replicate}
 use Rattle.std.proofs.Math.Nat.{div-eq_of_lt-le}
 use Rattle.std.proofs.lemmas.Bool.{cases_lt}
 use Rattle.org_cal.specs.Texts.{two}
 use Rattle.org_inherit.specs.Category.{category}
-use Rattle.org_inherit.specs.Tags.{all_tags}
 use Rattle.org_layout.specs.Columns.{padded, shown}
-use Rattle.org_layout.specs.Laws.{AreFilling, IsLineOf, LinesAreWhole, SumsAreSpelled}
-use Rattle.org_layout.specs.Lines.{category_column, entry_line, entry_text}
+use Rattle.org_layout.specs.Laws.{LinesAreWhole, SumsAreSpelled}
+use Rattle.org_layout.specs.Lines.{category_column}
 use Rattle.org_layout.proofs.TextLemmas.{lines_show_all}
 use Rattle.unicode_width.specs.Width.{str_width}
 

@@ -1,10 +1,9 @@
 //! Whether an expression holds of a heading.
-ghost use Rattle.std.specs.Prelude.{◌≡◌, ◌&&◌, true, IfOk, IsOkUnless, map};
+ghost use Rattle.std.specs.Prelude.{◌≡◌, true, IfOk, IsOkUnless, map};
 ghost use Rattle.org_base.specs.Codes.{memory_fault};
 ghost use Rattle.org_base.specs.Results.{Gives, GivesItems};
-ghost use Rattle.std.specs.List.{list_any};
-ghost use Rattle.org_match.specs.Facts.{holds_by, is_open_by, tag_item_holds_by, tag_items_hold_by, todo_items_hold_by};
-ghost use Rattle.org_match.specs.Verdicts.{ask_tags, meets, tag_verdicts, verdicts_with};
+ghost use Rattle.org_match.specs.Facts.{holds_by, is_open_by, tag_items_hold_by, todo_items_hold_by};
+ghost use Rattle.org_match.specs.Verdicts.{ask_tags, tag_verdicts, verdicts_with};
 ghost use Rattle.org_match.specs.Holds.{tag_items, todo_term_holds};
 ghost use Rattle.org_match.specs.Built.{built_item_of, built_term_of};
 
@@ -216,29 +215,9 @@ fn tags_hold<F: Facts>(
             }
             all = true;
         }
-        all = holds_too(alloc, facts, verdicts[place], moment, all, item)?;
+        all = all && item.holds(alloc, facts, verdicts[place], *moment)?;
     }
     Ok(all)
-}
-
-// Whether the terms before one hold, and it too. Where they don't, it isn't looked at.
-fn holds_too<F: Facts>(
-    alloc: Global,
-    facts: &F,
-    is_met: bool,
-    moment: &Moment,
-    all: bool,
-    item: &mut ItemMatcher<'_>,
-) -> Result<bool, Fault>
-    requires met { is_met ≡ list_any (meets item.old) (F.tags facts.now) }
-    ensures value { Gives result (all && tag_item_holds_by F.Facts facts.now moment.now item.old) }
-    ensures memory { IsOkUnless result memory_fault }
-    ensures unchanged { item.new ≡ item.old }
-{
-    if !all {
-        return Ok(false);
-    }
-    item.holds(alloc, facts, is_met, *moment)
 }
 
 // Whether a heading has a keyword that isn't done.

@@ -3,7 +3,7 @@
 use org_base::{Bytes, Code, Fault, Meter, Span, Texts};
 use org_cal::Moment;
 use org_class::{classify, read_settings};
-use org_entry::{Entry, read_entry};
+use org_entry::{Document, Entry, read_entry};
 use org_inherit::{Inherit, Inherits};
 use org_kept::{File, FileOutline};
 use org_match::{Facts, Match};
@@ -24,13 +24,16 @@ fn entry_of<T: Text>(alloc: Global, text: &T) -> Result<Entry, Fault> {
         len: text.len() as u32,
     };
     let classes = classify(alloc, &mut Meter::new(), text, span)?;
+    let document = Document {
+        text,
+        settings: &settings,
+    };
     read_entry(
         alloc,
         &mut Meter::new(),
-        text,
+        &document,
         span,
         classes.as_slice(),
-        &settings,
     )
 }
 

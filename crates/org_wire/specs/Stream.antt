@@ -231,6 +231,14 @@ abbrev pub pinned_line : Option (ℕ × List ℕ) → Line
 pinned_line None = Bad
 pinned_line (Some session) = view_line (Some session.0) session.1
 
+-- a line of a profile or a pin, cut behind its first word; any other asks the current world for a view
+abbrev pub others_line : List ℕ → lines.Cut → Line
+others_line line cut = if bytes_eq cut.before (codes "profile") then profile_line cut.after
+    else if bytes_eq cut.before (codes "pin") then pin_line (number_of cut.after)
+    else if bytes_eq cut.before (codes "unpin") then unpin_line (number_of cut.after)
+    else if bytes_eq cut.before (codes "pinned") then pinned_line (first_number (cut_at 32 cut.after))
+    else view_line None line
+
 -- a line of several words, cut behind its first; without one the current world is asked for a view
 abbrev pub words_line : List ℕ → Option lines.Cut → Line
 words_line line None = view_line None line
@@ -241,11 +249,7 @@ words_line line (Some cut) = if bytes_eq cut.before (codes "edit") then edit_lin
     else if bytes_eq cut.before (codes "inherit") then inherit_line cut.after
     else if bytes_eq cut.before (codes "at") then at_line (cut_at 32 cut.after)
     else if bytes_eq cut.before (codes "add") then add_line (cut_at 32 cut.after)
-    else if bytes_eq cut.before (codes "profile") then profile_line cut.after
-    else if bytes_eq cut.before (codes "pin") then pin_line (number_of cut.after)
-    else if bytes_eq cut.before (codes "unpin") then unpin_line (number_of cut.after)
-    else if bytes_eq cut.before (codes "pinned") then pinned_line (first_number (cut_at 32 cut.after))
-    else view_line None line
+    else others_line line cut
 
 -- what a line says
 unfoldable pub line_of : List ℕ → Line
@@ -284,9 +288,27 @@ abbrev pub reading_of : List ℕ → Reading
 reading_of [] = record { next = Ended; rest = [] }
 reading_of (b ∷ bytes) = after_cut (cut_at 10 (b ∷ bytes))
 
--- where want of memory may be answered instead: a whole command, and not a bad line or a frame's own checks
+-- a command that may take memory: all but those of another moment, of a profile, and of letting go of a world
+abbrev pub MayTakeMemory : Command → Type 0
+MayTakeMemory (At moment) = ⊥
+MayTakeMemory (Profile profile) = ⊥
+MayTakeMemory (Unpin session) = ⊥
+MayTakeMemory (Add name text) = Unit {0}
+MayTakeMemory (Drop name) = Unit {0}
+MayTakeMemory (Edit seen at del ins) = Unit {0}
+MayTakeMemory (Complete seen line keyword) = Unit {0}
+MayTakeMemory (Inherit names) = Unit {0}
+MayTakeMemory (Pin session) = Unit {0}
+MayTakeMemory (Text name) = Unit {0}
+MayTakeMemory (Todo session file words) = Unit {0}
+MayTakeMemory (Match session file text) = Unit {0}
+MayTakeMemory (Agenda session date days) = Unit {0}
+MayTakeMemory (Clock session text) = Unit {0}
+
+-- where want of memory may be answered instead: a whole command that may take memory, and not a bad line or a frame's own
+-- checks
 abbrev pub IsReplaceable : Next → Type 0
-IsReplaceable (Given command) = Unit {0}
+IsReplaceable (Given command) = MayTakeMemory command
 IsReplaceable (Refused fault) = ⊥
 IsReplaceable (Last fault) = ⊥
 IsReplaceable Ended = ⊥

@@ -12,6 +12,7 @@ use Rattle.org_engine.specs.declared.question.View.{View}
 use Rattle.org_wire.specs.Devices.{AppendsTo}
 use Rattle.org_wire.specs.Replies.{fault_bytes}
 use Rattle.org_wire.specs.Run.{AnswersSo, Runs, out_of_memory, shown, written}
+use Rattle.org_wire.specs.Stream.{MayTakeMemory}
 use Rattle.org_wire.specs.declared.command.Command.{Command}
 use Rattle.org_wire.specs.declared.command.Command.TheVariants.{Add, Agenda, At, Clock, Complete, Drop, Edit, Inherit, Match, Pin, Profile, Text, Todo, Unpin}
 use Rattle.org_wire.specs.declared.command.Next.{Next}
@@ -33,7 +34,7 @@ pub record IsSoFar (bytes : List ℕ) (old new : State) (had has now : Option (L
 -- the answer to a command, or want of memory with nothing changed
 pub record IsServed (command : Command) (old : State) (answer : Reply) (new : State) : Type 0 where
   pub done : (answer ≡ out_of_memory → ⊥) → AnswersSo (Given command) old answer new
-  pub memory : answer ≡ out_of_memory → new ≡ old
+  pub memory : answer ≡ out_of_memory → (new ≡ old) × MayTakeMemory command
 
 -- the same of an engine
 abbrev pub Serves : Command → EngineView → Reply → EngineView → Type 0

@@ -2,15 +2,14 @@
 ghost use Rattle.std.specs.Prelude.{◌≡◌, ◌<◌, ◌≤◌, [], ◌∷◌, ◌++◌, true, IfOk, IfErr, OnOk, Err, nat_le, IsOkUnless, length};
 ghost use Rattle.org_base.specs.Codes.{memory_fault};
 
-use crate::command::{Command, Frame, Next, framed};
+use crate::command::{Frame, Next, framed};
 use crate::counted::Counted;
-use crate::frames::{add_frame, complete_command, edit_frame, match_command, todo_command};
+use crate::frames::{add_frame, command_of, edit_frame};
 use crate::line::LineBuffer;
-use crate::line_text::LineText;
-use crate::names::words_in;
-use crate::parse::{Parsed, parse_line};
+use crate::parse::parse_line;
+use crate::parsed::Parsed;
 use crate::room::{MOST_ROOM, Room};
-use org_base::{Bytes, Code, Fault, Name};
+use org_base::{Bytes, Code, Fault};
 use org_text::MAX_BYTES;
 use std::alloc::Global;
 use std::io::Read;
@@ -260,6 +259,11 @@ impl<'a, R: Read> Input<'a, R> {
     {
         match parse_line(self.line.as_slice()) {
             Parsed::Bad => Next::Refused(Fault::Plain(Code::Command)),
+            Parsed::Ready(command) => Next::Given(command),
+            Parsed::Worded(words) => match command_of(self.alloc, words) {
+                Ok(command) => Next::Given(command),
+                Err(_) => Next::Refused(Fault::Plain(Code::Memory)),
+            },
             Parsed::Add(name, size) => {
                 let frame = add_frame(self.alloc, name);
                 self.read_frame(frame, size)
@@ -268,48 +272,6 @@ impl<'a, R: Read> Input<'a, R> {
                 let frame = edit_frame(self.alloc, seen, at, del);
                 self.read_frame(frame, size)
             }
-            Parsed::Drop(name) => match Name::new(self.alloc, name) {
-                Ok(name) => Next::Given(Command::Drop(name)),
-                Err(_) => Next::Refused(Fault::Plain(Code::Memory)),
-            },
-            Parsed::Complete(seen, line, keyword) => {
-                match complete_command(self.alloc, seen, line, keyword) {
-                    Ok(command) => Next::Given(command),
-                    Err(_) => Next::Refused(Fault::Plain(Code::Memory)),
-                }
-            }
-            Parsed::Inherit(words) => match words_in(self.alloc, b' ', words) {
-                Ok(names) => Next::Given(Command::Inherit(names)),
-                Err(_) => Next::Refused(Fault::Plain(Code::Memory)),
-            },
-            Parsed::At(moment) => Next::Given(Command::At(moment)),
-            Parsed::Profile(profile) => Next::Given(Command::Profile(profile)),
-            Parsed::Pin(session) => Next::Given(Command::Pin(session)),
-            Parsed::Unpin(session) => Next::Given(Command::Unpin(session)),
-            Parsed::Text(name) => match Name::new(self.alloc, name) {
-                Ok(name) => Next::Given(Command::Text(name)),
-                Err(_) => Next::Refused(Fault::Plain(Code::Memory)),
-            },
-            Parsed::Todo(session, file, words) => {
-                match todo_command(self.alloc, session, file, words) {
-                    Ok(command) => Next::Given(command),
-                    Err(_) => Next::Refused(Fault::Plain(Code::Memory)),
-                }
-            }
-            Parsed::Match(session, file, text) => {
-                match match_command(self.alloc, session, file, text) {
-                    Ok(command) => Next::Given(command),
-                    Err(_) => Next::Refused(Fault::Plain(Code::Memory)),
-                }
-            }
-            Parsed::Clock(session, text) => match LineText::new(self.alloc, text) {
-                Ok(text) => Next::Given(Command::Clock(session, text)),
-                Err(_) => Next::Refused(Fault::Plain(Code::Memory)),
-            },
-            Parsed::Agenda(session, date, days) => match Name::new(self.alloc, date) {
-                Ok(date) => Next::Given(Command::Agenda(session, date, days)),
-                Err(_) => Next::Refused(Fault::Plain(Code::Memory)),
-            },
         }
     }
 }

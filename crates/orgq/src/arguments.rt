@@ -37,6 +37,7 @@ pub fn command<'a>(alloc: Global) -> Result<Command<'a>, AllocError> {
         "A file or folder, as -f; with a slash or .org in its name",
     );
     let command = Command::new(alloc, "orgq")
+        .subcommand_precedence_over_arg(true)
         .about(
             "Agendas, lists and clock tables of your Org files; without a command today's agenda",
         )

@@ -6,8 +6,8 @@ use Rattle.org_clocktable.proofs.rows.headings_up.Given as goal
 
 abbrev pub invariant-loop-place : goal.invariant-loop-place
 invariant-loop-place l = record {
-  rows : reverse l.rows.items ≡ rows_from l.marks.days l.most l.at l.file l.below (drop l.below l.file.entries);
-  stop : IsHeadingOrEnd l.file.entries l.below;
+  rows : reverse l.rows.items ≡ rows_from l.marks.days l.most l.file.place l.file.counted.now l.below (drop l.below l.file.counted.now.entries);
+  stop : IsHeadingOrEnd l.file.counted.now.entries l.below;
 }
 
 abbrev pub decreases-loop-place : goal.decreases-loop-place

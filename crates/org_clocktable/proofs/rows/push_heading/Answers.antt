@@ -13,17 +13,17 @@ use Rattle.org_clocktable.proofs.rows.push_heading.Goals as goal
 pub overflow_sub-clock : goal.overflow_sub-clock
 overflow_sub-clock c =
     let days = c.args.marks.now.days in
-    let file = c.args.file.now in
+    let file = c.args.file.now.counted.now in
     let place = c.args.place in
     let end = get_or c.ends.result.now place 0 in
     let is : end ≡ end_of (levels file.entries) place = table_at _ _ _ place 0 c.ends.ensures.value (omega (arith, levels_length file.entries, c.requires.within)) in
     omega (arith, c.before-2.ensures ∙ c.requires.marks end, c.before-3.ensures ∙ c.requires.marks place, (sum_of days file place end c.requires.within is).0)
 
 pub offset_bounds-ends-place : goal.offset_bounds-ends-place
-offset_bounds-ends-place c = omega (arith, table_length _ _ _ c.ends.ensures.value, levels_length c.args.file.now.entries, c.requires.within, c.ends.type_inv.1)
+offset_bounds-ends-place c = omega (arith, table_length _ _ _ c.ends.ensures.value, levels_length c.args.file.now.counted.now.entries, c.requires.within, c.ends.type_inv.1)
 
 pub bounds-ends-place : goal.bounds-ends-place
-bounds-ends-place c = omega (arith, table_length _ _ _ c.ends.ensures.value, levels_length c.args.file.now.entries, c.requires.within)
+bounds-ends-place c = omega (arith, table_length _ _ _ c.ends.ensures.value, levels_length c.args.file.now.counted.now.entries, c.requires.within)
 
 pub offset_bounds-efforts-place : goal.offset_bounds-efforts-place
 offset_bounds-efforts-place c = omega (arith, table_length _ _ _ c.efforts.ensures.value, c.requires.within, c.efforts.type_inv.1)
@@ -35,8 +35,8 @@ pub returns : goal.returns
 returns c =
     let days = c.args.marks.now.days in
     let most = c.args.most in
-    let at = c.args.at in
-    let file = c.args.file.now in
+    let at = c.args.file.now.place in
+    let file = c.args.file.now.counted.now in
     let place = c.args.place in
     let end = get_or c.ends.result.now place 0 in
     let entry = c.entry.result.now in

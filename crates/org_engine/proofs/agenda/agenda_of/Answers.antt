@@ -5,5 +5,5 @@ use Rattle.org_engine.proofs.agenda.agenda_of.Goals as goal
 
 pub returns-clause-value : goal.returns-clause-value
 returns-clause-value c =
-    IfOk-weaker c.new.result _ _ (λ agenda is. same_days c.args.days.now.profile c.args.inherits.now c.in_ok-near.near.items c.as_slice.result.now c.args.days.now.today c.args.days.now.first c.args.days.now.count c.last_of.result
-    (c.as_slice.ensures.value ∙ c.in_ok-sources.ensures.value) c.last_of.ensures.value c.in_ok-near.ensures.rows agenda is) c.new.ensures.value
+    IfOk-weaker c.new.result _ _ (λ agenda is. same_days c.args.days.now.standpoint.profile c.args.inherits.now c.in_ok-near.near.items c.as_slice.result.now c.args.days.now.standpoint.today c.args.days.now.first c.args.days.now.count c.last_of-last.result
+    (c.as_slice.ensures.value ∙ c.in_ok-sources.ensures.value) c.last_of-last.ensures.value c.in_ok-near.ensures.rows agenda is) c.new.ensures.value

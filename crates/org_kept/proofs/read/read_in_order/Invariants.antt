@@ -11,7 +11,7 @@ use Rattle.org_kept.proofs.read.read_in_order.Given as goal
 abbrev pub invariant-loop-section : goal.invariant-loop-section
 invariant-loop-section g l = record {
   left : l.section-iterator ≡ drop (length l.all.items) l.list;
-  so_far : l.all.items ≡ take (length l.all.items) (map (read_section l.settings) (sections (g.T.Text.content l.text)));
-  place : l.at ≡ start_of (sections (g.T.Text.content l.text)) (length l.all.items);
+  so_far : l.all.items ≡ take (length l.all.items) (map (read_section l.document.settings.now) (sections (g.T.Text.content l.document.text.now)));
+  place : l.at ≡ start_of (sections (g.T.Text.content l.document.text.now)) (length l.all.items);
   counts : l.meter ≡ have_read (count_by is_pending (take (length l.all.items) l.list)) l.fn.meter;
 }

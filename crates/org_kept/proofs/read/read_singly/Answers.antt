@@ -12,7 +12,7 @@ pub returns-in_default-clause-value : goal.returns-in_default-clause-value
 returns-in_default-clause-value g c =
     let read = c.loop-place.read in
     let none = first_is_none is_pending read 0 c.first_marked.result c.first_marked.ensures.value c.in_default.not-Some in
-    all_are_read (g.T.Text.content c.args.text.now) c.args.settings.now read c.loop-place.invariant.kept c.loop-place.invariant.says none
+    all_are_read (g.T.Text.content c.args.document.now.text.now) c.args.document.now.settings.now read c.loop-place.invariant.kept c.loop-place.invariant.says none
 
 pub returns-in_default-clause-counts : goal.returns-in_default-clause-counts
 returns-in_default-clause-counts g c =
@@ -22,13 +22,13 @@ returns-in_default-clause-counts g c =
 
 pub returns-in_err-read_in-clause-few : goal.returns-in_err-read_in-clause-few
 returns-in_err-read_in-clause-few g c =
-    let t = g.T.Text.content c.args.text.now in
-    some_more t c.args.settings.now c.args.list.now c.loop-place.read c.args.meter.now c.loop-place.meter c.in-Some.place c.loop-place.invariant.few c.loop-place.invariant.counts c.in-Some.ensures.value c.from_residual-in_err-read_in.result c.read_in.new.meter c.read_in.ensures.counts
+    let t = g.T.Text.content c.args.document.now.text.now in
+    some_more t c.args.document.now.settings.now c.args.list.now c.loop-place.read c.args.meter.now c.loop-place.meter c.in-Some.place c.loop-place.invariant.few c.loop-place.invariant.counts c.in-Some.ensures.value c.from_residual-in_err-read_in.result c.read_in.new.meter c.read_in.ensures.counts
 
 pub loop-place-preserved : goal.loop-place-preserved
 loop-place-preserved g c =
-    let t = g.T.Text.content c.args.text.now in
-    let settings = c.args.settings.now in
+    let t = g.T.Text.content c.args.document.now.text.now in
+    let settings = c.args.document.now.settings.now in
     let list = c.args.list.now in
     let read = c.loop-place.read in
     let place = c.in-Some.place in
@@ -45,8 +45,8 @@ loop-place-preserved g c =
 
 pub loop-place-smaller : goal.loop-place-smaller
 loop-place-smaller g c =
-    let t = g.T.Text.content c.args.text.now in
-    let settings = c.args.settings.now in
+    let t = g.T.Text.content c.args.document.now.text.now in
+    let settings = c.args.document.now.settings.now in
     let read = c.loop-place.read in
     let place = c.in-Some.place in
     let is : c.read_in.new.list ≡ with_read settings t place read = c.in_ok-read_in.ensures.ok in

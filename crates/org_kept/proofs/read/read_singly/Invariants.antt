@@ -8,8 +8,8 @@ use Rattle.org_kept.proofs.read.read_singly.Given as goal
 
 abbrev pub invariant-loop-place : goal.invariant-loop-place
 invariant-loop-place g l = record {
-  kept : AreOf (g.T.Text.content l.text) l.read;
-  says : AllSay l.settings (g.T.Text.content l.text) l.read;
+  kept : AreOf (g.T.Text.content l.document.text.now) l.read;
+  says : AllSay l.document.settings.now (g.T.Text.content l.document.text.now) l.read;
   few : count_by is_pending l.read ≤ count_by is_pending l.list;
   counts : HaveRead l.list l.read l.fn.meter l.meter;
 }

@@ -8,43 +8,43 @@ use Rattle.org_kept.proofs.touched.touched.Goals as goal
 
 pub first_touched-first-requires-clause-within : goal.first_touched-first-requires-clause-within
 first_touched-first-requires-clause-within g c =
-    let t = g.T.Text.content c.args.old.now in
+    let t = g.T.Text.content c.args.old.now.text.now in
     let ins = c.args.change.ins.now in
-    let list = c.args.list.now in
+    let list = c.args.old.now.list.now in
     let h = fits t ins list c.args.change.at c.args.change.del c.requires.kept c.requires.within (omega (arith, c.len-old.ensures.small)) in
     omega (arith, h.size, c.requires.within)
 
 pub begun_by-end-requires : goal.begun_by-end-requires
 begun_by-end-requires g c =
-    let t = g.T.Text.content c.args.old.now in
+    let t = g.T.Text.content c.args.old.now.text.now in
     let ins = c.args.change.ins.now in
-    let list = c.args.list.now in
+    let list = c.args.old.now.list.now in
     let h = fits t ins list c.args.change.at c.args.change.del c.requires.kept c.requires.within (omega (arith, c.len-old.ensures.small)) in
     record { within = omega (arith, h.size, c.requires.within) }
 
 pub size_before-from-requires : goal.size_before-from-requires
 size_before-from-requires g c =
-    let t = g.T.Text.content c.args.old.now in
+    let t = g.T.Text.content c.args.old.now.text.now in
     let ins = c.args.change.ins.now in
-    let list = c.args.list.now in
+    let list = c.args.old.now.list.now in
     let h = fits t ins list c.args.change.at c.args.change.del c.requires.kept c.requires.within (omega (arith, c.len-old.ensures.small)) in
     let first = c.first_touched-first.ensures.value ∙ (ap (λ xs. first_touched_by (map section_len list) xs c.args.change.at) c.requires.changed ∙ h.first) in
     omega (arith, first, h.first_within)
 
 pub size_before-stop-requires : goal.size_before-stop-requires
 size_before-stop-requires g c =
-    let t = g.T.Text.content c.args.old.now in
+    let t = g.T.Text.content c.args.old.now.text.now in
     let ins = c.args.change.ins.now in
-    let list = c.args.list.now in
+    let list = c.args.old.now.list.now in
     let h = fits t ins list c.args.change.at c.args.change.del c.requires.kept c.requires.within (omega (arith, c.len-old.ensures.small)) in
     let end = c.begun_by-end.ensures.value ∙ h.end in
     omega (arith, end, h.end_within)
 
 pub overflow_sub-to : goal.overflow_sub-to
 overflow_sub-to g c =
-    let t = g.T.Text.content c.args.old.now in
+    let t = g.T.Text.content c.args.old.now.text.now in
     let ins = c.args.change.ins.now in
-    let list = c.args.list.now in
+    let list = c.args.old.now.list.now in
     let h = fits t ins list c.args.change.at c.args.change.del c.requires.kept c.requires.within (omega (arith, c.len-old.ensures.small)) in
     let end = c.begun_by-end.ensures.value ∙ h.end in
     let to = c.size_before-stop.ensures.value ∙ (ap (λ n. sum_by section_len (take n list)) end ∙ h.to) in
@@ -52,9 +52,9 @@ overflow_sub-to g c =
 
 pub overflow_add-to : goal.overflow_add-to
 overflow_add-to g c =
-    let t = g.T.Text.content c.args.old.now in
+    let t = g.T.Text.content c.args.old.now.text.now in
     let ins = c.args.change.ins.now in
-    let list = c.args.list.now in
+    let list = c.args.old.now.list.now in
     let h = fits t ins list c.args.change.at c.args.change.del c.requires.kept c.requires.within (omega (arith, c.len-old.ensures.small)) in
     let end = c.begun_by-end.ensures.value ∙ h.end in
     let to = c.size_before-stop.ensures.value ∙ (ap (λ n. sum_by section_len (take n list)) end ∙ h.to) in
@@ -63,9 +63,9 @@ overflow_add-to g c =
 
 pub overflow_sub-result : goal.overflow_sub-result
 overflow_sub-result g c =
-    let t = g.T.Text.content c.args.old.now in
+    let t = g.T.Text.content c.args.old.now.text.now in
     let ins = c.args.change.ins.now in
-    let list = c.args.list.now in
+    let list = c.args.old.now.list.now in
     let h = fits t ins list c.args.change.at c.args.change.del c.requires.kept c.requires.within (omega (arith, c.len-old.ensures.small)) in
     let first = c.first_touched-first.ensures.value ∙ (ap (λ xs. first_touched_by (map section_len list) xs c.args.change.at) c.requires.changed ∙ h.first) in
     let end = c.begun_by-end.ensures.value ∙ h.end in
@@ -75,27 +75,27 @@ overflow_sub-result g c =
 
 pub returns-clause-first : goal.returns-clause-first
 returns-clause-first g c =
-    let t = g.T.Text.content c.args.old.now in
+    let t = g.T.Text.content c.args.old.now.text.now in
     let ins = c.args.change.ins.now in
-    let list = c.args.list.now in
+    let list = c.args.old.now.list.now in
     let h = fits t ins list c.args.change.at c.args.change.del c.requires.kept c.requires.within (omega (arith, c.len-old.ensures.small)) in
     let first = c.first_touched-first.ensures.value ∙ (ap (λ xs. first_touched_by (map section_len list) xs c.args.change.at) c.requires.changed ∙ h.first) in
     first
 
 pub returns-clause-end : goal.returns-clause-end
 returns-clause-end g c =
-    let t = g.T.Text.content c.args.old.now in
+    let t = g.T.Text.content c.args.old.now.text.now in
     let ins = c.args.change.ins.now in
-    let list = c.args.list.now in
+    let list = c.args.old.now.list.now in
     let h = fits t ins list c.args.change.at c.args.change.del c.requires.kept c.requires.within (omega (arith, c.len-old.ensures.small)) in
     let end = c.begun_by-end.ensures.value ∙ h.end in
     end
 
 pub returns-clause-order : goal.returns-clause-order
 returns-clause-order g c =
-    let t = g.T.Text.content c.args.old.now in
+    let t = g.T.Text.content c.args.old.now.text.now in
     let ins = c.args.change.ins.now in
-    let list = c.args.list.now in
+    let list = c.args.old.now.list.now in
     let h = fits t ins list c.args.change.at c.args.change.del c.requires.kept c.requires.within (omega (arith, c.len-old.ensures.small)) in
     let first = c.first_touched-first.ensures.value ∙ (ap (λ xs. first_touched_by (map section_len list) xs c.args.change.at) c.requires.changed ∙ h.first) in
     let end = c.begun_by-end.ensures.value ∙ h.end in
@@ -103,18 +103,18 @@ returns-clause-order g c =
 
 pub returns-clause-last : goal.returns-clause-last
 returns-clause-last g c =
-    let t = g.T.Text.content c.args.old.now in
+    let t = g.T.Text.content c.args.old.now.text.now in
     let ins = c.args.change.ins.now in
-    let list = c.args.list.now in
+    let list = c.args.old.now.list.now in
     let h = fits t ins list c.args.change.at c.args.change.del c.requires.kept c.requires.within (omega (arith, c.len-old.ensures.small)) in
     let end = c.begun_by-end.ensures.value ∙ h.end in
     omega (arith, end, h.end_within)
 
 pub returns-clause-inside : goal.returns-clause-inside
 returns-clause-inside g c =
-    let t = g.T.Text.content c.args.old.now in
+    let t = g.T.Text.content c.args.old.now.text.now in
     let ins = c.args.change.ins.now in
-    let list = c.args.list.now in
+    let list = c.args.old.now.list.now in
     let h = fits t ins list c.args.change.at c.args.change.del c.requires.kept c.requires.within (omega (arith, c.len-old.ensures.small)) in
     let first = c.first_touched-first.ensures.value ∙ (ap (λ xs. first_touched_by (map section_len list) xs c.args.change.at) c.requires.changed ∙ h.first) in
     let end = c.begun_by-end.ensures.value ∙ h.end in
@@ -125,9 +125,9 @@ returns-clause-inside g c =
 
 pub returns-clause-part : goal.returns-clause-part
 returns-clause-part g c =
-    let t = g.T.Text.content c.args.old.now in
+    let t = g.T.Text.content c.args.old.now.text.now in
     let ins = c.args.change.ins.now in
-    let list = c.args.list.now in
+    let list = c.args.old.now.list.now in
     let h = fits t ins list c.args.change.at c.args.change.del c.requires.kept c.requires.within (omega (arith, c.len-old.ensures.small)) in
     let first = c.first_touched-first.ensures.value ∙ (ap (λ xs. first_touched_by (map section_len list) xs c.args.change.at) c.requires.changed ∙ h.first) in
     let end = c.begun_by-end.ensures.value ∙ h.end in

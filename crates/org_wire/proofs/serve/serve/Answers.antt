@@ -2,18 +2,18 @@ use Rattle.std.specs.Option.{option_copied}
 use Rattle.std.proofs.Common.{◌≡◌, ap, refl, subst}
 use Rattle.org_engine.specs.Questions.{AsksMatch, AsksOf, AsksTable, asked_agenda}
 use Rattle.org_engine.specs.Step as step
-use Rattle.org_wire.proofs.ServeLemmas.{classifies_added, counts_none, serves, serves_surely, shows, tells, tells_surely, tells_text}
+use Rattle.org_wire.proofs.ServeLemmas.{classifies_added, counts_none, profile_never, serves, serves_surely, shows, tells, tells_always, tells_surely, tells_text, unpin_never}
 use Rattle.org_wire.proofs.serve.serve.Goals as goal
 
 pub returns-in-Add : goal.returns-in-Add
 returns-in-Add g c = record {
-  value = rw (c.in-Add.is, c.told.ensures.value) (tells _ _ _ _ (ap (λ name. step.AddFile name c.in-Add.text) c.as_str.ensures.value) _ c.add_bytes.ensures.ok c.add_bytes.ensures.err);
+  value = rw (c.in-Add.is, c.told.ensures.value) (tells _ _ _ _ (ap (λ name. step.AddFile name c.in-Add.text) c.as_str.ensures.value) _ c.add_bytes.ensures.ok c.add_bytes.ensures.err tt);
   counts = rw c.in-Add.is (classifies_added c.in-Add.text _ _ c.add_bytes.result c.add_bytes.ensures.marks c.add_bytes.ensures.few);
 }
 
 pub returns-in-Drop : goal.returns-in-Drop
 returns-in-Drop g c = record {
-  value = rw (c.in-Drop.is, c.told-in-Drop.ensures.value) (tells_surely _ _ _ _ (ap step.DropFile c.as_str-in-Drop.ensures.value) _ c.drop_file.ensures.ok c.drop_file.ensures.err);
+  value = rw (c.in-Drop.is, c.told-in-Drop.ensures.value) (tells_surely _ _ _ _ (ap step.DropFile c.as_str-in-Drop.ensures.value) _ c.drop_file.ensures.ok c.drop_file.ensures.err tt);
   counts = rw c.in-Drop.is (counts_none _ c.args.engine.now c.drop_file.new.self c.drop_file.result c.drop_file.ensures.marks c.drop_file.ensures.quiet);
 }
 
@@ -43,25 +43,25 @@ returns-in-At g c = record {
 
 pub returns-in-Profile : goal.returns-in-Profile
 returns-in-Profile g c = record {
-  value = rw (c.in-Profile.is, c.told-in-Profile.ensures.value) (tells_surely _ _ _ _ refl _ c.set_profile.ensures.ok c.set_profile.ensures.err);
+  value = rw (c.in-Profile.is, c.told-in-Profile.ensures.value) (tells_always _ _ _ _ refl _ c.set_profile.ensures.ok c.set_profile.ensures.err (profile_never c.in-Profile.profile _));
   counts = rw c.in-Profile.is c.set_profile.ensures.quiet.1;
 }
 
 pub returns-in-Pin : goal.returns-in-Pin
 returns-in-Pin g c = record {
-  value = rw (c.in-Pin.is, c.told-in-Pin.ensures.value) (tells _ _ _ _ refl _ c.pin.ensures.ok c.pin.ensures.err);
+  value = rw (c.in-Pin.is, c.told-in-Pin.ensures.value) (tells _ _ _ _ refl _ c.pin.ensures.ok c.pin.ensures.err tt);
   counts = rw c.in-Pin.is (counts_none _ c.args.engine.now c.pin.new.self c.pin.result c.pin.ensures.marks c.pin.ensures.quiet);
 }
 
 pub returns-in-Unpin : goal.returns-in-Unpin
 returns-in-Unpin g c = record {
-  value = rw (c.in-Unpin.is, c.told-in-Unpin.ensures.value) (tells_surely _ _ _ _ refl _ c.unpin.ensures.ok c.unpin.ensures.err);
+  value = rw (c.in-Unpin.is, c.told-in-Unpin.ensures.value) (tells_always _ _ _ _ refl _ c.unpin.ensures.ok c.unpin.ensures.err (unpin_never c.in-Unpin.session _));
   counts = rw c.in-Unpin.is (counts_none _ c.args.engine.now c.unpin.new.self c.unpin.result c.unpin.ensures.marks c.unpin.ensures.quiet);
 }
 
 pub returns-in-Text : goal.returns-in-Text
 returns-in-Text g c = record {
-  value = rw (c.in-Text.is, c.told_text.ensures.value) (tells_text _ _ _ _ (ap step.TextOf c.as_str-in-Text.ensures.value) _ c.text_of.ensures.ok c.text_of.ensures.err);
+  value = rw (c.in-Text.is, c.told_text.ensures.value) (tells_text _ _ _ _ (ap step.TextOf c.as_str-in-Text.ensures.value) _ c.text_of.ensures.ok c.text_of.ensures.err tt);
   counts = rw c.in-Text.is refl;
 }
 
@@ -70,7 +70,7 @@ returns-in-Todo g c =
     let s = c.args.engine.now.state in
     record {
       value = rw c.in-Todo.is (shows _ _ _ _ _ c.ask.result
-          (λ question asks. (question, subst (λ f. AsksOf (λ today q. q ≡ step.TodoList f c.in-Todo.words) (step.world_asked c.in-Todo.session s.world s.pins) question) c.name_in.ensures.value asks, refl)) c.ask.ensures.value);
+          (λ question asks. (question, subst (λ f. AsksOf (λ today q. q ≡ step.TodoList f c.in-Todo.words) (step.world_asked c.in-Todo.session s.world s.pins) question) c.name_in.ensures.value asks, refl)) c.ask.ensures.value tt);
       counts = rw c.in-Todo.is c.ask.ensures.counts;
     }
 
@@ -85,7 +85,7 @@ returns-in-Match g c =
             subst (λ f. AsksOf (λ today q. AsksMatch f c.in-Match.text q) asked question) c.name_in-in-Match.ensures.value
                 (subst (λ t. AsksOf (λ today q. AsksMatch (option_copied c.name_in-in-Match.result) t q) asked question) c.as_str-in-Match.ensures.value asks),
             refl,
-          )) c.ask-in-Match.ensures.value);
+          )) c.ask-in-Match.ensures.value tt);
       counts = rw c.in-Match.is c.ask-in-Match.ensures.counts;
     }
 
@@ -94,7 +94,7 @@ returns-in-Agenda g c =
     let s = c.args.engine.now.state in
     record {
       value = rw c.in-Agenda.is (shows _ _ _ _ _ c.ask-in-Agenda.result
-          (λ question asks. (question, subst (λ t. AsksOf (λ today q. q ≡ asked_agenda t c.in-Agenda.days) (step.world_asked c.in-Agenda.session s.world s.pins) question) c.as_str-in-Agenda.ensures.value asks, refl)) c.ask-in-Agenda.ensures.value);
+          (λ question asks. (question, subst (λ t. AsksOf (λ today q. q ≡ asked_agenda t c.in-Agenda.days) (step.world_asked c.in-Agenda.session s.world s.pins) question) c.as_str-in-Agenda.ensures.value asks, refl)) c.ask-in-Agenda.ensures.value tt);
       counts = rw c.in-Agenda.is c.ask-in-Agenda.ensures.counts;
     }
 
@@ -103,6 +103,6 @@ returns-in-Clock g c =
     let s = c.args.engine.now.state in
     record {
       value = rw c.in-Clock.is (shows _ _ _ _ _ c.ask-in-Clock.result
-          (λ question asks. (question, subst (λ t. AsksOf (λ today q. AsksTable t today q) (step.world_asked c.in-Clock.session s.world s.pins) question) c.as_str-in-Clock.ensures.value asks, refl)) c.ask-in-Clock.ensures.value);
+          (λ question asks. (question, subst (λ t. AsksOf (λ today q. AsksTable t today q) (step.world_asked c.in-Clock.session s.world s.pins) question) c.as_str-in-Clock.ensures.value asks, refl)) c.ask-in-Clock.ensures.value tt);
       counts = rw c.in-Clock.is c.ask-in-Clock.ensures.counts;
     }

@@ -1,9 +1,12 @@
 use Rattle.std.proofs.Common.{◌≡◌, refl}
+use Rattle.std.specs.Prelude.{Ok}
 use Rattle.std.proofs.lemmas.Result.{IfErr-weaker}
 use Rattle.org_file.specs.Parts.{Part}
 use Rattle.org_file.specs.Written.{part_of}
+use Rattle.org_engine.specs.Step.{text_seen}
 use Rattle.org_engine.proofs.CompletedLemmas.{completed_few, completed_marks, completed_none, completed_quiet, none_completed}
 use Rattle.org_engine.proofs.MarkLemmas.{on_err, refused_so, where_err, where_ok}
+use Rattle.org_engine.proofs.SureLemmas.{sure_fine, sure_passed}
 use Rattle.org_engine.proofs.engine.Engine.complete.Goals as goal
 
 pub returns-in_err-text_seen-clause-few : goal.returns-in_err-text_seen-clause-few
@@ -35,3 +38,16 @@ pub returns-clause-quiet : goal.returns-clause-quiet
 returns-clause-quiet g c =
     let now = c.self.inside in
     rw (← c.self.view_is) (IfErr-weaker c.put.result _ _ (λ fault quiet other. completed_quiet c.args.name.now c.args.line c.args.keyword.now now.world c.completed.new.self now.pins now.serial now.meter c.completed.new.meter c.in_ok-text.ensures.read c.put.new.self (quiet other)) c.put.ensures.quiet)
+
+pub returns-in_err-text_seen-clause-sure : goal.returns-in_err-text_seen-clause-sure
+returns-in_err-text_seen-clause-sure g c = sure_passed c.from_residual.result _ c.in_err-text_seen.field-0.0 c.from_residual.ensures.1 (rw (← c.self.view_is) c.in_err-text_seen.ensures.err)
+
+pub returns-in_err-text-clause-sure : goal.returns-in_err-text-clause-sure
+returns-in_err-text-clause-sure g c =
+    let h : text_seen c.args.session c.args.name.now c.args.serial c.self.inside.world.world.files ≡ Ok (g.T.Text.content c.in_ok-text_seen.field-0.now) = c.in_ok-text_seen.ensures.ok in
+    rw (← c.self.view_is) (sure_fine c.from_residual-in_err-text.result _ _ h)
+
+pub returns-clause-sure : goal.returns-clause-sure
+returns-clause-sure g c =
+    let h : text_seen c.args.session c.args.name.now c.args.serial c.self.inside.world.world.files ≡ Ok (g.T.Text.content c.in_ok-text_seen.field-0.now) = c.in_ok-text_seen.ensures.ok in
+    rw (← c.self.view_is) (sure_fine c.put.result _ _ h)

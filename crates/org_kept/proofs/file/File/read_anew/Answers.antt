@@ -13,7 +13,7 @@ invariant_of-self-2 g c =
     let list = c.self.inside.list in
     let place = c.args.place in
     let within : place < length list = omega (arith, c.requires, ap (λ (f : FileView). length f.marks) c.self.view_is, length-map list is_read) in
-    let is = c.in_ok-read_in.ensures.ok ∙ ap (λ s. with_read s t place list) c.as_ref-settings.ensures in
+    let is = c.in_ok-read_in.ensures.ok ∙ ap (λ s. with_read s t place list) c.as_ref.ensures in
     record {
       kept = subst (λ xs. IsKept t xs c.self.inside.settings.value) (sym is) (kept_read t list place c.self.inside.settings.value c.self.invariant.kept within);
       outline_is = c.self.invariant.outline_is;
@@ -24,6 +24,6 @@ returns-clause-ok g c =
     let t = g.T.Text.content c.self.inside.text in
     let list = c.self.inside.list in
     let place = c.args.place in
-    let settings = c.as_ref-settings.result.now in
+    let settings = c.as_ref.result.now in
     let marks = ap (map is_read) c.in_ok-read_in.ensures.ok ∙ marks_one list place settings (section_of t place) in
     rw (← c.self.view_is) (λ i. record { text = t; serial = c.self.inside.serial; marks = marks i })

@@ -1,0 +1,210 @@
+//! The calls of an engine that change files.
+ghost use Rattle.std.specs.Prelude.{◌≡◌, IfOk, IfErr, IfSome, OnOk, OnErr, None, Some, false, string_bytes, nat_le};
+ghost use Rattle.std.specs.Str.{is_utf8};
+ghost use Rattle.org_base.specs.Results.{Gives, IfRefused};
+ghost use Rattle.org_engine.specs.Calls.{IsChangeIn, IsNewFile, Puts, Refuses, RefusesSurely, RefusesName, Tells};
+ghost use Rattle.org_engine.specs.Computed.{FailsSurely};
+ghost use Rattle.org_engine.specs.Marks.{AddsMarks, AddsNoMarks, CompletesMarks, CompletesNone, DropsMarks, EditsMarks, EditsNoMarks, IsQuiet, PutsMarks, PutsNoMarks, ReadsAtMostOne};
+ghost use Rattle.org_engine.specs.Step.{last_serial, AddFile, Complete, DropFile, EditFile, Refused, Serial, text_seen};
+
+use crate::engine::Engine;
+use crate::limits::LAST_SERIAL;
+use crate::seen::{edited, text_seen};
+use org_base::{Bytes, Code, Fault, MOST_FILES, is_file_name};
+use org_file::Revision;
+use org_kept::Change;
+use org_text::Text;
+
+impl<T: Text> Engine<T> {
+    // Whether the last serial was given, so that no change is made any more.
+    fn is_spent(&self) -> bool
+        ensures value { result ≡ nat_le last_serial self.now.state.serial }
+    {
+        self.serial >= LAST_SERIAL
+    }
+
+    /// Adds a file and answers its serial; the file has a copy of the bytes. Refusals in order: `Command` for a bad name,
+    /// `Taken`, `Files`, `Utf8`, `Size`, `Spent`; want of memory may come at any time. After a refusal the engine is as
+    /// before.
+    pub fn add(&mut self, name: &str, text: &[u8]) -> Result<u64, Fault>
+        ensures ok { Tells (AddFile name.now text.now) self.old result self.new }
+        ensures err { Refuses (AddFile name.now text.now) self.old result self.new }
+        ensures marks { OnOk result (AddsMarks text.now self.old self.new) }
+        ensures few { OnErr result (AddsNoMarks text.now self.old self.new) }
+        ensures quiet { IfRefused result (λ _. IsQuiet self.old self.new) }
+    {
+        self.admit(name)?;
+        let Ok(text) = str::from_utf8(text) else {
+            return Err(Fault::Plain(Code::Utf8));
+        };
+        let text = T::of(self.alloc, text)?;
+        self.put_new(name, text)
+    }
+
+    /// Adds a file, which takes the bytes over, and answers its serial. All else is as `add` has it; after a refusal the
+    /// bytes are gone.
+    pub fn add_bytes(&mut self, name: &str, text: Bytes) -> Result<u64, Fault>
+        ensures ok { Tells (AddFile name.now text) self.old result self.new }
+        ensures err { Refuses (AddFile name.now text) self.old result self.new }
+        ensures marks { OnOk result (AddsMarks text self.old self.new) }
+        ensures few { OnErr result (AddsNoMarks text self.old self.new) }
+        ensures quiet { IfRefused result (λ _. IsQuiet self.old self.new) }
+    {
+        self.admit(name)?;
+        let Some(text) = string_of(text) else {
+            return Err(Fault::Plain(Code::Utf8));
+        };
+        let text = T::of_string(self.alloc, text)?;
+        self.put_new(name, text)
+    }
+
+    // Whether a file of that name may be added, or why not, whatever its text.
+    fn admit(&self, name: &str) -> Result<(), Fault>
+        ensures ok { OnOk result (IsNewFile name.now self.now.state.world.files) }
+        ensures err { IfErr result (RefusesName name.now self.now.state) }
+    {
+        if !is_file_name(name.as_bytes()) {
+            return Err(Fault::Plain(Code::Command));
+        }
+        if self.world.contains(name) {
+            return Err(Fault::Plain(Code::Taken));
+        }
+        if self.world.count() >= MOST_FILES {
+            return Err(Fault::Plain(Code::Files));
+        }
+        Ok(())
+    }
+
+    // Adds a file of a new name and answers its serial.
+    fn put_new(&mut self, name: &str, text: T) -> Result<u64, Fault>
+        requires new { IsNewFile name.now self.old.state.world.files }
+        ensures ok { Tells (AddFile name.now (T.content text)) self.old result self.new }
+        ensures err { Refuses (AddFile name.now (T.content text)) self.old result self.new }
+        ensures marks { OnOk result (AddsMarks (T.content text) self.old self.new) }
+        ensures few { OnErr result (AddsNoMarks (T.content text) self.old self.new) }
+        ensures quiet { IfRefused result (λ _. IsQuiet self.old self.new) }
+    {
+        // For the proof alone: its contract says that the text is UTF-8 and not too long.
+        let _len = text.len();
+        if self.is_spent() {
+            return Err(Fault::Plain(Code::Spent));
+        }
+        let serial = self.serial + 1;
+        self.world
+            .add(self.alloc, &mut self.meter, name, text, serial)?;
+        self.serial = serial;
+        Ok(serial)
+    }
+
+    /// Drops the file of that name and answers the serial of this change. Refusals in order: `Unknown`, `Spent`. It takes
+    /// no memory. After a refusal the engine is as before.
+    pub fn drop_file(&mut self, name: &str) -> Result<u64, Fault>
+        ensures ok { Tells (DropFile name.now) self.old result self.new }
+        ensures err { RefusesSurely (DropFile name.now) self.old result self.new }
+        ensures marks { OnOk result (DropsMarks name.now self.old self.new) }
+        ensures quiet { OnErr result (IsQuiet self.old self.new) }
+    {
+        if !self.world.contains(name) {
+            return Err(Fault::Plain(Code::Unknown));
+        }
+        if self.is_spent() {
+            return Err(Fault::Plain(Code::Spent));
+        }
+        self.world.remove(name);
+        self.serial += 1;
+        Ok(self.serial)
+    }
+
+    /// Replaces `del` bytes at `at` in the text of the file of that name, which a session saw with this serial, and answers
+    /// the file's new serial. Refusals in order: `Session`, `Unknown`, `Stale` with the file's serial, `Utf8` where the new
+    /// bytes are no text, `Range`, `Boundary`, `Size`, `Spent`; want of memory may come at any time. After a refusal the
+    /// engine is as before.
+    pub fn edit(
+        &mut self,
+        session: u64,
+        name: &str,
+        serial: u64,
+        at: u64,
+        del: u64,
+        ins: &[u8],
+    ) -> Result<u64, Fault>
+        ensures ok { Tells (EditFile session name.now serial at del ins.now) self.old result self.new }
+        ensures err { Refuses (EditFile session name.now serial at del ins.now) self.old result self.new }
+        ensures sure { FailsSurely result (text_seen session name.now serial self.old.state.world.files) }
+        ensures marks { OnOk result (EditsMarks name.now at del ins.now self.old self.new) }
+        ensures few { OnErr result (EditsNoMarks name.now at del ins.now self.old self.new) }
+        ensures quiet { IfRefused result (λ _. IsQuiet self.old self.new) }
+    {
+        let seen = text_seen(&self.world, session, name, serial)?;
+        let edited = edited(seen, at, del, ins)?;
+        self.put(name, edited.text, edited.change)
+    }
+
+    /// Completes the heading on a line of the file of that name, which a session saw with this serial, with a keyword, and
+    /// answers the file's new serial (Org manual 9.6, "Repeated tasks"): the keyword goes where the heading's stands; where
+    /// it is a done one and active stamps of the planning line repeat, these shift instead, and the keyword is the first of
+    /// its sequence. Lines count from 1. Refusals in order: `Session`, `Unknown`, `Stale` with the file's serial, `Heading`
+    /// where the line is no heading's, `Keyword` where the file has no such keyword, `Hours` where a stamp that shifts
+    /// repeats by hours and has no time, or a range of times, `Date` where one leaves the years, `Size`, `Spent`; want of
+    /// memory may come at any time. After a refusal the engine is as before, but that one section may
+    /// have been read, as the meter counts.
+    pub fn complete(
+        &mut self,
+        session: u64,
+        name: &str,
+        serial: u64,
+        line: u64,
+        keyword: &str,
+    ) -> Result<u64, Fault>
+        ensures ok { Tells (Complete session name.now serial line keyword.now) self.old result self.new }
+        ensures err { Refuses (Complete session name.now serial line keyword.now) self.old result self.new }
+        ensures sure { FailsSurely result (text_seen session name.now serial self.old.state.world.files) }
+        ensures marks { OnOk result (CompletesMarks name.now line keyword.now self.old self.new) }
+        ensures few { OnErr result (CompletesNone name.now line keyword.now self.old self.new) }
+        ensures quiet { IfRefused result (λ _. ReadsAtMostOne name.now self.old self.new) }
+    {
+        text_seen(&self.world, session, name, serial)?;
+        let world = &mut self.world;
+        let Revision { text, at, del, ins } = world.completed(
+            self.alloc,
+            &mut self.meter,
+            name,
+            line,
+            keyword,
+        )?;
+        let ins = ins.as_str();
+        self.put(name, text, Change { at, del, ins })
+    }
+
+    // Gives the file of a name this text, which is its own with a change, and the next serial, and answers it. `Spent`; want
+    // of memory may come at any time. After a refusal the engine is as before, but for what was counted.
+    fn put(&mut self, name: &str, text: T, change: Change<'_>) -> Result<u64, Fault>
+        requires is { IsChangeIn name.now change (T.content text) self.old.state.world.files }
+        ensures ok { IfOk result (λ next. Puts name.now (T.content text) self.old (Serial next) self.new) }
+        ensures err { OnErr result (self.new.state ≡ self.old.state) }
+        ensures refused { IfRefused result (λ f. Puts name.now (T.content text) self.old (Refused f) self.new) }
+        ensures marks { OnOk result (PutsMarks name.now change.entry self.old self.new) }
+        ensures few { OnErr result (PutsNoMarks name.now change.entry self.old self.new) }
+        ensures quiet { IfRefused result (λ _. IsQuiet self.old self.new) }
+    {
+        if self.is_spent() {
+            return Err(Fault::Plain(Code::Spent));
+        }
+        let serial = self.serial + 1;
+        self.world
+            .change(self.alloc, &mut self.meter, name, text, change, serial)?;
+        self.serial = serial;
+        Ok(serial)
+    }
+}
+
+// Bytes as a string, where they are UTF-8.
+fn string_of(bytes: Bytes) -> Option<String>
+    ensures some { IfSome result (λ text. string_bytes text ≡ bytes) }
+    ensures none { result ≡ None → is_utf8 bytes ≡ false }
+{
+    match String::from_utf8(bytes.into_vec()) {
+        Ok(text) => Some(text),
+        Err(_) => None,
+    }
+}
