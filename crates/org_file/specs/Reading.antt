@@ -2,8 +2,9 @@
 use Rattle.std.specs.Prelude.{◌≡◌, ◌<◌, ◌≤◌, ℕ, Option, None, Some, IfSome, length, get_or, true, false}
 use Rattle.org_base.specs.Counts.{Counts}
 use Rattle.org_class.specs.Sections.{sections}
+use Rattle.org_kept.specs.Begun.{IsBegunBy}
 use Rattle.org_kept.specs.Counts.{have_read}
-use Rattle.org_kept.specs.File.{FileView, marked}
+use Rattle.org_kept.specs.File.{FileView, marked, unread_at}
 
 -- the file with the section at a place read, or as it is
 abbrev pub with_one_read : Option ℕ → FileView → FileView
@@ -27,3 +28,10 @@ pub record IsPlaceIn (file : FileView) (place : ℕ) : Type 0 where
 -- and was read
 abbrev pub WasReadAt : FileView → ℕ → Type 0
 WasReadAt file place = get_or file.marks place false ≡ true
+
+-- just the section that begins with a line was read, and counted where it was still to be read
+pub record HasReadLine (line : ℕ) (old new : FileView) (before after : Counts) : Type 0 where
+  pub place : ℕ
+  pub begun : IsBegunBy old.text line place
+  pub file : new ≡ record old { marks = marked place old.marks }
+  pub counts : after ≡ have_read (unread_at old.marks place) before

@@ -1,5 +1,5 @@
 //! Completing a heading.
-ghost use Rattle.std.specs.Prelude.{◌≡◌, ◌+◌, ◌-◌, ◌++◌, ◌<◌, ◌≤◌, ◌^◌, Ok, Err, Some, length, IfOk, IsSome, IsOkUnless, string_bytes};
+ghost use Rattle.std.specs.Prelude.{◌≡◌, ◌+◌, ◌-◌, ◌++◌, ◌<◌, ◌≤◌, ◌^◌, Ok, Err, Some, length, IfOk, IsSome, OnOk, IsOkUnless, string_bytes};
 ghost use Rattle.std.specs.List.{prefix_len};
 ghost use Rattle.std.specs.Str.{IsUtf8, IsCharBoundary};
 ghost use Rattle.org_base.specs.Codes.{memory_fault};
@@ -7,7 +7,7 @@ ghost use Rattle.org_base.specs.Results.{Gives, Writes};
 ghost use Rattle.org_base.specs.Words.{is_space};
 ghost use Rattle.org_entry.specs.Entry.{heading_line};
 ghost use Rattle.org_file.specs.Completion.{completed, completed_at, completion_part, gap_behind, keyword_span, part_at, plan_part, plan_written, replaced, sized};
-ghost use Rattle.org_file.specs.Reading.{HasReadOne, IsPlaceIn, WasReadAt};
+ghost use Rattle.org_file.specs.Reading.{HasReadLine, HasReadOne, IsPlaceIn, WasReadAt};
 ghost use Rattle.org_file.specs.Written.{AnswersAs, CanWrite, IsBehind, IsRevision, Revises, part_of, plan_end, plan_text, shift_end, shift_text};
 ghost use Rattle.org_kept.specs.Begun.{entry_there};
 ghost use Rattle.org_text.specs.Replace.{max_bytes, replace};
@@ -36,7 +36,7 @@ use std::alloc::{AllocError, Global};
 /// file's; `Hours` where a stamp that would shift has a repeater of hours and no time, or a time range; `Date` where one
 /// would leave the years 1 to 9999; `Size` where the new text would be longer than a text may be. Want of memory may come
 /// at any time. No section is classified. The section that begins with the line is read, if it is still to be read, and
-/// stays read, behind a refusal too; the meter counts it then.
+/// stays read, behind a refusal too; the meter counts it then, and nothing else.
 pub fn complete<T: Text>(
     alloc: Global,
     meter: &mut Meter,
@@ -49,6 +49,7 @@ pub fn complete<T: Text>(
     ensures change { IfOk result (IsRevision T.content file.old.text) }
     ensures part { IfOk result (λ r. completion_part file.old.text line keyword.now moment ≡ Ok (part_of r)) }
     ensures read { HasReadOne file.old file.new meter.old meter.new }
+    ensures exact { OnOk result (HasReadLine line file.old file.new meter.old meter.new) }
 {
     let Some(place) = file.begun_by(line) else {
         return Err(Fault::Plain(Code::Heading));
