@@ -1,26 +1,20 @@
 //! A file: its text, its serial, and what is kept of its sections.
-ghost use Rattle.std.specs.Prelude.{◌≡◌, ◌+◌, ◌<◌, ◌≢◌, false, true, cond, length, get_or, IfOk, IfSome, OnOk, OnErr, IsOkUnless, nat_lt, is_some, None};
+ghost use Rattle.std.specs.Prelude.{◌≡◌, ◌+◌, ◌<◌, false, true, cond, length, get_or, IfOk, IfSome, OnOk, OnErr, IsOkUnless, nat_lt, is_some, None};
 ghost use Rattle.org_base.specs.Codes.{memory_fault};
 ghost use Rattle.org_base.specs.Counts.{ticked};
 ghost use Rattle.org_base.specs.Results.{Gives};
 ghost use Rattle.org_base.specs.declared.meter.Tick.TheVariants.{Read};
 ghost use Rattle.org_class.specs.Ticks.{AllClassified, SomeClassified};
 ghost use Rattle.org_kept.specs.Begun.{IsBegunBy, entry_there, has_heading, lines_before, section_start};
-ghost use Rattle.org_kept.specs.Change.{IsChangedBy, LiesIn, edited};
-ghost use Rattle.org_kept.specs.Counts.{NewClassified, FewNewClassified, SomeRead, have_read};
-ghost use Rattle.org_kept.specs.File.{AreOf, IsReady, all_marked, fresh_file, marked, read_sections, unread, unread_at, with_first_read};
-ghost use Rattle.org_kept.specs.Outline.{file_entries, file_settings, outline_of};
-ghost use Rattle.org_kept.specs.Renewed.{IsRenewed};
+ghost use Rattle.org_kept.specs.Counts.{SomeRead, have_read};
+ghost use Rattle.org_kept.specs.File.{IsReady, all_marked, fresh_file, marked, read_sections, unread, unread_at, with_first_read};
+ghost use Rattle.org_kept.specs.Outline.{file_settings, outline_of};
 
-use crate::change::Change;
-use crate::fresh::{all_pending, list_of};
-use crate::listed::Listed;
+use crate::fresh::list_of;
 use crate::outline::{FileOutline, outline_in, shared};
-use crate::quiet::leaves_lines;
 use crate::read::{all_read, read_in};
 use crate::section::Section;
-use crate::settings::{settings_of, shared_settings};
-use crate::touched::changed_list;
+use crate::settings::shared_settings;
 use org_base::{Fault, Meter};
 use org_class::Settings;
 use org_entry::{Document, Entry};
@@ -37,12 +31,12 @@ use std::rc::Rc;
 /// A clone shares all of it by one count each, and no later change of one file reaches the other.
 #[derive(Debug, Drop)]
 pub struct File<T: Text> {
-    text: T,
-    serial: u64,
-    list: Sequence<Section>,
-    settings: Rc<Settings>,
+    pub(crate) text: T,
+    pub(crate) serial: u64,
+    pub(crate) list: Sequence<Section>,
+    pub(crate) settings: Rc<Settings>,
     // Of all sections, once all were read; a change forgets it.
-    outline: Option<Outline>,
+    pub(crate) outline: Option<Outline>,
 }
 
 impl<T: Text> Model for File<T> {
@@ -271,78 +265,6 @@ impl<T: Text> File<T> {
         self.list = list;
         self.outline = Some(outline);
         Ok(file)
-    }
-
-    /// Gives the file a text that is its own with a change, and a serial. The sections of the new text that stand in the
-    /// place of those that the change touches are to be read anew: the meter counts each once as classified. Where the
-    /// file's settings stay, all others are as before; else they are to be read anew too, and are not counted. Want of memory
-    /// is the only refusal, and leaves the file as before; then some of the new sections may have been counted.
-    pub fn set_text(
-        &mut self,
-        alloc: Global,
-        meter: &mut Meter,
-        text: T,
-        change: Change<'_>,
-        serial: u64,
-    ) -> Result<(), Fault>
-        requires within { LiesIn self.old.text change }
-        requires changed { T.content text ≡ edited self.old.text change }
-        ensures ok { OnOk result (IsChangedBy self.old change.entry serial self.new) }
-        ensures err { OnErr result (self.new ≡ self.old) }
-        ensures counts { OnOk result (NewClassified self.old.text change.entry meter.old meter.new) }
-        ensures few { OnErr result (FewNewClassified self.old.text change.entry meter.old meter.new) }
-        ensures memory { IsOkUnless result memory_fault }
-    {
-        let old = Listed {
-            text: &self.text,
-            list: &self.list,
-        };
-        let list = changed_list(alloc, meter, &old, &text, change)?;
-        let renewed = self.renewed(alloc, &text, &list, change)?;
-        let Some(settings) = renewed else {
-            self.text = text;
-            self.serial = serial;
-            self.list = list;
-            self.outline = None;
-            return Ok(());
-        };
-        let pending = all_pending(alloc, &list)?;
-        self.text = text;
-        self.serial = serial;
-        self.list = pending;
-        self.settings = settings;
-        self.outline = None;
-        Ok(())
-    }
-
-    // The settings of a text that is the file's with a change, and of whose sections this is kept; None where they stay.
-    // Only where the change doesn't leave the setting lines as they are, those of all sections are gone over.
-    fn renewed(
-        &self,
-        alloc: Global,
-        text: &T,
-        list: &Sequence<Section>,
-        change: Change<'_>,
-    ) -> Result<Option<Rc<Settings>>, Fault>
-        requires kept { AreOf (T.content text.now) list.now }
-        requires within { LiesIn self.now.text change }
-        requires changed { T.content text.now ≡ edited self.now.text change }
-        ensures value { IfOk result (IsRenewed self.now.text (T.content text.now)) }
-        ensures memory { IsOkUnless result memory_fault }
-    {
-        let old = Listed {
-            text: &self.text,
-            list: &self.list,
-        };
-        let new = Listed { text, list };
-        if leaves_lines(alloc, &old, &new, change)? {
-            return Ok(None);
-        }
-        let settings = settings_of(alloc, text, list)?;
-        if self.settings.as_ref().same(&settings) {
-            return Ok(None);
-        }
-        Ok(Some(Rc::new(alloc, settings)?))
     }
 }
 

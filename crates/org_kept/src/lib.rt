@@ -13,6 +13,7 @@ mod listed;
 mod outline;
 mod quiet;
 mod read;
+mod renewed;
 mod section;
 mod settings;
 mod touched;
