@@ -32,8 +32,7 @@ use Rattle.org_stamp.specs.declared.stamp.Stamp.{Stamp}
 use Rattle.org_stamp.proofs.CanPrintLemmas.{can_print, stamp_bounds}
 use Rattle.org_stamp.proofs.ReadLemmas.{single_found}
 use Rattle.org_stamp.proofs.SpelledLemmas.{inner_is_spelled}
-use Rattle.org_agenda.specs.Indexed.{ReadStampsAreSound}
-use Rattle.org_agenda.specs.Near.{IsSound}
+use Rattle.org_agenda.specs.Near.{IsSound, ReadStampsAreSound}
 use Rattle.org_agenda.specs.Sources.{entry_sources, file_sources, head_sources, owner_of, plain_sources, put, source_at, sources_at, sources_from, with_planned, with_planning}
 use Rattle.org_agenda.specs.declared.source.Owner.{Owner}
 use Rattle.org_agenda.specs.declared.source.Role.{Role}
