@@ -1,8 +1,10 @@
 -- Tables by an entry's place.
-use Rattle.std.proofs.Common.{◌≡◌, ℕ, ◌-◌, ◌<◌, ◌≤◌, List, [], ◌∷◌, ◌++◌, Option, None, Some, map, length, get_or, take, drop, refl, sym, ap, ◌∙◌, arith}
-use Rattle.std.specs.List.{range_with_len, splice}
-use Rattle.std.specs.Option.{SomeIff}
-use Rattle.std.proofs.lemmas.List.{get_or-map, length-map, take-map, drop-map, append_assoc}
+use Rattle.std.proofs.Common.{◌≡◌, ℕ, ◌-◌, ◌<◌, ◌≤◌, true, eqb, List, [], ◌∷◌, ◌++◌, Option, None, Some, map, length, get_or, take, drop, refl, sym, ap, ◌∙◌, arith}
+use Rattle.std.specs.List.{AllZip, range_with_len, splice}
+use Rattle.std.specs.Prelude.{slice_set}
+use Rattle.std.specs.Option.{SomeIff, option_eq}
+use Rattle.std.proofs.lemmas.Bool.{eqb-true}
+use Rattle.std.proofs.lemmas.List.{get_or-map, length-map, take-map, drop-map, append_assoc, map-set, set-get_or, set-set}
 use Rattle.std.proofs.lemmas.List.FromFn.{length-map-range_with_len, get_or-map-range_with_len}
 use Rattle.org_entry.specs.declared.entry.Entry.{Entry}
 use Rattle.org_outline.specs.Tree.{end_of, level_at}
@@ -44,6 +46,32 @@ three_steps v rs first end a b c new old fresh o e f g h =
     let q : map v (drop end rs) ≡ drop end old = sym (drop-map v end rs) ∙ ap (drop end) o in
     let x : map v a ≡ [] = ap (map v) e in
     h ∙ (rw (g, f, x, p, q) (append_assoc (take first old) fresh (drop end old)))
+
+-- levels that are found equal are the same
+pub same_level : (a b : Option ℕ) → option_eq eqb a b ≡ true → a ≡ b
+same_level None None e = refl
+same_level None (Some b) e = absurd cc
+same_level (Some a) None e = absurd cc
+same_level (Some a) (Some b) e = ap (λ n. Some n) (eqb-true a b e)
+
+-- an item in the place of one of its level leaves the levels
+pub set_levels : {R : Type 0} (v : R → Entry) (rs : List R) (i : ℕ) (before r : R) → i < length rs → before ≡ get_or rs i before → level_of (v before) ≡ level_of (v r) → levels (map v (slice_set rs i r)) ≡ levels (map v rs)
+set_levels v rs i before r h there same =
+    ap levels (map-set v rs i r)
+    ∙ (map-set level_of (map v rs) i (v r)
+    ∙ (ap (slice_set (levels (map v rs)) i) (level_there v rs i before (level_of (v r)) h there (sym same))
+    ∙ set-get_or (levels (map v rs)) i None))
+
+-- an item put back where another one was put
+pub put_back : {R : Type 0} (rs : List R) (i : ℕ) (before r d : R) → before ≡ get_or rs i d → slice_set (slice_set rs i r) i before ≡ rs
+put_back rs i before r d there = set-set rs i r before ∙ (ap (slice_set rs i) there ∙ set-get_or rs i d)
+
+-- clones of shared items show the same
+pub clones_show : {R X : Type 0} (v : R → X) (rs cs : List R) → AllZip (λ r c. v c ≡ v r) rs cs → map v cs ≡ map v rs
+clones_show v [] [] h = refl
+clones_show v [] (c ∷ cs) h = absurd h
+clones_show v (r ∷ rs) [] h = absurd h
+clones_show v (r ∷ rs) (c ∷ cs) h = λ i. h.0 i ∷ clones_show v rs cs h.1 i
 
 -- the end of an entry is behind it and at most the number of entries
 pub end_after : (es : List Entry) (i : ℕ) → i < length es → i < end_of (levels es) i

@@ -1,14 +1,15 @@
 //! Entries with the table of their parents.
-ghost use Rattle.std.specs.Prelude.{◌≡◌, ◌<◌, ◌≤◌, ◌++◌, length, slice_index_or, IfErr, OnOk};
+ghost use Rattle.std.specs.Prelude.{◌≡◌, ◌<◌, ◌≤◌, ◌++◌, length, slice_index_or, slice_set, IfErr, OnOk, OnErr};
 ghost use Rattle.std.specs.List.{splice};
 ghost use Rattle.org_base.specs.Results.{Gives, GivesItems};
 ghost use Rattle.org_outline.specs.Levels.{levels, held_in};
 ghost use Rattle.org_outline.specs.Tree.{all_ends, end_of, parent};
 
-use crate::levels::{Levels, end_table, parent_table};
+use crate::levels::{Levels, end_table, level_of, parent_table};
 use org_entry::Entry;
 use std::alloc::{AllocError, AllocFailed, Global};
 use std::marker::Model;
+use std::mem;
 use std::ops::Range;
 use std::rc::Rc;
 
@@ -82,6 +83,35 @@ impl Body {
         Ok(Body::new(alloc, list)?)
     }
 
+    // Puts an entry in the place of the one at a place. Where both have one level no other entry is looked at; else the
+    // table of parents is made anew. Want of memory leaves the entries as before.
+    pub(crate) fn set(
+        &mut self,
+        alloc: Global,
+        place: usize,
+        entry: Rc<Entry>,
+    ) -> Result<(), AllocError>
+        requires { place < length self.old }
+        ensures ok { OnOk result (self.new ≡ slice_set self.old place entry.value) }
+        ensures err { OnErr result (self.new ≡ self.old) }
+    {
+        if level_of(&self.list[place]) == level_of(&entry) {
+            self.list[place] = entry;
+            return Ok(());
+        }
+        let before = mem::replace(&mut self.list[place], entry);
+        match parent_table(alloc, &Levels::of(&self.list)) {
+            Ok(parents) => {
+                self.parents = parents;
+                Ok(())
+            }
+            Err(refused) => {
+                self.list[place] = before;
+                Err(refused)
+            }
+        }
+    }
+
     // How many entries there are.
     pub(crate) fn count(&self) -> usize
         ensures value { result ≡ length self.now }
@@ -120,5 +150,15 @@ impl Body {
         ensures value { GivesItems result (all_ends (levels self.now)) }
     {
         end_table(alloc, &Levels::of(&self.list))
+    }
+}
+
+impl Clone for Body {
+    ghost is_clone = { λ s t. t ≡ s };
+
+    fn clone(&self) -> Result<Body, AllocError> {
+        let list = self.list.clone()?;
+        let parents = self.parents.clone()?;
+        Ok(Body { list, parents })
     }
 }

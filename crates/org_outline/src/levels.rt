@@ -12,7 +12,7 @@ use std::marker::Model;
 use std::rc::Rc;
 
 // The level of an entry; None where it is no heading.
-fn level_of(entry: &Entry) -> Option<u32>
+pub(crate) fn level_of(entry: &Entry) -> Option<u32>
     ensures value { result ≡ level_of entry.now }
 {
     let head = entry.head.as_ref()?;

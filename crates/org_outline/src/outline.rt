@@ -1,5 +1,5 @@
 //! Entries of one text with the tree of their headings.
-ghost use Rattle.std.specs.Prelude.{◌≡◌, ◌<◌, ◌≤◌, [], length, slice_index_or, IfOk, IfErr, OnOk, OnErr, IsOkUnless};
+ghost use Rattle.std.specs.Prelude.{◌≡◌, ◌<◌, ◌≤◌, [], length, slice_index_or, slice_set, IfOk, IfErr, OnOk, OnErr, IsOkUnless};
 ghost use Rattle.std.specs.List.{splice};
 ghost use Rattle.org_base.specs.Codes.{memory_fault};
 ghost use Rattle.org_base.specs.Results.{Gives, GivesItems};
@@ -166,6 +166,21 @@ impl Outline {
         }
     }
 
+    /// Puts an entry, which others may hold too, in the place of the one at a place. Where both have one level no other
+    /// entry is looked at, unless the outline is shared with another one: then its lists are copied first. Else the table of
+    /// parents is made anew by a pass over all entries. Want of memory is the only refusal, and leaves the outline as before.
+    pub fn set(&mut self, place: usize, entry: &Rc<Entry>) -> Result<(), Fault>
+        requires { place < length self.old }
+        ensures ok { OnOk result (self.new ≡ slice_set self.old place entry.now.value) }
+        ensures err { OnErr result (self.new ≡ self.old) }
+        ensures memory { IsOkUnless result memory_fault }
+    {
+        match &mut self.body {
+            None => Ok(()),
+            Some(body) => Ok(set_in(self.alloc, body, place, entry)?),
+        }
+    }
+
     // Puts entries into an outline that has none.
     fn fill(&mut self, entries: Entries) -> Result<(), Refused>
         requires empty { self.old ≡ [] }
@@ -212,4 +227,20 @@ fn shared_with(
 {
     let body = body.replaced(alloc, range, entries.as_slice())?;
     Ok(Rc::new(alloc, body)?)
+}
+
+// Puts an entry, which others may hold too, in the place of the one at a place of a body that may be shared. Want of memory
+// leaves the entries as before.
+fn set_in(
+    alloc: Global,
+    body: &mut Rc<Body>,
+    place: usize,
+    entry: &Rc<Entry>,
+) -> Result<(), AllocError>
+    requires { place < length body.old.value }
+    ensures ok { OnOk result (body.new.value ≡ slice_set body.old.value place entry.now.value) }
+    ensures err { OnErr result (body.new.value ≡ body.old.value) }
+{
+    let entry = entry.clone()?;
+    Rc::make_mut(body)?.set(alloc, place, entry)
 }
