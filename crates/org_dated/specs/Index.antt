@@ -31,9 +31,9 @@ all_ids p wanted settings (first ∷ firsts) (e ∷ es) = ids_of p wanted first 
 abbrev pub HaveSame : List (ℕ × Extent) → List (ℕ × Extent) → Type 0
 HaveSame xs ys = (weight : ℕ × Extent → ℕ) → sum_by weight xs ≡ sum_by weight ys
 
--- so many ids from a first one on are a place's
+-- so many ids from a first one on were given, to a place
 abbrev pub AreHomes : List ℕ → ℕ → ℕ → ℕ → Type 0
-AreHomes homes first count place = (j : ℕ) → j < count → slice_get homes (first + j) ≡ Some place
+AreHomes homes first count place = (first + count ≤ length homes) × ((j : ℕ) → j < count → slice_get homes (first + j) ≡ Some place)
 
 -- the ids of each of some entries, the first of which stands at a place, are its place's
 abbrev pub AreHoused : FileSettings → List ℕ → ℕ → List ℕ → List Entry → Type 0

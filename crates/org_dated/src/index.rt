@@ -1,5 +1,5 @@
 //! The stamps of a file's headings, found by days.
-ghost use Rattle.std.specs.Prelude.{◌≡◌, ◌≤◌, ◌<◌, ◌+◌, ◌^◌, ◌∷◌, List, [], length, slice_set, IfOk, OnErr, OnOk, IsOkUnless};
+ghost use Rattle.std.specs.Prelude.{◌≡◌, ◌≤◌, ◌<◌, ◌+◌, ◌^◌, ◌∷◌, List, [], get_or, length, slice_set, IfOk, OnErr, OnOk, IsOkUnless};
 ghost use Rattle.org_base.specs.Codes.{memory_fault};
 ghost use Rattle.org_entry.specs.declared.entry.Entry.{Entry as AnyEntry};
 ghost use Rattle.org_index.specs.Ticks.{Examines};
@@ -16,6 +16,9 @@ use org_outline::Outline;
 use org_settings::Settings;
 use std::alloc::{AllocError, Global};
 use std::collections::BTreeSet;
+
+// So many ids can be given: they are numbers of 32 bits.
+const MOST_IDS: usize = 4_294_967_296;
 
 // The stamps of a file's headings in two indexes: of those that press, and of the others. Ids count up from 0 and are never
 // given twice.
@@ -76,11 +79,20 @@ impl StampIndex {
     {
         let mut own = Vec::new(alloc);
         write_bare(&mut own, settings, outline.entry(place))?;
-        self.take_stamps(self.firsts[place], own.as_slice());
+        let first = self.first_id(place);
+        self.take_stamps(first, own.as_slice());
         write_bare(&mut own, settings, entry)?;
         let first = self.put_stamps(place, own.as_slice())?;
         self.firsts[place] = first;
         Ok(())
+    }
+
+    // The first id of the stamps of the heading at a place.
+    fn first_id(&self, place: usize) -> usize
+        requires { place < length self.now.firsts.items }
+        ensures value { result ≡ get_or self.now.firsts.items place 0 }
+    {
+        self.firsts[place]
     }
 
     // Puts stamps of the heading at a place in, under ids that were never given; the first of these ids. Want of memory is the
@@ -104,9 +116,11 @@ impl StampIndex {
         ensures ok { OnOk result (HasPut place (stamp.now ∷ []) self.old self.new) }
         ensures memory { IsOkUnless result memory_fault }
     {
-        let Ok(id) = u32::try_from(self.homes.len()) else {
+        let id = self.homes.len();
+        if id >= MOST_IDS {
             return Err(Fault::Plain(Code::Memory));
-        };
+        }
+        let id = id as u32;
         self.homes.push(place)?;
         if is_pressing(stamp) {
             self.pressing.put(&stamp.stamp, self.profile, id)

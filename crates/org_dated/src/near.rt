@@ -1,5 +1,5 @@
 //! The stamps of files that are near some days.
-ghost use Rattle.std.specs.Prelude.{◌≡◌, OnOk};
+ghost use Rattle.std.specs.Prelude.{◌≡◌, [], OnOk};
 ghost use Rattle.org_base.specs.Results.{Adds};
 ghost use Rattle.org_agenda.specs.Facts.{HasOwnHead, stamps_at};
 ghost use Rattle.org_agenda.specs.Headings.{HaveHeads};
@@ -42,6 +42,8 @@ impl NearSources {
         requires all { HoldAskedIn asked.now places.now file inherit.now }
         ensures ok { Adds result self.old.found self.new.found (asked_of_file asked.now inherit.now file) }
     {
+        // For the proof alone: the places of a set rise.
+        let _ordered = places.len();
         for heading in places {
             if let Some(facts) = heading_at(inherit, file, *heading) {
                 self.push_heading(&facts, asked)?;

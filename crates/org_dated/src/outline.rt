@@ -14,7 +14,7 @@ use org_entry::Entry;
 use org_inherit::Inherit;
 use org_outline::Outline;
 use org_settings::Settings;
-use std::alloc::{AllocError, Global};
+use std::alloc::Global;
 use std::collections::BTreeSet;
 use std::marker::Model;
 use std::rc::Rc;
@@ -183,7 +183,7 @@ impl DatedOutline {
 }
 
 // The indexes alone: where others share them, a copy.
-fn owned(index: Rc<StampIndex>) -> Result<StampIndex, AllocError>
+fn owned(index: Rc<StampIndex>) -> Result<StampIndex, Fault>
     ensures value { IfOk result (IsCopy index.value) }
 {
     match Rc::try_unwrap(index) {
