@@ -42,6 +42,13 @@ passes_next test es i d h =
     ap (λ b. b || list_any (λ j. get_or (map test es) j false) (ancestors (levels es) i)) (get_or-map test es i d false h)
     ∙ ap (λ v. test (get_or es i d) || list_any (λ j. get_or (map test es) j false) v) (ancestors_step (levels es) i)
 
+-- what doesn't pass by itself passes by its parent
+pub passes_above : (test : Entry → Bool) (es : List Entry) (i : ℕ) (d : Entry) → i < length es → test (get_or es i d) ≡ false →
+    one_passes test es i ≡ list_any (λ j. get_or (map test es) j false) (up_from (levels es) (parent (levels es) i))
+passes_above test es i d h fails =
+    passes_next test es i d h
+    ∙ ap (λ b. b || list_any (λ j. get_or (map test es) j false) (up_from (levels es) (parent (levels es) i))) fails
+
 -- a table of the entries before, at the parent
 pub table_of_parent : (test : Entry → Bool) (es : List Entry) (i : ℕ) (p : Option ℕ) → behind p ≤ i →
     of_parent (map (one_passes test es) (range_with_len 0 i)) p ≡ list_any (λ j. get_or (map test es) j false) (up_from (levels es) p)

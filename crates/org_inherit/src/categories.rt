@@ -4,6 +4,7 @@ ghost use Rattle.org_base.specs.Results.{Gives};
 ghost use Rattle.org_inherit.specs.Category.{category_under, first_categories};
 ghost use Rattle.org_inherit.specs.Tables.{AreCategories, has_categories};
 
+use crate::values::nearest_value;
 use org_outline::Outline;
 use std::alloc::{AllocError, Global};
 use std::marker::Model;
@@ -85,4 +86,19 @@ pub(crate) fn own_categories<'a>(
         categories.push(category)?;
     }
     Ok(Some(categories))
+}
+
+// The category of the entry at a place, in a file with this one, found along the ancestors.
+pub(crate) fn category_under<'a>(
+    outline: &'a Outline,
+    place: usize,
+    file_category: &'a [u8],
+) -> &'a [u8]
+    requires within { place < length outline.now }
+    ensures value { result.now ≡ category_under outline.now file_category.now place }
+{
+    match nearest_value(outline, place, b"CATEGORY") {
+        Some(category) => category,
+        None => file_category,
+    }
 }

@@ -8,10 +8,12 @@ ghost use Rattle.org_inherit.specs.Hidden.{is_hidden};
 ghost use Rattle.org_inherit.specs.Scope.{scope_with};
 ghost use Rattle.org_inherit.specs.Special.{special_value, value_of};
 ghost use Rattle.org_inherit.specs.declared.special.Special.TheVariants.{AllTags, Own};
+ghost use Rattle.org_inherit.specs.Tables.{has_tags, one_passes};
 ghost use Rattle.org_inherit.specs.Tags.{all_tags};
 ghost use Rattle.org_inherit.specs.Values.{plain_value};
 
-use crate::categories::{Categories, own_categories};
+use crate::ancestors::{Test, lineage_passes};
+use crate::categories::category_under;
 use crate::category::file_category;
 use crate::heading::{copied, heading_value};
 use crate::special::{HeadingValue, Special};
@@ -34,10 +36,9 @@ pub struct Inherit<'a> {
     settings: &'a Settings,
     file: &'a str,
     inherited: &'a Texts,
-    tables: Tables,
     file_category: &'a [u8],
-    // None where all have the file's.
-    categories: Option<Categories<'a>>,
+    // None where the ancestors are asked each time.
+    tables: Option<Tables<'a>>,
 }
 
 impl<'a> Model for Inherit<'a> {
@@ -48,7 +49,7 @@ impl<'a> Model for Inherit<'a> {
 
     ghost view = { λ i. scope_with i.outline.now i.settings.now i.file.now i.inherited.now };
 
-    ghost invariant = { λ i. HasTables (scope_with i.outline.now i.settings.now i.file.now i.inherited.now) i.tables.hidden.items i.tables.tagged.items i.file_category.now i.categories };
+    ghost invariant = { λ i. HasTables (scope_with i.outline.now i.settings.now i.file.now i.inherited.now) i.file_category.now i.tables };
 }
 
 impl<'a> Inherit<'a> {
@@ -65,18 +66,38 @@ impl<'a> Inherit<'a> {
         ensures memory { IsOkUnless result memory_fault }
     {
         let file_category = file_category(outline, settings, file);
-        let tables = Tables::of(alloc, outline)?;
-        let categories = own_categories(alloc, outline, file_category, tables.has_categories)?;
+        let tables = Tables::of(alloc, outline, file_category)?;
         Ok(Inherit {
             alloc,
             outline,
             settings,
             file,
             inherited,
-            tables,
             file_category,
-            categories,
+            tables: Some(tables),
         })
+    }
+
+    /// The same, found along the ancestors of a heading each time it is asked. Nothing is passed over and it takes no
+    /// memory: for views that ask of few headings.
+    pub fn by_ancestors(
+        alloc: Global,
+        outline: &'a Outline,
+        settings: &'a Settings,
+        file: &'a str,
+        inherited: &'a Texts,
+    ) -> Inherit<'a>
+        ensures value { result ≡ scope_with outline.now settings.now file.now inherited.now }
+    {
+        Inherit {
+            alloc,
+            outline,
+            settings,
+            file,
+            inherited,
+            file_category: file_category(outline, settings, file),
+            tables: None,
+        }
     }
 
     /// The outline.
@@ -106,7 +127,10 @@ impl<'a> Inherit<'a> {
         requires { place < length self.now.entries }
         ensures value { result ≡ is_hidden self.now.entries place }
     {
-        self.tables.hidden[place]
+        match &self.tables {
+            Some(tables) => tables.marks.hidden[place],
+            None => lineage_passes(self.outline, place, Test::Hides),
+        }
     }
 
     /// The file's tags, the tags of the ancestors from the outermost, and the own tags; of equal ones the first (Org
@@ -117,13 +141,19 @@ impl<'a> Inherit<'a> {
         ensures memory { IsOkUnless result memory_fault }
     {
         let file_tags = self.settings.file_tags();
-        all_tags(
-            self.alloc,
-            file_tags,
-            self.outline,
-            place,
-            self.tables.tagged[place],
-        )
+        let tagged = self.tagged(place);
+        all_tags(self.alloc, file_tags, self.outline, place, tagged)
+    }
+
+    // Whether the entry or an ancestor of it has own tags.
+    fn tagged(&self, place: usize) -> bool
+        requires { place < length self.now.entries }
+        ensures value { result ≡ one_passes has_tags self.now.entries place }
+    {
+        match &self.tables {
+            Some(tables) => tables.marks.tagged[place],
+            None => lineage_passes(self.outline, place, Test::HasTags),
+        }
     }
 
     /// The category, lent (Org manual 9.6, "Categories"): the own property `CATEGORY`, else the nearest ancestor's, else
@@ -133,9 +163,12 @@ impl<'a> Inherit<'a> {
         requires { place < length self.now.entries }
         ensures value { result.now ≡ category self.now place }
     {
-        match &self.categories {
-            Some(categories) => categories.get(place),
-            None => self.file_category,
+        match &self.tables {
+            Some(tables) => match &tables.categories {
+                Some(categories) => categories.get(place),
+                None => self.file_category,
+            },
+            None => category_under(self.outline, place, self.file_category),
         }
     }
 

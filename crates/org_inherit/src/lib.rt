@@ -4,6 +4,7 @@
 //! and the names whose values are inherited. Nothing is changed by any call.
 #![tactic(auto)]
 
+mod ancestors;
 mod categories;
 mod category;
 mod first_tags;

@@ -1,28 +1,52 @@
 //! What the outline says of each entry, by its place.
 ghost use Rattle.std.specs.Prelude.{◌≡◌, ◌≤◌, ◌||◌, length, IfOk};
 ghost use Rattle.org_inherit.specs.Hidden.{hides, of_parent};
-ghost use Rattle.org_inherit.specs.Tables.{all_passing, has_category, has_tags, has_categories};
+ghost use Rattle.org_inherit.specs.Tables.{all_passing, has_category, has_tags, has_categories, AreTables};
 ghost use Rattle.org_outline.specs.Places.{behind};
 
+use crate::categories::{Categories, own_categories};
 use crate::hidden::hides;
 use org_entry::Entry;
 use org_outline::Outline;
 use std::alloc::{AllocError, Global};
 
+// The marks and the categories of all entries.
+#[derive(Debug, Drop)]
+pub(crate) struct Tables<'a> {
+    pub marks: Marks,
+    // None where all have the file's.
+    pub categories: Option<Categories<'a>>,
+}
+
+impl<'a> Tables<'a> {
+    // Those of an outline, in a file with this category. Want of memory is its only refusal.
+    pub(crate) fn of(
+        alloc: Global,
+        outline: &'a Outline,
+        file_category: &'a [u8],
+    ) -> Result<Tables<'a>, AllocError>
+        ensures value { IfOk result (AreTables outline.now file_category.now) }
+    {
+        let marks = Marks::of(alloc, outline)?;
+        let categories = own_categories(alloc, outline, file_category, marks.has_categories)?;
+        Ok(Tables { marks, categories })
+    }
+}
+
 // Of each entry whether it is hidden and whether it has tags, own or inherited, and whether any has its own category.
 #[derive(Debug, Drop)]
-pub(crate) struct Tables {
+pub(crate) struct Marks {
     pub hidden: Vec<bool>,
     pub tagged: Vec<bool>,
     pub has_categories: bool,
 }
 
-impl Tables {
+impl Marks {
     // Those of all entries, in one pass over the outline. Want of memory is its only refusal.
-    pub(crate) fn of(alloc: Global, outline: &Outline) -> Result<Tables, AllocError>
-        ensures hidden { IfOk result (λ tables. tables.hidden.items ≡ all_passing hides outline.now) }
-        ensures tagged { IfOk result (λ tables. tables.tagged.items ≡ all_passing has_tags outline.now) }
-        ensures categories { IfOk result (λ tables. tables.has_categories ≡ has_categories outline.now) }
+    fn of(alloc: Global, outline: &Outline) -> Result<Marks, AllocError>
+        ensures hidden { IfOk result (λ marks. marks.hidden.items ≡ all_passing hides outline.now) }
+        ensures tagged { IfOk result (λ marks. marks.tagged.items ≡ all_passing has_tags outline.now) }
+        ensures categories { IfOk result (λ marks. marks.has_categories ≡ has_categories outline.now) }
     {
         let count = outline.count();
         let mut hidden = Vec::with_capacity(alloc, count)?;
@@ -37,7 +61,7 @@ impl Tables {
             tagged.push(has_tags)?;
             has_categories |= has_category(entry);
         }
-        Ok(Tables {
+        Ok(Marks {
             hidden,
             tagged,
             has_categories,
@@ -65,7 +89,7 @@ fn of_parent(table: &[bool], parent: Option<usize>) -> bool
 }
 
 // Whether an entry has own tags.
-fn has_tags(entry: &Entry) -> bool
+pub(crate) fn has_tags(entry: &Entry) -> bool
     ensures value { result ≡ has_tags entry.now }
 {
     match &entry.head {

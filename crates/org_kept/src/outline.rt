@@ -61,6 +61,20 @@ impl FileOutline {
             inherited,
         )
     }
+
+    /// The same, found along the ancestors of a heading each time it is asked. Nothing is passed over and it takes no
+    /// memory: for views that ask of few headings.
+    pub fn inherit_by_ancestors<'a>(
+        &'a self,
+        alloc: Global,
+        name: &'a str,
+        inherited: &'a Texts,
+    ) -> Inherit<'a>
+        ensures value { result ≡ scope_in self.now name.now inherited.now }
+    {
+        let settings = self.settings.as_ref();
+        Inherit::by_ancestors(alloc, &self.outline, settings, name, inherited)
+    }
 }
 
 // The outline of those sections that were read, which shares their entries. Want of memory is the only refusal.
