@@ -11,6 +11,7 @@ pub mod PlaceLemmas
 pub mod QuietLemmas
 pub mod ReadLemmas
 pub mod RenewLemmas
+pub mod ShownLemmas
 pub mod SingleLemmas
 pub mod StartLemmas
 pub mod TouchedLemmas

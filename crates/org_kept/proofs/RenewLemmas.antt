@@ -3,8 +3,7 @@ use Rattle.std.proofs.Common.{◌≡◌, ◌≢◌, List, ℕ, refl, subst}
 use Rattle.std.specs.Prelude.{Option, Some, None}
 use Rattle.std.specs.declared.alloc.Global.{Global}
 use Rattle.std.specs.declared.rc.Rc.{Rc}
-use Rattle.org_kept.specs.File.{FileView, IsReady, unread}
-use Rattle.org_kept.specs.Outline.{OutlineView, file_settings}
+use Rattle.org_kept.specs.Outline.{file_settings}
 use Rattle.org_kept.specs.Renewed.{IsRenewed}
 use Rattle.org_settings.specs.declared.settings.Settings.{Settings}
 
@@ -14,7 +13,3 @@ renewed_none old new (Some s) h none = absurd (none s refl)
 
 pub renewed_some : (old new : List ℕ) (o : Option (Rc Settings Global)) (s : Rc Settings Global) → IsRenewed old new o → o ≡ Some s → (s.value ≡ file_settings new) × (file_settings new ≢ file_settings old)
 renewed_some old new o s h is = subst (λ x. IsRenewed old new x) is h
-
--- where a kept outline is answered, nothing is pending
-pub ready_read : (file : FileView) (o : Option OutlineView) (says : OutlineView) → IsReady file o → o ≡ Some says → unread file.marks ≡ 0
-ready_read file o says h is = (subst (λ (x : Option OutlineView). IsReady file x) is h).1

@@ -1,5 +1,5 @@
 -- A file as contracts see it, and what is kept of it (profile).
-use Rattle.std.specs.Prelude.{◌≡◌, ◌↔◌, ℕ, ◌+◌, ◌-◌, Bool, true, false, not, if◌then◌else◌, List, [], ◌∷◌, map, length, replicate, take, drop, get_or, Option, None, Some, IfSome, IsTrue, count_by}
+use Rattle.std.specs.Prelude.{◌≡◌, ◌↔◌, ℕ, ◌+◌, ◌-◌, Bool, true, false, not, if◌then◌else◌, List, [], ◌∷◌, map, length, replicate, take, drop, get_or, None, Some, IfSome, IsTrue, count_by}
 use Rattle.std.specs.List.{AllZip, flat_map, splice, position_or_len}
 use Rattle.org_base.specs.Spans.{bytes_in}
 use Rattle.org_base.specs.declared.span.Span.{Span}
@@ -7,8 +7,7 @@ use Rattle.org_class.specs.Changes.{first_touched, touched_end, new_sections}
 use Rattle.org_class.specs.Classes.{section_classes, section_settings}
 use Rattle.org_class.specs.Sections.{sections}
 use Rattle.org_entry.specs.Entry.{entry_of}
-use Rattle.org_entry.specs.declared.entry.Entry.{Entry}
-use Rattle.org_kept.specs.Outline.{OutlineView, file_entries, file_settings, outline_of}
+use Rattle.org_kept.specs.Outline.{file_settings}
 use Rattle.org_kept.specs.Sections.{SectionView, fresh_section, is_pending}
 use Rattle.org_settings.specs.Settings.{FileSettings}
 use Rattle.org_text.specs.Replace.{replace}
@@ -87,11 +86,6 @@ pub record IsKept (text : List ℕ) (list : List SectionView) (settings : FileSe
   pub list_is : AreOf text list
   pub says : AllSay (file_settings text) text list
 
--- and an outline, where there is one, has the file's entries
-pub record IsFile (text : List ℕ) (list : List SectionView) (settings : FileSettings) (outline : Option (List Entry)) : Type 0 where
-  pub kept : IsKept text list settings
-  pub outline_is : IfSome outline (λ entries. entries ≡ file_entries text)
-
 -- a section that was read
 abbrev pub read_section : FileSettings → List ℕ → SectionView
 read_section settings s = record { len = length s; classes = section_classes s; entry = Some (entry_of settings s) }
@@ -124,7 +118,3 @@ lines_at text place = section_settings (get_or (sections text) place [])
 -- the setting lines of the sections from one place up to another
 abbrev pub lines_between : List ℕ → ℕ → ℕ → List (List ℕ)
 lines_between text from to = flat_map section_settings (take (to - from) (drop from (sections text)))
-
--- what a file says, which is there only where nothing is pending
-abbrev pub IsReady : FileView → Option OutlineView → Type 0
-IsReady file ready = IfSome ready (λ says. (says ≡ outline_of file.text) × (unread file.marks ≡ 0))

@@ -7,19 +7,17 @@ ghost use Rattle.org_base.specs.declared.meter.Tick.TheVariants.{Read};
 ghost use Rattle.org_class.specs.Ticks.{AllClassified, SomeClassified};
 ghost use Rattle.org_kept.specs.Begun.{IsBegunBy, entry_there, has_heading, lines_before, section_start};
 ghost use Rattle.org_kept.specs.Counts.{SomeRead, have_read};
-ghost use Rattle.org_kept.specs.File.{IsReady, all_marked, fresh_file, marked, read_sections, unread, unread_at, with_first_read};
+ghost use Rattle.org_kept.specs.File.{all_marked, fresh_file, marked, read_sections, unread, unread_at, with_first_read};
 ghost use Rattle.org_kept.specs.Outline.{file_settings, outline_of};
 
 use crate::fresh::list_of;
-use crate::outline::{FileOutline, outline_in, shared};
+use crate::outline::FileOutline;
 use crate::read::{all_read, read_in};
-use crate::section::Section;
+use crate::sections::Sections;
 use crate::settings::shared_settings;
 use org_base::{Fault, Meter};
 use org_class::Settings;
 use org_entry::{Document, Entry};
-use org_outline::Outline;
-use org_sequence::Sequence;
 use org_text::Text;
 use std::alloc::{AllocError, Global};
 use std::marker::Model;
@@ -33,22 +31,20 @@ use std::rc::Rc;
 pub struct File<T: Text> {
     pub(crate) text: T,
     pub(crate) serial: u64,
-    pub(crate) list: Sequence<Section>,
+    pub(crate) sections: Sections,
     pub(crate) settings: Rc<Settings>,
-    // Of all sections, once all were read; a change forgets it.
-    pub(crate) outline: Option<Outline>,
 }
 
 impl<T: Text> Model for File<T> {
     ghost use Rattle.std.specs.Prelude.{map};
-    ghost use Rattle.org_kept.specs.File.{FileView, IsFile};
+    ghost use Rattle.org_kept.specs.File.{FileView, IsKept};
     ghost use Rattle.org_kept.specs.Sections.{is_read};
 
     ghost Value = { FileView };
 
-    ghost view = { λ f. record { text = T.content f.text; serial = f.serial; marks = map is_read f.list } };
+    ghost view = { λ f. record { text = T.content f.text; serial = f.serial; marks = map is_read f.sections } };
 
-    ghost invariant = { λ f. IsFile (T.content f.text) f.list f.settings.value f.outline };
+    ghost invariant = { λ f. IsKept (T.content f.text) f.sections f.settings.value };
 }
 
 impl<T: Text> File<T> {
@@ -65,9 +61,8 @@ impl<T: Text> File<T> {
         Ok(File {
             text,
             serial,
-            list,
+            sections: Sections::new(list),
             settings,
-            outline: None,
         })
     }
 
@@ -96,7 +91,7 @@ impl<T: Text> File<T> {
     pub fn pending(&self) -> u32
         ensures value { result ≡ unread self.now.marks }
     {
-        self.list.marks()
+        self.sections.list().marks()
     }
 
     /// The place of the section that begins with a line, from 0; None where none does, and then no heading stands on the
@@ -107,10 +102,10 @@ impl<T: Text> File<T> {
         ensures none { result ≡ None → has_heading self.now.text line ≡ false }
     {
         let before = line.checked_sub(1)?;
-        if before >= u64::from(self.list.lines()) {
+        if before >= u64::from(self.sections.list().lines()) {
             return None;
         }
-        let (place, first) = self.list.find_line(before as u32);
+        let (place, first) = self.sections.list().find_line(before as u32);
         if before == u64::from(first) {
             Some(place)
         } else {
@@ -123,7 +118,7 @@ impl<T: Text> File<T> {
         requires { place < length self.now.marks }
         ensures value { result ≡ section_start self.now.text place }
     {
-        self.list.size_before(place)
+        self.sections.list().size_before(place)
     }
 
     /// The line of the text with which the section at a place begins. Lines count from 1.
@@ -133,8 +128,8 @@ impl<T: Text> File<T> {
     {
         // For the proof alone: a text has no more lines than bytes.
         let _bytes = self.text.len();
-        let _lines = self.list.lines();
-        self.list.lines_before(place) + 1
+        let _lines = self.sections.list().lines();
+        self.sections.list().lines_before(place) + 1
     }
 
     /// What the section at a place says, lent; None where it is still to be read.
@@ -143,7 +138,7 @@ impl<T: Text> File<T> {
         ensures mark { is_some result ≡ get_or self.now.marks place false }
         ensures value { IfSome result (λ e. e.now ≡ entry_there self.now.text place) }
     {
-        self.list.get(place).entry()
+        self.sections.list().get(place).entry()
     }
 
     /// Reads the section at a place, if it is still to be read; then the meter counts one as read. Want of memory is the
@@ -174,7 +169,7 @@ impl<T: Text> File<T> {
             text: &self.text,
             settings: self.settings.as_ref(),
         };
-        read_in(alloc, meter, &document, &mut self.list, place)?;
+        read_in(alloc, meter, &document, &mut self.sections, place)?;
         Ok(())
     }
 
@@ -189,7 +184,7 @@ impl<T: Text> File<T> {
         ensures few { OnErr result (meter.new ≡ ticked Read meter.old) }
         ensures memory { IsOkUnless result memory_fault }
     {
-        let Some(place) = self.list.first_marked(0) else {
+        let Some(place) = self.sections.list().first_marked(0) else {
             return Ok(false);
         };
         self.read_anew(alloc, meter, place)?;
@@ -206,18 +201,33 @@ impl<T: Text> File<T> {
         ensures few { OnErr result (SomeRead (unread self.old.marks) meter.old meter.new) }
         ensures memory { IsOkUnless result memory_fault }
     {
+        let sections = self.read_apart(alloc, meter)?;
+        self.sections = sections;
+        Ok(())
+    }
+
+    // All sections, read apart from the file, as the meter counts. The outline goes over to them. Want of memory is the
+    // only refusal; then some of them may have been counted.
+    fn read_apart(&mut self, alloc: Global, meter: &mut Meter) -> Result<Sections, Fault>
+        ensures value { Gives result (read_sections (file_settings self.old.text) self.old.text) }
+        ensures same { self.new ≡ self.old }
+        ensures counts { OnOk result (meter.new ≡ have_read (unread self.old.marks) meter.old) }
+        ensures few { OnErr result (SomeRead (unread self.old.marks) meter.old meter.new) }
+        ensures memory { IsOkUnless result memory_fault }
+    {
+        let sections = self.sections.taken()?;
         let document = Document {
             text: &self.text,
             settings: self.settings.as_ref(),
         };
-        let list = all_read(alloc, meter, &document, &self.list)?;
-        self.list = list;
-        Ok(())
+        all_read(alloc, meter, &document, sections)
     }
 
     /// What the file says, shared with it. All sections that are still to be read are read first: the meter counts each
-    /// once. The outline is kept until the next change, so with nothing pending a second call takes two counts and no pass.
-    /// Want of memory is the only refusal, and leaves the file as before; then some of the sections may have been counted.
+    /// once. The outline is kept as long as the settings and the number of sections stay, and what is read anew is put into
+    /// it: where few sections are still to be read, whose levels are as before, no other one is looked at, unless a clone
+    /// shares the outline: then its lists are copied first. Want of memory is the only refusal, and leaves the file as
+    /// before; then some of the sections may have been counted.
     pub fn outlined(&mut self, alloc: Global, meter: &mut Meter) -> Result<FileOutline, Fault>
         ensures value { Gives result (outline_of self.old.text) }
         ensures ok { OnOk result (self.new ≡ record self.old { marks = all_marked self.old.marks }) }
@@ -226,44 +236,22 @@ impl<T: Text> File<T> {
         ensures few { OnErr result (SomeRead (unread self.old.marks) meter.old meter.new) }
         ensures memory { IsOkUnless result memory_fault }
     {
-        if let Some(file) = self.ready()? {
-            return Ok(file);
-        }
-        let document = Document {
-            text: &self.text,
-            settings: self.settings.as_ref(),
-        };
-        let list = all_read(alloc, meter, &document, &self.list)?;
-        self.keep(alloc, list)
+        let sections = self.read_apart(alloc, meter)?;
+        self.keep(alloc, sections)
     }
 
-    // What the file says, where nothing is pending and the outline is kept. Want of memory is the only refusal.
-    fn ready(&self) -> Result<Option<FileOutline>, Fault>
-        ensures value { IfOk result (IsReady self.now) }
-        ensures memory { IsOkUnless result memory_fault }
-    {
-        if self.list.marks() > 0 {
-            return Ok(None);
-        }
-        match &self.outline {
-            None => Ok(None),
-            Some(outline) => Ok(Some(FileOutline::of(outline, &self.settings)?)),
-        }
-    }
-
-    // Takes over the list of the sections, which were all read, and keeps its outline; what the file says. Want of memory
-    // is the only refusal, and leaves the file as before.
-    fn keep(&mut self, alloc: Global, list: Sequence<Section>) -> Result<FileOutline, Fault>
-        requires read { list ≡ read_sections (file_settings self.old.text) self.old.text }
+    // Takes over the sections, which were all read; what the file says. Want of memory is the only refusal, and leaves the
+    // file as before.
+    fn keep(&mut self, alloc: Global, mut sections: Sections) -> Result<FileOutline, Fault>
+        requires read { sections ≡ read_sections (file_settings self.old.text) self.old.text }
         ensures value { Gives result (outline_of self.old.text) }
         ensures ok { OnOk result (self.new ≡ record self.old { marks = all_marked self.old.marks }) }
         ensures err { OnErr result (self.new ≡ self.old) }
         ensures memory { IsOkUnless result memory_fault }
     {
-        let outline = outline_in(alloc, &list)?;
+        let outline = sections.outline(alloc)?;
         let file = FileOutline::of(&outline, &self.settings)?;
-        self.list = list;
-        self.outline = Some(outline);
+        self.sections = sections;
         Ok(file)
     }
 }
@@ -274,15 +262,13 @@ impl<T: Text> Clone for File<T> {
     fn clone(&self) -> Result<File<T>, AllocError> {
         match self.text.share() {
             Ok(text) => {
-                let list = self.list.share()?;
+                let sections = self.sections.share()?;
                 let settings = self.settings.clone()?;
-                let outline = shared(&self.outline)?;
                 Ok(File {
                     text,
                     serial: self.serial,
-                    list,
+                    sections,
                     settings,
-                    outline,
                 })
             }
             Err(_) => Err(AllocError),

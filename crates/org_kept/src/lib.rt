@@ -1,8 +1,8 @@
 //! The kept sections of a file.
 //!
 //! Of each section of a text stands how long it is, the classes of its lines and, where it was read, what it says. An edit
-//! makes those anew that it touches; all others stay as they are. What all of them say is one outline, kept until the next
-//! edit and shared with those who ask.
+//! makes those anew that it touches; all others stay as they are. What all of them say is one outline, shared with those who
+//! ask. It is kept as long as the number of sections stays: what is read anew is put into it.
 #![tactic(auto)]
 
 mod change;
@@ -15,6 +15,7 @@ mod quiet;
 mod read;
 mod renewed;
 mod section;
+mod sections;
 mod settings;
 mod touched;
 

@@ -13,6 +13,7 @@ ghost use Rattle.org_kept.specs.File.{AllSay, AreOf, Says, with_read, pending_on
 ghost use Rattle.org_kept.specs.Sections.{is_pending};
 
 use crate::section::Section;
+use crate::sections::Sections;
 use crate::settings::span_at;
 use org_base::{Fault, Meter, Span};
 use org_entry::{Document, read_entry};
@@ -65,20 +66,20 @@ pub(crate) fn read_in<T: Text>(
     alloc: Global,
     meter: &mut Meter,
     document: &Document<'_, T>,
-    list: &mut Sequence<Section>,
+    sections: &mut Sections,
     place: u32,
 ) -> Result<(), Fault>
-    requires kept { AreOf (T.content document.now.text.now) list.old }
-    requires within { place < length list.old }
-    ensures ok { OnOk result (list.new ≡ with_read document.now.settings.now (T.content document.now.text.now) place list.old) }
-    ensures err { OnErr result (list.new ≡ list.old) }
+    requires kept { AreOf (T.content document.now.text.now) sections.old }
+    requires within { place < length sections.old }
+    ensures ok { OnOk result (sections.new ≡ with_read document.now.settings.now (T.content document.now.text.now) place sections.old) }
+    ensures err { OnErr result (sections.new ≡ sections.old) }
     ensures counts { meter.new ≡ ticked Read meter.old }
     ensures memory { IsOkUnless result memory_fault }
 {
     // For the proof alone: its contract says that the text is not too long.
     let _len = document.text.len();
-    let section = read_at(alloc, meter, document, list, place)?;
-    Ok(list.set(place, section)?)
+    let section = read_at(alloc, meter, document, sections.list(), place)?;
+    Ok(sections.set(place, section)?)
 }
 
 // The sections of a document, all of them read: each that wasn't before is read once, as the meter counts. Want of memory is the
@@ -87,41 +88,41 @@ pub(crate) fn all_read<T: Text>(
     alloc: Global,
     meter: &mut Meter,
     document: &Document<'_, T>,
-    list: &Sequence<Section>,
-) -> Result<Sequence<Section>, Fault>
-    requires kept { AreOf (T.content document.now.text.now) list.now }
-    requires says { AllSay document.now.settings.now (T.content document.now.text.now) list.now }
+    sections: Sections,
+) -> Result<Sections, Fault>
+    requires kept { AreOf (T.content document.now.text.now) sections }
+    requires says { AllSay document.now.settings.now (T.content document.now.text.now) sections }
     ensures value { Gives result (read_sections document.now.settings.now (T.content document.now.text.now)) }
-    ensures counts { OnOk result (meter.new ≡ have_read (count_by is_pending list.now) meter.old) }
-    ensures few { OnErr result (SomeRead (count_by is_pending list.now) meter.old meter.new) }
+    ensures counts { OnOk result (meter.new ≡ have_read (count_by is_pending sections) meter.old) }
+    ensures few { OnErr result (SomeRead (count_by is_pending sections) meter.old meter.new) }
     ensures memory { IsOkUnless result memory_fault }
 {
-    if list.marks() <= list.len() / ONE_IN {
-        return read_singly(alloc, meter, document, list);
+    if sections.list().marks() <= sections.list().len() / ONE_IN {
+        return read_singly(alloc, meter, document, sections);
     }
     // For the proof alone: its contract says that the text is not too long.
     let _len = document.text.len();
-    let read = read_in_order(alloc, meter, document, list)?;
-    Ok(Sequence::of(alloc, read.as_slice())?)
+    let read = read_in_order(alloc, meter, document, sections.list())?;
+    Ok(Sections::new(Sequence::of(alloc, read.as_slice())?))
 }
 
-// The same, where few are still to be read: all others stay where they are.
+// The same, where few are still to be read: all others stay where they are, and the outline is mended.
 fn read_singly<T: Text>(
     alloc: Global,
     meter: &mut Meter,
     document: &Document<'_, T>,
-    list: &Sequence<Section>,
-) -> Result<Sequence<Section>, Fault>
-    requires kept { AreOf (T.content document.now.text.now) list.now }
-    requires says { AllSay document.now.settings.now (T.content document.now.text.now) list.now }
+    sections: Sections,
+) -> Result<Sections, Fault>
+    requires kept { AreOf (T.content document.now.text.now) sections }
+    requires says { AllSay document.now.settings.now (T.content document.now.text.now) sections }
     ensures value { Gives result (read_sections document.now.settings.now (T.content document.now.text.now)) }
-    ensures counts { OnOk result (meter.new ≡ have_read (count_by is_pending list.now) meter.old) }
-    ensures few { OnErr result (SomeRead (count_by is_pending list.now) meter.old meter.new) }
+    ensures counts { OnOk result (meter.new ≡ have_read (count_by is_pending sections) meter.old) }
+    ensures few { OnErr result (SomeRead (count_by is_pending sections) meter.old meter.new) }
     ensures memory { IsOkUnless result memory_fault }
 {
-    let mut read = list.share()?;
+    let mut read = sections;
     loop {
-        let Some(place) = read.first_marked(0) else {
+        let Some(place) = read.list().first_marked(0) else {
             return Ok(read);
         };
         read_in(alloc, meter, document, &mut read, place)?;

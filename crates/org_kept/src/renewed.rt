@@ -13,6 +13,7 @@ use crate::fresh::all_pending;
 use crate::listed::Listed;
 use crate::quiet::leaves_lines;
 use crate::section::Section;
+use crate::sections::Sections;
 use crate::settings::settings_of;
 use crate::touched::changed_list;
 use org_base::{Fault, Meter};
@@ -45,23 +46,21 @@ impl<T: Text> File<T> {
     {
         let old = Listed {
             text: &self.text,
-            list: &self.list,
+            list: self.sections.list(),
         };
         let list = changed_list(alloc, meter, &old, &text, change)?;
         let renewed = self.renewed(alloc, &text, &list, change)?;
         let Some(settings) = renewed else {
             self.text = text;
             self.serial = serial;
-            self.list = list;
-            self.outline = None;
+            self.sections.follow(list);
             return Ok(());
         };
         let pending = all_pending(alloc, &list)?;
         self.text = text;
         self.serial = serial;
-        self.list = pending;
+        self.sections = Sections::new(pending);
         self.settings = settings;
-        self.outline = None;
         Ok(())
     }
 
@@ -82,7 +81,7 @@ impl<T: Text> File<T> {
     {
         let old = Listed {
             text: &self.text,
-            list: &self.list,
+            list: self.sections.list(),
         };
         let new = Listed { text, list };
         if leaves_lines(alloc, &old, &new, change)? {

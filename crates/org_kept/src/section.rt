@@ -4,12 +4,12 @@ ghost use Rattle.std.specs.Prelude.{◌≡◌, ◌<◌, ◌≤◌, ◌++◌, Som
 ghost use Rattle.org_base.specs.Codes.{memory_fault};
 ghost use Rattle.org_base.specs.Results.{Gives};
 ghost use Rattle.org_kept.specs.Held.{classes_held, held};
-ghost use Rattle.org_kept.specs.Sections.{has_setting, is_pending, line_count, said, section_len};
+ghost use Rattle.org_kept.specs.Sections.{has_setting, is_pending, line_count, said, section_len, with_said};
 
 use org_base::Fault;
 use org_class::{Class, Classes};
 use org_entry::Entry;
-use org_outline::Entries;
+use org_outline::{Entries, Outline};
 use org_sequence::Measured;
 use std::alloc::{AllocError, Global};
 use std::marker::Model;
@@ -158,6 +158,20 @@ impl Section {
         match &self.entry {
             None => Ok(()),
             Some(entry) => entries.push_shared(entry),
+        }
+    }
+
+    // Puts what it says into an outline, which shares it, in the place of the entry at a place, where it was read. Want of
+    // memory is the only refusal, and leaves the outline as before.
+    pub(crate) fn put_entry(&self, outline: &mut Outline, place: usize) -> Result<(), Fault>
+        requires within { place < length outline.old }
+        ensures ok { OnOk result (outline.new ≡ with_said self.now.entry place outline.old) }
+        ensures err { OnErr result (outline.new ≡ outline.old) }
+        ensures memory { IsOkUnless result memory_fault }
+    {
+        match &self.entry {
+            None => Ok(()),
+            Some(entry) => outline.set(place, entry),
         }
     }
 }

@@ -1,5 +1,5 @@
 //! The sections that a change of a text touches.
-ghost use Rattle.std.specs.Prelude.{◌≡◌, ◌+◌, ◌≤◌, length, map, OnOk, OnErr, IsOkUnless};
+ghost use Rattle.std.specs.Prelude.{◌≡◌, ◌+◌, ◌≤◌, length, map, IfOk, OnOk, OnErr, IsOkUnless};
 ghost use Rattle.std.specs.List.{sum_by};
 ghost use Rattle.org_base.specs.Codes.{memory_fault};
 ghost use Rattle.org_base.specs.Results.{Gives};
@@ -7,7 +7,7 @@ ghost use Rattle.org_class.specs.Changes.{ended_before, begun_by, first_touched_
 ghost use Rattle.org_kept.specs.Change.{AreEdited, LiesIn, edited, edited_end, edited_list, first_edited};
 ghost use Rattle.org_kept.specs.Counts.{NewClassified, FewNewClassified};
 ghost use Rattle.org_kept.specs.File.{AreOf};
-ghost use Rattle.org_kept.specs.Sections.{section_len};
+ghost use Rattle.org_kept.specs.Sections.{Follow, section_len};
 
 use crate::change::Change;
 use crate::fresh::classified;
@@ -101,7 +101,8 @@ pub(crate) fn touched<T: Text>(old: &Listed<'_, T>, new: &T, change: Change<'_>)
 }
 
 // The sections of a text that is another one with a change: those that the change touches are classified anew, each once as
-// the meter counts. Want of memory is the only refusal; then some of them may have been counted.
+// the meter counts, and the others are as before. Want of memory is the only refusal; then some of them may have been
+// counted.
 pub(crate) fn changed_list<T: Text>(
     alloc: Global,
     meter: &mut Meter,
@@ -113,6 +114,7 @@ pub(crate) fn changed_list<T: Text>(
     requires within { LiesIn (T.content old.now.text.now) change }
     requires changed { T.content new.now ≡ edited (T.content old.now.text.now) change }
     ensures value { Gives result (edited_list old.now.list.now (T.content old.now.text.now) change.entry) }
+    ensures left { IfOk result (Follow old.now.list.now) }
     ensures counts { OnOk result (NewClassified (T.content old.now.text.now) change.entry meter.old meter.new) }
     ensures few { OnErr result (FewNewClassified (T.content old.now.text.now) change.entry meter.old meter.new) }
     ensures memory { IsOkUnless result memory_fault }

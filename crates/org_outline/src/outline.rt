@@ -167,8 +167,9 @@ impl Outline {
     }
 
     /// Puts an entry, which others may hold too, in the place of the one at a place. Where both have one level no other
-    /// entry is looked at, unless the outline is shared with another one: then its lists are copied first. Else the table of
-    /// parents is made anew by a pass over all entries. Want of memory is the only refusal, and leaves the outline as before.
+    /// entry is looked at, unless the outline is shared with another one: then its lists are copied first. Else the table
+    /// of parents is made anew by a pass over all entries. Want of memory is the only refusal, and leaves the outline as
+    /// before.
     pub fn set(&mut self, place: usize, entry: &Rc<Entry>) -> Result<(), Fault>
         requires { place < length self.old }
         ensures ok { OnOk result (self.new ≡ slice_set self.old place entry.now.value) }

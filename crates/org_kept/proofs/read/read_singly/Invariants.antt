@@ -10,8 +10,8 @@ abbrev pub invariant-loop-place : goal.invariant-loop-place
 invariant-loop-place g l = record {
   kept : AreOf (g.T.Text.content l.document.text.now) l.read;
   says : AllSay l.document.settings.now (g.T.Text.content l.document.text.now) l.read;
-  few : count_by is_pending l.read ≤ count_by is_pending l.list;
-  counts : HaveRead l.list l.read l.fn.meter l.meter;
+  few : count_by is_pending l.read ≤ count_by is_pending l.fn.sections;
+  counts : HaveRead l.fn.sections l.read l.fn.meter l.meter;
 }
 
 abbrev pub decreases-loop-place : goal.decreases-loop-place

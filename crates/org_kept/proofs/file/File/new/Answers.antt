@@ -13,13 +13,10 @@ shared_settings-requires g c = record { kept = ap (map bare) c.in_ok-list.ensure
 pub invariant_of-result : goal.invariant_of-result
 invariant_of-result g c =
     let t = g.T.Text.content c.args.text in
-    record {
-      kept = subst (λ xs. IsKept t xs c.in_ok-settings.settings.value) (sym c.in_ok-list.ensures.value) (kept_fresh t c.in_ok-settings.settings.value c.in_ok-settings.ensures.value);
-      outline_is = tt;
-    }
+    subst (λ xs. IsKept t xs c.in_ok-settings.settings.value) (sym (c.new.ensures.value ∙ c.in_ok-list.ensures.value)) (kept_fresh t c.in_ok-settings.settings.value c.in_ok-settings.ensures.value)
 
 pub returns-clause-value : goal.returns-clause-value
 returns-clause-value g c =
     let t = g.T.Text.content c.args.text in
-    let marks = ap (map is_read) c.in_ok-list.ensures.value ∙ marks_fresh (sections t) in
+    let marks = ap (map is_read) (c.new.ensures.value ∙ c.in_ok-list.ensures.value) ∙ marks_fresh (sections t) in
     λ i. record { text = t; serial = c.args.serial; marks = marks i }
