@@ -25,6 +25,7 @@ put_none place x fresh = record {
   homes = sym (append-nil x.homes.items);
   firsts = refl;
   profile = refl;
+  settings = refl;
   few = λ le. le;
   fresh = fresh;
   pressing = λ weight. refl;
@@ -64,6 +65,7 @@ put_more place ss s a b c first second =
           ∙ ap (λ h. a.homes.items ++ h) (sym (replicate_more (length ss) place) ∙ ap (λ n. replicate n place) (sym more));
       firsts = second.firsts ∙ first.firsts;
       profile = second.profile ∙ first.profile;
+      settings = second.settings ∙ first.settings;
       few = λ le. second.few (first.few le);
       fresh = second.fresh;
       pressing = ids_more a.profile is_pressing (length a.homes.items) (length b.homes.items) ss s a.pressing b.pressing c.pressing count first.pressing (subst (λ q. HaveSame (ids_of q is_pressing (length b.homes.items) (s ∷ []) ++ b.pressing) c.pressing) first.profile second.pressing);
@@ -84,7 +86,7 @@ on_ok (Err e) P Q f p = tt
 
 -- one stamp was put in, into the index of its kind
 module _ (place : ℕ) (s : Source) (x y : StampIndex) (fresh : AreFresh x)
-    (homes : y.homes.items ≡ x.homes.items ++ place ∷ []) (firsts : y.firsts.items ≡ x.firsts.items) (profile : y.profile ≡ x.profile) (few : length x.homes.items < 2 ^ 32) where
+    (homes : y.homes.items ≡ x.homes.items ++ place ∷ []) (firsts : y.firsts.items ≡ x.firsts.items) (profile : y.profile ≡ x.profile) (settings : y.settings.value ≡ x.settings.value) (few : length x.homes.items < 2 ^ 32) where
   abbrev next : ℕ
   next = length x.homes.items
 
@@ -114,6 +116,7 @@ module _ (place : ℕ) (s : Source) (x y : StampIndex) (fresh : AreFresh x)
     homes = homes;
     firsts = firsts;
     profile = profile;
+    settings = settings;
     few = λ le. omega (arith, longer, few);
     fresh = record { pressing = put_below x.pressing y.pressing new fresh.pressing; others = same_below x.others y.others same fresh.others };
     pressing = wanted_same is_pressing x.pressing y.pressing presses new fresh.pressing;
@@ -125,6 +128,7 @@ module _ (place : ℕ) (s : Source) (x y : StampIndex) (fresh : AreFresh x)
     homes = homes;
     firsts = firsts;
     profile = profile;
+    settings = settings;
     few = λ le. omega (arith, longer, few);
     fresh = record { pressing = same_below x.pressing y.pressing same fresh.pressing; others = put_below x.others y.others new fresh.others };
     pressing = other_same is_pressing x.pressing y.pressing waits same;

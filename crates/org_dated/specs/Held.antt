@@ -9,15 +9,15 @@ use Rattle.org_dated.specs.Index.{IsIndexOf}
 use Rattle.org_dated.specs.declared.index.StampIndex.{StampIndex}
 
 -- what a file says
-pub record DatedView : Type 0 where
+pub record OutlineView : Type 0 where
   pub entries : List Entry
   pub settings : FileSettings
 
--- the indexes, if they are kept, have the stamps of the entries
-abbrev pub KeepsIndexOf : FileSettings → List Entry → Option (Rc StampIndex Global) → Type 0
-KeepsIndexOf settings es None = Unit {0}
-KeepsIndexOf settings es (Some x) = IsIndexOf settings es x.value
+-- the indexes, if they are kept, have the stamps of the entries, read by their settings
+abbrev pub KeepsIndexOf : List Entry → Option (Rc StampIndex Global) → Type 0
+KeepsIndexOf es None = Unit {0}
+KeepsIndexOf es (Some x) = IsIndexOf x.value.settings.value es x.value
 
 -- what inheritance looks at in a file, of the file's name and the inherited names
-abbrev pub scope_in : DatedView → List ℕ → List (List ℕ) → Scope
+abbrev pub scope_in : OutlineView → List ℕ → List (List ℕ) → Scope
 scope_in d name inherited = record { entries = d.entries; settings = d.settings; file = name; inherited = inherited }

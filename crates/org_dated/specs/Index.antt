@@ -65,6 +65,7 @@ pub record HasPut (place : ℕ) (stamps : List Source) (old new : StampIndex) : 
   pub homes : new.homes.items ≡ old.homes.items ++ replicate (length stamps) place
   pub firsts : new.firsts.items ≡ old.firsts.items
   pub profile : new.profile ≡ old.profile
+  pub settings : new.settings.value ≡ old.settings.value
   pub few : length old.homes.items ≤ 2 ^ 32 → length new.homes.items ≤ 2 ^ 32
   pub fresh : AreFresh new
   pub pressing : HaveSame (ids_of old.profile is_pressing (length old.homes.items) stamps ++ old.pressing) new.pressing
@@ -79,12 +80,14 @@ pub record HasTaken (first : ℕ) (stamps : List Source) (old new : StampIndex) 
   pub homes : new.homes.items ≡ old.homes.items
   pub firsts : new.firsts.items ≡ old.firsts.items
   pub profile : new.profile ≡ old.profile
+  pub settings : new.settings.value ≡ old.settings.value
   pub pressing : LeavesRest (ids_of old.profile is_pressing first stamps) old.pressing new.pressing
   pub others : LeavesRest (ids_of old.profile is_waiting first stamps) old.others new.others
 
 -- one index is a copy of another one
 pub record IsCopy (x y : StampIndex) : Type 0 where
   pub profile : y.profile ≡ x.profile
+  pub settings : y.settings.value ≡ x.settings.value
   pub pressing : y.pressing ≡ x.pressing
   pub others : y.others ≡ x.others
   pub homes : y.homes.items ≡ x.homes.items

@@ -1,5 +1,5 @@
 //! The stamps of a file's headings, found by days.
-ghost use Rattle.std.specs.Prelude.{◌≡◌, ◌≤◌, ◌<◌, ◌+◌, ◌^◌, ◌∷◌, List, [], get_or, length, slice_set, IfOk, OnErr, OnOk, IsOkUnless};
+ghost use Rattle.std.specs.Prelude.{◌≡◌, ◌≤◌, ◌<◌, ◌+◌, ◌^◌, ◌∷◌, List, [], true, get_or, length, slice_set, IfOk, OnErr, OnOk, IsOkUnless};
 ghost use Rattle.org_base.specs.Codes.{memory_fault};
 ghost use Rattle.org_entry.specs.declared.entry.Entry.{Entry as AnyEntry};
 ghost use Rattle.org_index.specs.Ticks.{Examines};
@@ -16,6 +16,10 @@ use org_outline::Outline;
 use org_settings::Settings;
 use std::alloc::{AllocError, Global};
 use std::collections::BTreeSet;
+use std::rc::Rc;
+
+// So many ids may always lead to no stamp.
+const FEW_GONE: usize = 65_536;
 
 // So many ids can be given: they are numbers of 32 bits.
 const MOST_IDS: usize = 4_294_967_296;
@@ -24,6 +28,8 @@ const MOST_IDS: usize = 4_294_967_296;
 // given twice.
 #[derive(Debug, Drop)]
 pub(crate) struct StampIndex {
+    // By which the stamps were read, and in which they are looked at.
+    pub(crate) settings: Rc<Settings>,
     pub(crate) profile: Profile,
     pub(crate) pressing: DayIndex,
     pub(crate) others: DayIndex,
@@ -31,6 +37,8 @@ pub(crate) struct StampIndex {
     pub(crate) homes: Vec<usize>,
     // By place the first id of its heading's stamps; the others follow.
     pub(crate) firsts: Vec<usize>,
+    // How many ids lead to no stamp any more.
+    gone: usize,
 }
 
 impl StampIndex {
@@ -39,23 +47,26 @@ impl StampIndex {
     pub(crate) fn of(
         alloc: Global,
         outline: &Outline,
-        settings: &Settings,
+        settings: &Rc<Settings>,
         profile: Profile,
     ) -> Result<StampIndex, Fault>
-        ensures value { IfOk result (IsIndexOf settings.now outline.now) }
+        ensures value { IfOk result (IsIndexOf settings.now.value outline.now) }
+        ensures settings { IfOk result (λ x. x.settings.value ≡ settings.now.value) }
         ensures profile { IfOk result (λ x. x.profile ≡ profile) }
         ensures memory { IsOkUnless result memory_fault }
     {
         let mut index = StampIndex {
+            settings: settings.clone()?,
             profile,
             pressing: DayIndex::new(alloc),
             others: DayIndex::new(alloc),
             homes: Vec::new(alloc),
             firsts: Vec::with_capacity(alloc, outline.count())?,
+            gone: 0,
         };
         let mut own = Vec::new(alloc);
         for place in 0..outline.count() {
-            write_bare(&mut own, settings, outline.entry(place))?;
+            write_bare(&mut own, settings.as_ref(), outline.entry(place))?;
             let first = index.put_stamps(place, own.as_slice())?;
             index.firsts.push(first)?;
         }
@@ -68,23 +79,37 @@ impl StampIndex {
         &mut self,
         alloc: Global,
         outline: &Outline,
-        settings: &Settings,
         place: usize,
         entry: &Entry,
     ) -> Result<(), Fault>
-        requires is { IsIndexOf settings.now outline.now self.old }
+        requires is { IsIndexOf self.old.settings.value outline.now self.old }
         requires within { place < length outline.now }
-        ensures ok { OnOk result (IsIndexOf settings.now (slice_set outline.now place entry.now) self.new) }
+        ensures ok { OnOk result (IsIndexOf self.old.settings.value (slice_set outline.now place entry.now) self.new) }
+        ensures settings { OnOk result (self.new.settings.value ≡ self.old.settings.value) }
         ensures memory { IsOkUnless result memory_fault }
     {
+        let settings = self.settings.clone()?;
         let mut own = Vec::new(alloc);
-        write_bare(&mut own, settings, outline.entry(place))?;
+        write_bare(&mut own, settings.as_ref(), outline.entry(place))?;
         let first = self.first_id(place);
         self.take_stamps(first, own.as_slice());
-        write_bare(&mut own, settings, entry)?;
+        write_bare(&mut own, settings.as_ref(), entry)?;
         let first = self.put_stamps(place, own.as_slice())?;
         self.firsts[place] = first;
         Ok(())
+    }
+
+    // Whether it has the stamps as they are read by these settings and looked at in a profile.
+    pub(crate) fn is_of(&self, settings: &Settings, profile: Profile) -> bool
+        ensures settings { result ≡ true → self.now.settings.value ≡ settings.now }
+        ensures profile { result ≡ true → self.now.profile ≡ profile }
+    {
+        self.profile == profile && self.settings.as_ref().same(settings)
+    }
+
+    // Whether so many ids lead to no stamp any more that it is better made anew.
+    pub(crate) fn is_worn(&self) -> bool {
+        self.gone > FEW_GONE && self.gone > self.homes.len() / 2
     }
 
     // The first id of the stamps of the heading at a place.
@@ -134,6 +159,7 @@ impl StampIndex {
         requires few { first + length stamps.now ≤ 2 ^ 32 }
         ensures value { HasTaken first stamps.now self.old self.new }
     {
+        self.gone = self.gone.saturating_add(stamps.len());
         for (ahead, stamp) in stamps.iter().enumerate() {
             let id = (first + ahead) as u32;
             if is_pressing(stamp) {
@@ -150,11 +176,13 @@ impl StampIndex {
         ensures memory { IsOkUnless result memory_fault }
     {
         Ok(StampIndex {
+            settings: self.settings.clone()?,
             profile: self.profile,
             pressing: self.pressing.share()?,
             others: self.others.share()?,
             homes: self.homes.clone()?,
             firsts: self.firsts.clone()?,
+            gone: self.gone,
         })
     }
 

@@ -7,10 +7,12 @@
 #![tactic(auto)]
 
 mod asked;
+mod dated;
 mod index;
 mod near;
 mod outline;
 mod stamps;
 
-pub use outline::DatedOutline;
+pub use dated::DatedOutline;
+pub use outline::FileOutline;
 pub use stamps::DatedStamps;

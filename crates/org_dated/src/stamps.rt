@@ -1,11 +1,12 @@
 //! The stamps of files, found by days.
 ghost use Rattle.std.specs.Prelude.{◌≡◌};
+ghost use Rattle.org_agenda.specs.Bound.{near_count};
 ghost use Rattle.org_agenda.specs.Sources.{sources_of};
-ghost use Rattle.org_dated.specs.Stamps.{AreDated, near_in_all};
+ghost use Rattle.org_dated.specs.Stamps.{AreDated};
 
 use crate::asked::Asked;
 use crate::near::NearSources;
-use crate::outline::DatedOutline;
+use crate::outline::FileOutline;
 use org_agenda::{Source, Stamps, Standpoint};
 use org_base::{Fault, Meter};
 use org_cal::Day;
@@ -17,7 +18,7 @@ use std::alloc::Global;
 #[derive(Drop)]
 pub struct DatedStamps<'a> {
     pub inherits: &'a Inherits<'a>,
-    pub files: &'a [DatedOutline],
+    pub files: &'a [FileOutline],
 }
 
 impl<'a> Stamps for DatedStamps<'a> {
@@ -25,7 +26,7 @@ impl<'a> Stamps for DatedStamps<'a> {
 
     ghost stands = { λ s p. AreDated s.files.now s.inherits.now };
 
-    ghost examines = { λ s seen from to. near_in_all seen from to s.files.now };
+    ghost examines = { λ s seen from to. near_count seen.profile from to seen.today s.inherits.now };
 
     fn near(
         &self,

@@ -18,7 +18,8 @@ use Rattle.org_engine.specs.Calls.{IsCompletionIn}
 use Rattle.org_engine.specs.Step.{file_named}
 use Rattle.org_kept.specs.File.{FileView as KeptFile, all_marked, first_unread, marked, unread, with_first_read}
 use Rattle.org_engine.specs.Files.{file_of, files_of, marks_of}
-use Rattle.org_engine.specs.Marks.{IsFirstPending, KeepsMarks, ReadsAll, ReadsSome, all_read, first_read, marks_at, next_read, pending_at, pending_in, read_at}
+use Rattle.org_index.specs.Ticks.{examined}
+use Rattle.org_engine.specs.Marks.{ExaminesSome, IsFirstPending, KeepsMarks, NoStamps, ReadsAll, ReadsSome, all_read, first_read, marks_at, next_read, pending_at, pending_in, read_at}
 use Rattle.org_engine.specs.World.{EngineView, FileView, KeptWorld}
 
 no_more : (n : ℕ) → first_read n [] ≡ []
@@ -94,20 +95,41 @@ where_err (Ok x) f h = tt
 where_err (Err e) f h = f h
 
 -- all is some
-pub all_some : (old new : KeptWorld) (before after : Counts) → ReadsAll old new before after → ReadsSome old new before after
-all_some old new before after read =
+pub all_some : (may : ℕ → Type 0) (stamps : ℕ) (old new : KeptWorld) (before after : Counts) → may stamps → ReadsAll stamps old new before after → ReadsSome may old new before after
+all_some may stamps old new before after allowed read =
     let all : length old.marks ≤ length old.marks = omega arith in
     record {
       files = length old.marks;
       reads = pending_in old.marks;
       few = omega arith;
       is = read.0 ∙ (λ i. record old { marks = sym (all_first (length old.marks) old.marks all) i });
+      stamps = stamps;
+      allowed = allowed;
       counts = read.1;
     }
 
+-- stamps that are examined behind what was read
+pub read_examined : (stamps : ℕ) (old new : KeptWorld) (before mid after : Counts) → ReadsAll 0 old new before mid → after ≡ examined stamps mid → ReadsAll stamps old new before after
+read_examined stamps old new before mid after read more = (read.0, more ∙ ap (examined stamps) read.1)
+
+pub some_examined : (may : ℕ → Type 0) (old new : KeptWorld) (before mid after : Counts) → ReadsAll 0 old new before mid → ExaminesSome may mid after → ReadsSome may old new before after
+some_examined may old new before mid after read some = all_some may some.0 old new before after some.1 (read_examined some.0 old new before mid after read some.2)
+
+-- some of those that are read where no stamp is examined are some where stamps may be
+pub some_read : (may : ℕ → Type 0) (old new : KeptWorld) (before after : Counts) → may 0 → ReadsSome NoStamps old new before after → ReadsSome may old new before after
+some_read may old new before after allowed some = record {
+  files = some.files;
+  reads = some.reads;
+  few = some.few;
+  is = some.is;
+  stamps = 0;
+  allowed = allowed;
+  counts = some.counts ∙ ap (λ n. examined n (have_read some.reads before)) some.allowed;
+}
+
 -- none is some
-pub none_some : (old : KeptWorld) (counts : Counts) → ReadsSome old old counts counts
-none_some old counts = record { files = 0; reads = 0; few = omega arith; is = refl; counts = refl }
+pub none_some : (may : ℕ → Type 0) (old : KeptWorld) (counts : Counts) → may 0 → ReadsSome may old old counts counts
+none_some may old counts allowed = record { files = 0; reads = 0; few = omega arith; is = refl; stamps = 0; allowed = allowed; counts = refl }
 
 -- a value with the same text and serial is the same file
 pub files_of-same : {Y : Type 0} (es : List (String Y × KeptFile)) (i : ℕ) (v kept : KeptFile) → slice_get (values_of es) i ≡ Some v → kept.text ≡ v.text → kept.serial ≡ v.serial → files_of (set_value_at es i kept) ≡ files_of es

@@ -26,9 +26,9 @@ returns-then-is_pressing-clause-ok c =
     let next : c.len-id.result ≡ length c.args.self.now.homes.items = search in
     let few : length c.args.self.now.homes.items < 2 ^ 32 = omega (arith, next, c.if-id-ge-MOST_IDS.false) in
     let x = c.args.self.now in
-    let y : StampIndex = record { profile = x.profile; pressing = c.put.new.self; others = x.others; homes = c.push.new.self; firsts = x.firsts } in
+    let y : StampIndex = record { settings = x.settings; profile = x.profile; pressing = c.put.new.self; others = x.others; homes = c.push.new.self; firsts = x.firsts; gone = x.gone } in
     on_ok c.put.result _ (HasPut c.args.place (c.args.stamp.now ∷ []) x y)
-    (λ new. put_pressing c.args.place c.args.stamp.now x y c.requires.fresh c.in_ok-push.ensures.items refl refl few (sym c.is_pressing.ensures ∙ c.if-is_pressing.true)
+    (λ new. put_pressing c.args.place c.args.stamp.now x y c.requires.fresh c.in_ok-push.ensures.items refl refl refl few (sym c.is_pressing.ensures ∙ c.if-is_pressing.true)
     (new ∙ ap (λ n. with_extent c.args.self.now.pressing n (extent_of c.args.self.now.profile c.args.stamp.now.stamp)) next) refl)
     c.put.ensures.ok
 
@@ -37,8 +37,8 @@ returns-else-is_pressing-clause-ok c =
     let next : c.len-id.result ≡ length c.args.self.now.homes.items = search in
     let few : length c.args.self.now.homes.items < 2 ^ 32 = omega (arith, next, c.if-id-ge-MOST_IDS.false) in
     let x = c.args.self.now in
-    let y : StampIndex = record { profile = x.profile; pressing = x.pressing; others = c.put-else-is_pressing.new.self; homes = c.push.new.self; firsts = x.firsts } in
+    let y : StampIndex = record { settings = x.settings; profile = x.profile; pressing = x.pressing; others = c.put-else-is_pressing.new.self; homes = c.push.new.self; firsts = x.firsts; gone = x.gone } in
     on_ok c.put-else-is_pressing.result _ (HasPut c.args.place (c.args.stamp.now ∷ []) x y)
-    (λ new. put_waiting c.args.place c.args.stamp.now x y c.requires.fresh c.in_ok-push.ensures.items refl refl few (sym c.is_pressing.ensures ∙ c.if-is_pressing.false)
+    (λ new. put_waiting c.args.place c.args.stamp.now x y c.requires.fresh c.in_ok-push.ensures.items refl refl refl few (sym c.is_pressing.ensures ∙ c.if-is_pressing.false)
     (new ∙ ap (λ n. with_extent c.args.self.now.others n (extent_of c.args.self.now.profile c.args.stamp.now.stamp)) next) refl)
     c.put-else-is_pressing.ensures.ok

@@ -12,6 +12,7 @@ loop-ahead-init c = record {
   homes = refl;
   firsts = refl;
   profile = refl;
+  settings = refl;
   pressing = left_all c.args.self.now.profile is_pressing c.args.first c.args.stamps.now c.args.self.now.pressing;
   others = left_all c.args.self.now.profile is_waiting c.args.first c.args.stamps.now c.args.self.now.others;
 }
@@ -31,6 +32,7 @@ loop-ahead-preserved c =
             homes = ap (λ (x : StampIndex). x.homes.items) w.self-is ∙ c.loop-ahead.invariant.homes;
             firsts = ap (λ (x : StampIndex). x.firsts.items) w.self-is ∙ c.loop-ahead.invariant.firsts;
             profile = ap (λ (x : StampIndex). x.profile) w.self-is ∙ c.loop-ahead.invariant.profile;
+            settings = ap (λ (x : StampIndex). x.settings.value) w.self-is ∙ c.loop-ahead.invariant.settings;
             pressing = subst (λ ps. IsLeft q is_pressing c.args.first all (i + 1) was.pressing ps) (sym (ap (λ (x : StampIndex). x.pressing) w.self-is ∙ w.take.ensures.value))
                 (left_less q is_pressing c.args.first i (c.args.first + i) all s was.pressing now'.pressing c.loop-ahead-test.true c.index-stamps-ahead.is refl presses w.take.ensures.ordered c.loop-ahead.invariant.pressing);
             others = subst (λ ps. IsLeft q is_waiting c.args.first all (i + 1) was.others ps) (sym (ap (λ (x : StampIndex). x.others) w.self-is))
@@ -42,6 +44,7 @@ loop-ahead-preserved c =
             homes = ap (λ (x : StampIndex). x.homes.items) w.self-is ∙ c.loop-ahead.invariant.homes;
             firsts = ap (λ (x : StampIndex). x.firsts.items) w.self-is ∙ c.loop-ahead.invariant.firsts;
             profile = ap (λ (x : StampIndex). x.profile) w.self-is ∙ c.loop-ahead.invariant.profile;
+            settings = ap (λ (x : StampIndex). x.settings.value) w.self-is ∙ c.loop-ahead.invariant.settings;
             pressing = subst (λ ps. IsLeft q is_pressing c.args.first all (i + 1) was.pressing ps) (sym (ap (λ (x : StampIndex). x.pressing) w.self-is))
                 (left_over q is_pressing c.args.first i all s was.pressing now'.pressing c.loop-ahead-test.true c.index-stamps-ahead.is waits c.loop-ahead.invariant.pressing);
             others = subst (λ ps. IsLeft q is_waiting c.args.first all (i + 1) was.others ps) (sym (ap (λ (x : StampIndex). x.others) w.self-is ∙ w.take-else-is_pressing.ensures.value))
@@ -55,6 +58,7 @@ returns c = record {
     homes = c.loop-ahead.invariant.homes;
     firsts = c.loop-ahead.invariant.firsts;
     profile = c.loop-ahead.invariant.profile;
+    settings = c.loop-ahead.invariant.settings;
     pressing = left_none c.args.self.now.profile is_pressing c.args.first c.args.stamps.now c.loop-ahead.ahead c.args.self.now.pressing c.loop-ahead.self.pressing c.loop-ahead-test.false c.loop-ahead.invariant.pressing;
     others = left_none c.args.self.now.profile is_waiting c.args.first c.args.stamps.now c.loop-ahead.ahead c.args.self.now.others c.loop-ahead.self.others c.loop-ahead-test.false c.loop-ahead.invariant.others;
   };

@@ -1,4 +1,5 @@
 use Rattle.std.proofs.Common.{◌≡◌, ◌∙◌, ◌<◌, ◌≤◌, List, arith, ap, length, take}
+use Rattle.org_index.specs.Ticks.{examined}
 use Rattle.org_inherit.specs.Scope.{Scope}
 use Rattle.org_agenda.specs.Days.{day_rows}
 use Rattle.org_agenda.specs.Sources.{sources_of}
@@ -9,7 +10,7 @@ use Rattle.org_dated.specs.Stamps.{near_in_all}
 use Rattle.org_dated.specs.declared.asked.Asked.{Asked}
 use Rattle.org_dated.proofs.FileLemmas.{near_file_more, near_files_whole}
 use Rattle.org_dated.proofs.PlaceLemmas.{examines_more, on_err}
-use Rattle.org_dated.proofs.StampLemmas.{count_more, count_whole, hold_there, zip_at, zip_long}
+use Rattle.org_dated.proofs.StampLemmas.{count_more, count_whole, counted, hold_there, zip_at, zip_long}
 use Rattle.org_dated.proofs.stamps.DatedStampsStamps.near.Goals as goal
 
 pub returns-in_err-places-clause-few : goal.returns-in_err-places-clause-few
@@ -57,4 +58,6 @@ returns-clause-rows c = λ day low high.
     ap (λ (xs : List Source). day_rows seen.profile xs seen.today day) whole ∙ near_give_all seen.profile all c.args.from c.args.to seen.today day c.requires.stands.sound low high
 
 pub returns-clause-counts : goal.returns-clause-counts
-returns-clause-counts c = count_whole c.args.standpoint.now c.args.from c.args.to c.args.self.now.files.now c.loop-file.file c.args.meter.now c.loop-file.meter c.loop-file-test.false c.loop-file.invariant.counts
+returns-clause-counts c =
+    count_whole c.args.standpoint.now c.args.from c.args.to c.args.self.now.files.now c.loop-file.file c.args.meter.now c.loop-file.meter c.loop-file-test.false c.loop-file.invariant.counts
+    ∙ ap (λ n. examined n c.args.meter.now) (counted c.args.standpoint.now c.args.from c.args.to c.args.self.now.files.now c.args.self.now.inherits.now 0 c.requires.stands.same)
