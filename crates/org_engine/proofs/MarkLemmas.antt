@@ -95,7 +95,7 @@ where_err (Ok x) f h = tt
 where_err (Err e) f h = f h
 
 -- all is some
-pub all_some : (may : ℕ → Type 0) (stamps : ℕ) (old new : KeptWorld) (before after : Counts) → may stamps → ReadsAll stamps old new before after → ReadsSome may old new before after
+pub all_some : (may : Type 0) (stamps : ℕ) (old new : KeptWorld) (before after : Counts) → (0 < stamps → may) → ReadsAll stamps old new before after → ReadsSome may old new before after
 all_some may stamps old new before after allowed read =
     let all : length old.marks ≤ length old.marks = omega arith in
     record {
@@ -112,24 +112,21 @@ all_some may stamps old new before after allowed read =
 pub read_examined : (stamps : ℕ) (old new : KeptWorld) (before mid after : Counts) → ReadsAll 0 old new before mid → after ≡ examined stamps mid → ReadsAll stamps old new before after
 read_examined stamps old new before mid after read more = (read.0, more ∙ ap (examined stamps) read.1)
 
-pub some_examined : (may : ℕ → Type 0) (old new : KeptWorld) (before mid after : Counts) → ReadsAll 0 old new before mid → ExaminesSome may mid after → ReadsSome may old new before after
+pub some_examined : (may : Type 0) (old new : KeptWorld) (before mid after : Counts) → ReadsAll 0 old new before mid → ExaminesSome may mid after → ReadsSome may old new before after
 some_examined may old new before mid after read some = all_some may some.0 old new before after some.1 (read_examined some.0 old new before mid after read some.2)
 
 -- some of those that are read where no stamp is examined are some where stamps may be
-pub some_read : (may : ℕ → Type 0) (old new : KeptWorld) (before after : Counts) → may 0 → ReadsSome NoStamps old new before after → ReadsSome may old new before after
-some_read may old new before after allowed some = record {
-  files = some.files;
-  reads = some.reads;
-  few = some.few;
-  is = some.is;
-  stamps = 0;
-  allowed = allowed;
-  counts = some.counts ∙ ap (λ n. examined n (have_read some.reads before)) some.allowed;
-}
+pub some_read : (may : Type 0) (old new : KeptWorld) (before after : Counts) → ReadsSome NoStamps old new before after → ReadsSome may old new before after
+some_read may old new before after some =
+    record { files = some.files; reads = some.reads; few = some.few; is = some.is; stamps = some.stamps; allowed = λ lt. absurd (some.allowed lt); counts = some.counts }
 
 -- none is some
-pub none_some : (may : ℕ → Type 0) (old : KeptWorld) (counts : Counts) → may 0 → ReadsSome may old old counts counts
-none_some may old counts allowed = record { files = 0; reads = 0; few = omega arith; is = refl; stamps = 0; allowed = allowed; counts = refl }
+pub none_some : (may : Type 0) (old : KeptWorld) (counts : Counts) → ReadsSome may old old counts counts
+none_some may old counts = record { files = 0; reads = 0; few = omega arith; is = refl; stamps = 0; allowed = λ lt. absurd (omega (arith, lt)); counts = refl }
+
+-- no stamp is some
+pub none_examined : (may : Type 0) (counts : Counts) → ExaminesSome may counts counts
+none_examined may counts = (0, λ lt. absurd (omega (arith, lt)), refl)
 
 -- a value with the same text and serial is the same file
 pub files_of-same : {Y : Type 0} (es : List (String Y × KeptFile)) (i : ℕ) (v kept : KeptFile) → slice_get (values_of es) i ≡ Some v → kept.text ≡ v.text → kept.serial ≡ v.serial → files_of (set_value_at es i kept) ≡ files_of es

@@ -42,9 +42,9 @@ abbrev pub examined_in : View → Result WorldView Fault → ℕ
 examined_in view (Ok world) = examined_by view world
 examined_in view (Err fault) = 0
 
--- a view that is refused for want of memory may have examined some where it is an agenda, and none else
-abbrev pub MayExamine : View → ℕ → Type 0
-MayExamine (Agenda date days) stamps = AnyStamps stamps
-MayExamine (Todo file words) stamps = NoStamps stamps
-MayExamine (Match file text) stamps = NoStamps stamps
-MayExamine (Clock text) stamps = NoStamps stamps
+-- a view that is refused may have examined stamps where it is an agenda
+abbrev pub MayExamine : View → Type 0
+MayExamine (Agenda date days) = AnyStamps
+MayExamine (Todo file words) = NoStamps
+MayExamine (Match file text) = NoStamps
+MayExamine (Clock text) = NoStamps

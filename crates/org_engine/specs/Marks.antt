@@ -112,26 +112,26 @@ with_kept name file kept = record {
 abbrev pub ReadsAll : ℕ → KeptWorld → KeptWorld → Counts → Counts → Type 0
 ReadsAll stamps old new before after = (new ≡ record old { marks = all_read old.marks }) × (after ≡ examined stamps (have_read (pending_in old.marks) before))
 
--- no stamp is examined
-abbrev pub NoStamps : ℕ → Type 0
-NoStamps stamps = stamps ≡ 0
+-- no stamp may be examined
+abbrev pub NoStamps : Type 0
+NoStamps = ⊥
 
--- any number of them may be
-abbrev pub AnyStamps : ℕ → Type 0
-AnyStamps stamps = Unit {0}
+-- some may be
+abbrev pub AnyStamps : Type 0
+AnyStamps = Unit {0}
 
--- as many stamps were examined as may be, and nothing else was counted
-abbrev pub ExaminesSome : (ℕ → Type 0) → Counts → Counts → Type 0
-ExaminesSome may before after = (stamps : ℕ) × may stamps × (after ≡ examined stamps before)
+-- some stamps were examined, if they may be, and nothing else was counted
+abbrev pub ExaminesSome : Type 0 → Counts → Counts → Type 0
+ExaminesSome may before after = (stamps : ℕ) × (0 < stamps → may) × (after ≡ examined stamps before)
 
--- those of the first so many files were read; some of those still to be read were counted, and as many stamps as may be
-pub record ReadsSome (may : ℕ → Type 0) (old new : KeptWorld) (before after : Counts) : Type 0 where
+-- those of the first so many files were read; some of those still to be read were counted, and some stamps, if they may be
+pub record ReadsSome (may : Type 0) (old new : KeptWorld) (before after : Counts) : Type 0 where
   pub files : ℕ
   pub reads : ℕ
   pub few : reads ≤ pending_in old.marks
   pub is : new ≡ record old { marks = first_read files old.marks }
   pub stamps : ℕ
-  pub allowed : may stamps
+  pub allowed : 0 < stamps → may
   pub counts : after ≡ examined stamps (have_read reads before)
 
 -- the first section was read that was still to be read, and no other
@@ -212,14 +212,14 @@ abbrev pub ReadsAllAsked : ℕ → Option ℕ → EngineView → EngineView → 
 ReadsAllAsked stamps session old new =
     (new.marks ≡ at_asked session all_read old.state.pins old.marks) × (new.counts ≡ examined stamps (have_read (pending_asked session old) old.counts))
 
--- those of its first so many files were read; some of those still to be read were counted, and as many stamps as may be
-pub record ReadsSomeAsked (may : ℕ → Type 0) (session : Option ℕ) (old new : EngineView) : Type 0 where
+-- those of its first so many files were read; some of those still to be read were counted, and some stamps, if they may be
+pub record ReadsSomeAsked (may : Type 0) (session : Option ℕ) (old new : EngineView) : Type 0 where
   pub files : ℕ
   pub reads : ℕ
   pub few : reads ≤ pending_asked session old
   pub marks : new.marks ≡ at_asked session (first_read files) old.state.pins old.marks
   pub stamps : ℕ
-  pub allowed : may stamps
+  pub allowed : 0 < stamps → may
   pub counts : new.counts ≡ examined stamps (have_read reads old.counts)
 
 -- nothing was read or classified, and no mark changed
@@ -230,9 +230,9 @@ IsQuiet old new = (new.marks ≡ old.marks) × (new.counts ≡ old.counts)
 abbrev pub Classifies : ℕ → EngineView → EngineView → Type 0
 Classifies most old new = (n : ℕ) × (n ≤ most) × (new.counts ≡ classified n old.counts)
 
--- at most so many sections were read, and as many stamps examined as may be; none was classified
-abbrev pub Looks : ℕ → (ℕ → Type 0) → EngineView → EngineView → Type 0
-Looks most may old new = (n : ℕ) × (n ≤ most) × (stamps : ℕ) × may stamps × (new.counts ≡ examined stamps (have_read n old.counts))
+-- at most so many sections were read, and some stamps examined, if they may be; none was classified
+abbrev pub Looks : ℕ → Type 0 → EngineView → EngineView → Type 0
+Looks most may old new = (n : ℕ) × (n ≤ most) × (stamps : ℕ) × (0 < stamps → may) × (new.counts ≡ examined stamps (have_read n old.counts))
 
 -- at most so many sections were read, and none was classified
 abbrev pub Reads : ℕ → EngineView → EngineView → Type 0

@@ -81,7 +81,7 @@ impl Shows for Days {
 
     ghost examines = { λ d scopes. near_count d.standpoint.profile d.first (d.first + d.count - 1) d.standpoint.today scopes };
 
-    ghost may = { λ d stamps. Unit {0} };
+    ghost may = { λ d. AnyStamps };
 
     fn file(&self) -> Option<&[u8]> {
         None

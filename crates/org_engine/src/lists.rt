@@ -50,11 +50,10 @@ impl<'a> Shows for TodoList<'a> {
     fn text(
         &self,
         alloc: Global,
-        meter: &mut Meter,
+        _meter: &mut Meter,
         inherits: &Inherits<'_>,
-        files: &[FileOutline],
+        _files: &[FileOutline],
     ) -> Result<String, Fault> {
-        let _ = (meter, files);
         let rows = todo_rows(alloc, inherits, self.over, self.words)?;
         lines_of(alloc, inherits, rows.as_slice())
     }
@@ -88,11 +87,10 @@ impl<'a> Shows for MatchList<'a> {
     fn text(
         &self,
         alloc: Global,
-        meter: &mut Meter,
+        _meter: &mut Meter,
         inherits: &Inherits<'_>,
-        files: &[FileOutline],
+        _files: &[FileOutline],
     ) -> Result<String, Fault> {
-        let _ = (meter, files);
         let rows = match_rows(alloc, inherits, self.over, self.expression, self.moment)?;
         lines_of(alloc, inherits, rows.as_slice())
     }

@@ -31,8 +31,8 @@ pub(crate) trait Shows {
     // How many stamps it examines for that.
     ghost examines: { Self → List Scope → ℕ };
 
-    // So many it may examine before it is refused.
-    ghost may: { Self → ℕ → Type 0 };
+    // What holds where it may examine stamps at all.
+    ghost may: { Self → Type 0 };
 
     // The name of that file.
     fn file(&self) -> Option<&[u8]>
