@@ -1,5 +1,5 @@
 -- The stamps of entries of which nothing but their days is asked (profile).
-use Rattle.std.specs.Prelude.{ℕ, not, List, [], Option, None, Some}
+use Rattle.std.specs.Prelude.{not, List, [], Option, None, Some}
 use Rattle.org_entry.specs.declared.entry.Entry.{Entry}
 use Rattle.org_head.specs.declared.head.Head.{Head}
 use Rattle.org_settings.specs.Settings.{FileSettings}

@@ -1,10 +1,10 @@
 -- The near stamps of entries, counted and found by their ids.
-use Rattle.std.proofs.Common.{◌≡◌, ◌∙◌, ℕ, zero, suc, ◌+◌, ◌-◌, ◌<◌, ◌≤◌, Bool, true, false, ◌&&◌, ◌||◌, cond, List, [], ◌∷◌, ◌++◌, length, get_or, inl, inr, sym, ap, ap₂, refl, subst, arith, true≢false}
-use Rattle.std.specs.Prelude.{Option, Some, None, Contains, filter, nat_le, nat_lt, not, slice_get}
+use Rattle.std.proofs.Common.{◌≡◌, ◌∙◌, ℕ, suc, ◌+◌, ◌-◌, ◌<◌, ◌≤◌, Bool, true, false, ◌&&◌, ◌||◌, cond, List, [], ◌∷◌, length, get_or, inl, inr, sym, ap, ap₂, refl, subst, arith}
+use Rattle.std.specs.Prelude.{Some, Contains, filter, nat_le, nat_lt, not, slice_get}
 use Rattle.std.specs.List.{sum_by}
 use Rattle.std.specs.Map.{keys_of}
 use Rattle.std.specs.BTreeSet.{BTreeSet}
-use Rattle.std.proofs.lemmas.Bool.{cases_Bool, and_parts, or_cases}
+use Rattle.std.proofs.lemmas.Bool.{cases_Bool}
 use Rattle.std.proofs.lemmas.Bool.Decides.{nat_tests}
 use Rattle.std.proofs.lemmas.List.Sums.{sum_by-cons, sum_by-append}
 use Rattle.org_base.specs.declared.profile.Profile.{Profile}
@@ -14,14 +14,14 @@ use Rattle.org_index.specs.Near.{candidate_count, candidate_ids, meets, touches,
 use Rattle.org_index.specs.declared.extent.Extent.{Extent}
 use Rattle.org_settings.specs.Settings.{FileSettings}
 use Rattle.org_agenda.specs.Bare.{bare_stamps}
-use Rattle.org_agenda.specs.Near.{is_near, is_planned, is_pressing}
+use Rattle.org_agenda.specs.Near.{is_pressing}
 use Rattle.org_agenda.specs.declared.source.Source.{Source}
 use Rattle.org_dated.specs.Asked.{asked_of, is_asked}
 use Rattle.org_dated.specs.Index.{AreHomes, AreHoused, HaveSame, IsIndexOf, all_ids, ids_of, is_waiting}
 use Rattle.org_dated.specs.Near.{AddHomes, HasPlace, HoldNear, KeepPlaces, near_in, near_of_entry}
 use Rattle.org_dated.specs.declared.asked.Asked.{Asked}
 use Rattle.org_dated.specs.declared.index.StampIndex.{StampIndex}
-use Rattle.org_dated.proofs.HouseLemmas.{housed_at, housed_long, rest_ids, sum_at}
+use Rattle.org_dated.proofs.HouseLemmas.{housed_at, housed_long, sum_at}
 
 -- one for what passes
 abbrev pub one_if : (Extent → Bool) → ℕ × Extent → ℕ
@@ -154,7 +154,7 @@ own_pass q wanted m first count id (s ∷ ss) low high =
     elim (cases_Bool (wanted s)) [
       | inl yes' ↦ rw yes' (
           sum_by-cons (passing m first count) (id, extent_of q s.stamp) (ids_of q wanted (id + 1) ss) ∙ ap₂ (λ x y. x + y) same more ∙ sym (sum_by-cons (one_if m) (id, extent_of q s.stamp) (ids_of q wanted (id + 1) ss))
-        )
+          )
       | inr no' ↦ rw no' more
     ]
 

@@ -1,6 +1,6 @@
 -- The places of ids in a set.
 use Rattle.std.proofs.Common.{◌≡◌, ◌∙◌, ℕ, zero, suc, ◌+◌, ◌<◌, ◌≤◌, Bool, true, false, cond, List, [], ◌∷◌, ◌++◌, inl, inr, length, take, get_or, sym, ap, refl, subst, arith}
-use Rattle.std.specs.Prelude.{Option, None, Some, Contains, Result, Ok, Err, OnErr, slice_get}
+use Rattle.std.specs.Prelude.{None, Some, Contains, Result, Ok, Err, OnErr, slice_get}
 use Rattle.std.specs.Ordering.{nat_cmp}
 use Rattle.std.specs.BTreeMap.{is_at}
 use Rattle.std.specs.BTreeSet.{BTreeSet, contains}

@@ -1,5 +1,5 @@
 -- Stamps put in, one by one.
-use Rattle.std.proofs.Common.{◌≡◌, ◌∙◌, ℕ, zero, suc, ◌+◌, ◌^◌, ◌<◌, ◌≤◌, Bool, true, false, cond, List, [], ◌∷◌, ◌++◌, length, take, get_or, sym, ap, ap₂, refl, subst, arith, append_assoc}
+use Rattle.std.proofs.Common.{◌≡◌, ◌∙◌, ℕ, zero, suc, ◌+◌, ◌^◌, ◌<◌, ◌≤◌, Bool, true, false, List, [], ◌∷◌, ◌++◌, length, take, get_or, sym, ap, refl, subst, arith, append_assoc}
 use Rattle.std.specs.Prelude.{replicate, not, Result, Ok, Err, OnOk}
 use Rattle.std.specs.List.{sum_by}
 use Rattle.std.specs.BTreeMap.{insert_entry}

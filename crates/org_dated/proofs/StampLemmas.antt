@@ -1,5 +1,5 @@
 -- Files and what their headings inherit, one by one.
-use Rattle.std.proofs.Common.{◌≡◌, ◌∙◌, ℕ, zero, suc, ◌+◌, ◌<◌, ◌≤◌, List, [], ◌∷◌, ◌++◌, length, take, sym, ap, ap₂, refl, subst, arith}
+use Rattle.std.proofs.Common.{◌≡◌, ◌∙◌, ℕ, zero, suc, ◌+◌, ◌<◌, ◌≤◌, List, [], ◌∷◌, ◌++◌, length, take, sym, ap, ap₂, refl, arith}
 use Rattle.std.specs.Prelude.{Option, Some, None, get_or, slice_get}
 use Rattle.std.specs.List.{AllZip, sum_by}
 use Rattle.std.specs.BTreeSet.{BTreeSet}

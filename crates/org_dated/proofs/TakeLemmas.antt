@@ -1,6 +1,6 @@
 -- Stamps taken out, one by one.
-use Rattle.std.proofs.Common.{◌≡◌, ◌∙◌, ℕ, zero, suc, ◌+◌, ◌<◌, ◌≤◌, Bool, true, false, cond, List, [], ◌∷◌, ◌++◌, length, drop, get_or, inl, inr, sym, ap, ap₂, refl, subst, arith}
-use Rattle.std.specs.Prelude.{Option, Some, None, nat_eq}
+use Rattle.std.proofs.Common.{◌≡◌, ◌∙◌, ℕ, ◌+◌, ◌<◌, ◌≤◌, Bool, true, false, cond, List, [], ◌∷◌, ◌++◌, length, drop, get_or, inl, inr, sym, ap, ap₂, refl, subst, arith}
+use Rattle.std.specs.Prelude.{Option, Some, None}
 use Rattle.std.specs.List.{sum_by}
 use Rattle.std.specs.List.Sorted.{IsStrictlySortedBy}
 use Rattle.std.specs.BTreeMap.{is_at}
@@ -9,7 +9,7 @@ use Rattle.std.specs.Ordering.{nat_cmp}
 use Rattle.std.proofs.lemmas.Bool.{cases_Bool}
 use Rattle.std.proofs.lemmas.Bool.Decides.{nat_tests}
 use Rattle.std.proofs.lemmas.List.{drop_more, drop_all}
-use Rattle.std.proofs.lemmas.List.Sums.{sum_by-cons, sum_by-append}
+use Rattle.std.proofs.lemmas.List.Sums.{sum_by-cons}
 use Rattle.org_base.specs.declared.profile.Profile.{Profile}
 use Rattle.org_index.specs.Extents.{extent_of}
 use Rattle.org_index.specs.declared.extent.Extent.{Extent}
@@ -55,7 +55,7 @@ none_left weight id from (p ∷ ps) up = elim (cases_Bool (is_at (nat_cmp id) p.
   | inl here ↦ rw here (let lt : id < p.0 + 1 = omega (arith, same_id id p.0 here) in none_above weight id (p.0 + 1) ps lt up.1)
   | inr away ↦ rw away (
       sum_by-cons (only id weight) p (remove_entry (is_at (nat_cmp id)) ps) ∙ ap₂ (λ a b. a + b) (ap (λ b. cond b (weight p) 0) away) (none_left weight id (p.0 + 1) ps up.1)
-    )
+      )
 ]
 
 -- where nothing stands under an id it weighs nothing

@@ -1,5 +1,5 @@
 -- What the indexes of a file's stamps hold (profile).
-use Rattle.std.specs.Prelude.{◌≡◌, ◌<◌, ◌≤◌, ◌^◌, ℕ, ◌+◌, Bool, not, if◌then◌else◌, List, [], ◌∷◌, ◌++◌, Option, Some, length, replicate, slice_get}
+use Rattle.std.specs.Prelude.{◌≡◌, ◌<◌, ◌≤◌, ◌^◌, ℕ, ◌+◌, Bool, not, if◌then◌else◌, List, [], ◌∷◌, ◌++◌, Some, length, replicate, slice_get}
 use Rattle.std.specs.List.{sum_by}
 use Rattle.org_base.specs.declared.profile.Profile.{Profile}
 use Rattle.org_entry.specs.declared.entry.Entry.{Entry}

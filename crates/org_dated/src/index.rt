@@ -36,7 +36,7 @@ pub(crate) struct StampIndex {
     // By id the place of its heading.
     pub(crate) homes: Vec<usize>,
     // By place the first id of its heading's stamps; the others follow.
-    pub(crate) firsts: Vec<usize>,
+    pub(crate) firsts: Vec<u32>,
     // How many ids lead to no stamp any more.
     gone: usize,
 }
@@ -117,22 +117,25 @@ impl StampIndex {
         requires { place < length self.now.firsts.items }
         ensures value { result ≡ get_or self.now.firsts.items place 0 }
     {
-        self.firsts[place]
+        self.firsts[place] as usize
     }
 
     // Puts stamps of the heading at a place in, under ids that were never given; the first of these ids. Want of memory is the
     // only refusal; then the index is of no use any more.
-    fn put_stamps(&mut self, place: usize, stamps: &[Source]) -> Result<usize, Fault>
+    fn put_stamps(&mut self, place: usize, stamps: &[Source]) -> Result<u32, Fault>
         requires fresh { AreFresh self.old }
         ensures first { IfOk result (λ first. first ≡ length self.old.homes.items) }
         ensures ok { OnOk result (HasPut place stamps.now self.old self.new) }
         ensures memory { IsOkUnless result memory_fault }
     {
         let first = self.homes.len();
+        if first >= MOST_IDS {
+            return Err(Fault::Plain(Code::Memory));
+        }
         for stamp in stamps {
             self.put_stamp(place, stamp)?;
         }
-        Ok(first)
+        Ok(first as u32)
     }
 
     // Puts a stamp of the heading at a place in, under an id that was never given.
@@ -214,11 +217,7 @@ impl StampIndex {
 }
 
 // The places of these ids, with those that are there already.
-fn add_homes(
-    places: &mut BTreeSet<usize>,
-    homes: &[usize],
-    ids: &[u32],
-) -> Result<(), AllocError>
+fn add_homes(places: &mut BTreeSet<usize>, homes: &[usize], ids: &[u32]) -> Result<(), AllocError>
     ensures keeps { OnOk result (KeepPlaces places.old places.new) }
     ensures adds { OnOk result (AddHomes homes.now ids.now places.new) }
 {

@@ -1,13 +1,13 @@
 -- Which sections were read.
-use Rattle.std.proofs.Common.{◌≡◌, ◌∙◌, ℕ, zero, suc, ◌+◌, ◌<◌, ◌≤◌, List, [], ◌∷◌, Bool, true, false, cond, length, get_or, map, take, sym, refl, ap, arith, subst, true≢false}
-use Rattle.std.specs.Prelude.{Err, IfOk, Ok, OnErr, OnOk, is_some, Result, Some, None, Option, String, not, nat_lt, slice_get, slice_set}
+use Rattle.std.proofs.Common.{◌≡◌, ◌∙◌, ℕ, zero, suc, ◌+◌, ◌<◌, ◌≤◌, List, [], ◌∷◌, Bool, true, false, cond, length, take, sym, refl, ap, arith, true≢false}
+use Rattle.std.specs.Prelude.{Err, IfOk, Ok, OnErr, OnOk, is_some, Result, Some, None, Option, String, nat_lt, slice_get}
 use Rattle.std.proofs.lemmas.Bool.{le-ltb, lt-ltb}
 use Rattle.std.specs.Map.{values_of}
 use Rattle.std.proofs.lemmas.List.{take_all}
 use Rattle.indexmap.specs.IndexMap.{set_value_at}
 use Rattle.org_base.specs.Counts.{Counts, ticked}
 use Rattle.org_base.specs.declared.meter.Tick.TheVariants.{Read}
-use Rattle.org_kept.specs.Counts.{SomeRead, have_read}
+use Rattle.org_kept.specs.Counts.{have_read}
 use Rattle.org_base.specs.Results.{Gives, IfRefused}
 use Rattle.org_base.specs.declared.fault.Fault.{Fault}
 use Rattle.org_file.specs.Completion.{completion_part}

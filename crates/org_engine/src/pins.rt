@@ -54,7 +54,7 @@ pub(crate) struct Pins<T: Text> {
 
 impl<T: Text> Model for Pins<T> {
     ghost use Rattle.org_engine.specs.Examined.{MayExamine};
-ghost use Rattle.org_engine.specs.Pins.{pin_marks, pins_of};
+    ghost use Rattle.org_engine.specs.Pins.{pin_marks, pins_of};
     ghost use Rattle.org_engine.specs.World.{KeptPins};
 
     ghost Value = { KeptPins };

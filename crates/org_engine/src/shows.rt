@@ -113,7 +113,13 @@ fn inherits_named<'a, T: Text>(
         if !is_wanted(file, name) {
             continue;
         }
-        let inherit = inherit_of(alloc, &outlines[place], name, world.inherited(), by_ancestors)?;
+        let inherit = inherit_of(
+            alloc,
+            &outlines[place],
+            name,
+            world.inherited(),
+            by_ancestors,
+        )?;
         inherits.push(inherit)?;
     }
     Ok(inherits)

@@ -12,10 +12,7 @@ use org_sequence::Sequence;
 use std::alloc::{AllocError, Global};
 
 // The outline of those sections that were read, which shares their entries. Want of memory is the only refusal.
-pub(crate) fn outline_in(
-    alloc: Global,
-    list: &Sequence<Section>,
-) -> Result<DatedOutline, Fault>
+pub(crate) fn outline_in(alloc: Global, list: &Sequence<Section>) -> Result<DatedOutline, Fault>
     ensures value { Gives result (entries_in list.now) }
     ensures memory { IsOkUnless result memory_fault }
 {
@@ -37,9 +34,7 @@ fn shared_entries(alloc: Global, list: &Sequence<Section>) -> Result<Entries, Fa
 }
 
 // A share of an outline, where there is one.
-pub(crate) fn shared(
-    outline: &Option<DatedOutline>,
-) -> Result<Option<DatedOutline>, AllocError>
+pub(crate) fn shared(outline: &Option<DatedOutline>) -> Result<Option<DatedOutline>, AllocError>
     ensures value { Gives result outline.now }
 {
     match outline {

@@ -1,5 +1,4 @@
-use Rattle.std.proofs.Common.{◌≡◌, ◌∙◌, ap}
-use Rattle.std.specs.Prelude.{None}
+use Rattle.std.proofs.Common.{◌∙◌, ap}
 use Rattle.org_engine.specs.Outlines.{scopes_of}
 use Rattle.org_engine.specs.Views.{scopes_named}
 use Rattle.org_engine.proofs.MarkLemmas.{none_examined, on_err}

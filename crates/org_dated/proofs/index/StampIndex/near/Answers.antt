@@ -1,7 +1,7 @@
-use Rattle.std.proofs.Common.{◌≡◌, ◌∙◌, List, ℕ, ap, sym, subst}
+use Rattle.std.proofs.Common.{◌∙◌, List, ℕ, ap, sym, subst}
 use Rattle.org_index.specs.Near.{candidate_count, candidate_ids, touching_count, touching_ids}
-use Rattle.org_index.specs.Ticks.{Examines, examined}
-use Rattle.org_dated.specs.Near.{AddHomes, near_in}
+use Rattle.org_index.specs.Ticks.{examined}
+use Rattle.org_dated.specs.Near.{AddHomes}
 use Rattle.org_dated.proofs.NearLemmas.{hold_near, near_counted}
 use Rattle.org_dated.proofs.PlaceLemmas.{both_counted, examines_more, on_err}
 use Rattle.org_dated.proofs.index.StampIndex.near.Goals as goal

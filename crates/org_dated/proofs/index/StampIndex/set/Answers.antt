@@ -1,4 +1,4 @@
-use Rattle.std.proofs.Common.{◌≡◌, ◌∙◌, ◌<◌, ◌≤◌, ◌+◌, ◌^◌, length, get_or, sym, ap, refl, subst, arith}
+use Rattle.std.proofs.Common.{◌≡◌, ◌∙◌, length, get_or, ap, refl, subst, arith}
 use Rattle.std.specs.Prelude.{slice_set}
 use Rattle.std.specs.Vec.{with_item}
 use Rattle.std.proofs.lemmas.Option.{slice_get_read}
@@ -6,7 +6,7 @@ use Rattle.org_settings.specs.Settings.{FileSettings}
 use Rattle.org_agenda.specs.Bare.{bare_stamps}
 use Rattle.org_dated.specs.Index.{HasPut, HasTaken}
 use Rattle.org_dated.specs.declared.index.StampIndex.{StampIndex}
-use Rattle.org_dated.proofs.IndexLemmas.{first_within, fresh_of, fresh_taken, ids_fit, set_there}
+use Rattle.org_dated.proofs.IndexLemmas.{first_within, fresh_taken, ids_fit, set_there}
 use Rattle.org_dated.proofs.index.StampIndex.set.Goals as goal
 
 pub first_id-first-requires : goal.first_id-first-requires

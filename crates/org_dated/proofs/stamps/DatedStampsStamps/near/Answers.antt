@@ -1,4 +1,4 @@
-use Rattle.std.proofs.Common.{◌≡◌, ◌∙◌, ◌<◌, ◌≤◌, List, arith, ap, length, take}
+use Rattle.std.proofs.Common.{◌∙◌, ◌<◌, ◌≤◌, List, arith, ap, length, take}
 use Rattle.org_index.specs.Ticks.{examined}
 use Rattle.org_inherit.specs.Scope.{Scope}
 use Rattle.org_agenda.specs.Days.{day_rows}

@@ -1,6 +1,5 @@
 use Rattle.org_agenda.specs.Bound.{near_count}
 use Rattle.std.proofs.Common.{◌+◌, ◌-◌}
-use Rattle.org_engine.specs.Marks.{AnyStamps}
 use Rattle.org_engine.proofs.MarkLemmas.{on_err}
 use Rattle.org_engine.proofs.agenda.DaysShows.text.Goals as goal
 

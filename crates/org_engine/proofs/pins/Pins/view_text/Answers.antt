@@ -1,4 +1,4 @@
-use Rattle.std.proofs.Common.{◌≡◌, ◌<◌, ◌∙◌, arith, length, string_bytes, subst, sym}
+use Rattle.std.proofs.Common.{◌<◌, ◌∙◌, arith, length, string_bytes, subst, sym}
 use Rattle.std.proofs.lemmas.Result.{IfErr-weaker, IfOk-weaker}
 use Rattle.org_engine.specs.Examined.{MayExamine}
 use Rattle.org_engine.specs.Pins.{pins_of}
