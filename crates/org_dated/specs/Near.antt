@@ -12,7 +12,9 @@ use Rattle.org_agenda.specs.Bare.{bare_stamps}
 use Rattle.org_agenda.specs.Sources.{file_sources, sources_at}
 use Rattle.org_agenda.specs.declared.source.Source.{Source}
 use Rattle.org_dated.specs.Asked.{asked_of}
+use Rattle.org_dated.specs.Index.{IsIndexOf}
 use Rattle.org_dated.specs.declared.asked.Asked.{Asked}
+use Rattle.org_dated.specs.declared.index.StampIndex.{StampIndex}
 
 -- the set has the place
 abbrev pub HasPlace : BTreeSet ℕ → ℕ → Type 0
@@ -34,6 +36,13 @@ near_in a settings es = sum_by (near_of_entry a settings) es
 -- each of them was examined, and nothing else was counted
 abbrev pub CountsNear : Asked → FileSettings → List Entry → Counts → Counts → Type 0
 CountsNear a settings es old new = new ≡ examined (near_in a settings es) old
+
+-- the same of the entries whose stamps indexes have
+abbrev pub HoldNearOf : Asked → StampIndex → BTreeSet ℕ → Type 0
+HoldNearOf a x places = (settings : FileSettings) (es : List Entry) → IsIndexOf settings es x → HoldNear a settings es places
+
+abbrev pub CountsNearOf : Asked → StampIndex → Counts → Counts → Type 0
+CountsNearOf a x old new = (settings : FileSettings) (es : List Entry) → IsIndexOf settings es x → CountsNear a settings es old new
 
 -- nothing is lost
 abbrev pub KeepPlaces : BTreeSet ℕ → BTreeSet ℕ → Type 0

@@ -1,11 +1,9 @@
 //! The stamps of a file's headings, found by days.
-ghost use Rattle.std.specs.Prelude.{◌≡◌, ◌≤◌, ◌<◌, ◌+◌, ◌^◌, ◌∷◌, List, [], true, get_or, length, slice_set, IfOk, OnErr, OnOk, IsOkUnless};
+ghost use Rattle.std.specs.Prelude.{◌≡◌, ◌≤◌, ◌<◌, ◌+◌, ◌^◌, ◌∷◌, [], true, get_or, length, slice_set, IfOk, OnErr, OnOk, IsOkUnless};
 ghost use Rattle.org_base.specs.Codes.{memory_fault};
-ghost use Rattle.org_entry.specs.declared.entry.Entry.{Entry as AnyEntry};
 ghost use Rattle.org_index.specs.Ticks.{Examines};
-ghost use Rattle.org_settings.specs.Settings.{FileSettings};
 ghost use Rattle.org_dated.specs.Index.{AreFresh, HasPut, HasTaken, IsCopy, IsIndexOf};
-ghost use Rattle.org_dated.specs.Near.{AddHomes, AddsHome, CountsNear, HoldNear, KeepPlaces};
+ghost use Rattle.org_dated.specs.Near.{AddHomes, AddsHome, CountsNearOf, HoldNearOf, KeepPlaces};
 
 use crate::asked::{Asked, is_pressing};
 use org_agenda::{Source, write_bare};
@@ -199,8 +197,8 @@ impl StampIndex {
     ) -> Result<BTreeSet<usize>, Fault>
         requires order { asked.now.from ≤ asked.now.to }
         requires profile { asked.now.standpoint.profile ≡ self.now.profile }
-        ensures value { IfOk result (λ places. (settings : FileSettings) (es : List AnyEntry) → IsIndexOf settings es self.now → HoldNear asked.now settings es places) }
-        ensures counts { OnOk result ((settings : FileSettings) (es : List AnyEntry) → IsIndexOf settings es self.now → CountsNear asked.now settings es meter.old meter.new) }
+        ensures value { IfOk result (HoldNearOf asked.now self.now) }
+        ensures counts { OnOk result (CountsNearOf asked.now self.now meter.old meter.new) }
         ensures few { OnErr result (Examines meter.old meter.new) }
         ensures memory { IsOkUnless result memory_fault }
     {

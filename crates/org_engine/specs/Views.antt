@@ -49,6 +49,10 @@ wanted_scope file scope = if is_wanted file scope.file then scope ∷ [] else []
 abbrev pub scopes_named : Option (List ℕ) → List Scope → List Scope
 scopes_named file scopes = filter (λ (scope : Scope). is_wanted file scope.file) scopes
 
+-- and what inheritance looks at in each of them, of a world
+abbrev pub scopes_over : Option (List ℕ) → WorldView → List Scope
+scopes_over file world = scopes_named file (scopes_of world)
+
 -- the text of a step: its line, and those of its rows
 unfoldable pub step_text : TableRequest Expr → List Scope → List Counted → ℕ × ℕ → List ℕ
 step_text table scopes files days = step_lines table.with_effort scopes days (step_rows days table.most files)

@@ -10,7 +10,7 @@ ghost use Rattle.org_index.specs.Ticks.{examined};
 ghost use Rattle.org_inherit.specs.Scope.{Scope};
 ghost use Rattle.org_engine.specs.Outlines.{AreRead, outlines_of, scopes_of};
 ghost use Rattle.org_engine.specs.Marks.{ExaminesSome, ReadsAll, ReadsSome};
-ghost use Rattle.org_engine.specs.Views.{is_wanted, scopes_named};
+ghost use Rattle.org_engine.specs.Views.{is_wanted, scopes_named, scopes_over};
 
 use crate::outlines::read_world;
 use crate::world::World;
@@ -66,8 +66,8 @@ pub(crate) fn view_of<T: Text, V: Shows>(
     world: &mut World<T>,
     view: &V,
 ) -> Result<String, Fault>
-    ensures value { GivesText result (V.shown view.now (scopes_named (V.named view.now) (scopes_of world.old.world))) }
-    ensures read { OnOk result (ReadsAll (V.examines view.now (scopes_named (V.named view.now) (scopes_of world.old.world))) world.old world.new meter.old meter.new) }
+    ensures value { GivesText result (V.shown view.now (scopes_over (V.named view.now) world.old.world)) }
+    ensures read { OnOk result (ReadsAll (V.examines view.now (scopes_over (V.named view.now) world.old.world)) world.old world.new meter.old meter.new) }
     ensures few { OnErr result (ReadsSome (V.may view.now) world.old world.new meter.old meter.new) }
     ensures memory { IsOkUnless result memory_fault }
 {
@@ -84,8 +84,8 @@ fn view_over<T: Text, V: Shows>(
     view: &V,
 ) -> Result<String, Fault>
     requires read { outlines.now ≡ outlines_of world.now.world }
-    ensures value { GivesText result (V.shown view.now (scopes_named (V.named view.now) (scopes_of world.now.world))) }
-    ensures counts { OnOk result (meter.new ≡ examined (V.examines view.now (scopes_named (V.named view.now) (scopes_of world.now.world))) meter.old) }
+    ensures value { GivesText result (V.shown view.now (scopes_over (V.named view.now) world.now.world)) }
+    ensures counts { OnOk result (meter.new ≡ examined (V.examines view.now (scopes_over (V.named view.now) world.now.world)) meter.old) }
     ensures few { OnErr result (ExaminesSome (V.may view.now) meter.old meter.new) }
     ensures memory { IsOkUnless result memory_fault }
 {

@@ -35,13 +35,35 @@ todo
 fn one_stamp_among_years(rt: HostRuntime) -> Result<(), Fail> {
     let alloc = rt.alloc();
     let mut engine = new_engine(alloc)?;
-    assert_eq!(rt; examined_by(alloc, &mut engine, YEARS_APART, "view 0\n"), Some(0));
+    assert_eq!(rt;
+        examined_by(alloc, &mut engine, YEARS_APART, "view 0\n"),
+        Some(0)
+    );
     let day = "agenda 2024-02-28 1\n";
-    assert_eq!(rt; examined_by(alloc, &mut engine, day, "W09\n  a:                      b\n"), Some(1));
+    assert_eq!(rt;
+        examined_by(
+            alloc,
+            &mut engine,
+            day,
+            "W09\n  a:                      b\n"
+        ),
+        Some(1)
+    );
     let pinned = "pin 1\npinned 1 agenda 2024-02-28 1\n";
-    assert_eq!(rt; examined_by(alloc, &mut engine, pinned, "W09\n  a:                      b\n"), Some(1));
+    assert_eq!(rt;
+        examined_by(
+            alloc,
+            &mut engine,
+            pinned,
+            "W09\n  a:                      b\n"
+        ),
+        Some(1)
+    );
     let far = "agenda 2025-01-01 366\n";
-    assert_eq!(rt; examined_by(alloc, &mut engine, far, "2026-01-01 Thu W01\n"), Some(0));
+    assert_eq!(rt;
+        examined_by(alloc, &mut engine, far, "2026-01-01 Thu W01\n"),
+        Some(0)
+    );
     Ok(())
 }
 
@@ -51,19 +73,54 @@ fn one_stamp_among_years(rt: HostRuntime) -> Result<(), Fail> {
 fn stamps_behind_edits(rt: HostRuntime) -> Result<(), Fail> {
     let alloc = rt.alloc();
     let mut engine = new_engine(alloc)?;
-    assert_eq!(rt; examined_by(alloc, &mut engine, YEARS_APART, "view 0\n"), Some(0));
+    assert_eq!(rt;
+        examined_by(alloc, &mut engine, YEARS_APART, "view 0\n"),
+        Some(0)
+    );
     let day = "agenda 2024-02-28 1\npin 1\n";
     assert_eq!(rt; examined_by(alloc, &mut engine, day, "ok 1\n"), Some(1));
     let typed = "edit 1 a.org 1 5 10 10\n2024-02-28agenda 2024-02-28 1\n";
-    assert_eq!(rt; examined_by(alloc, &mut engine, typed, "  a:                      a\n  a:                      b\n"), Some(2));
+    assert_eq!(rt;
+        examined_by(
+            alloc,
+            &mut engine,
+            typed,
+            "  a:                      a\n  a:                      b\n"
+        ),
+        Some(2)
+    );
     let back = "edit 1 a.org 2 5 10 10\n2020-01-01agenda 2024-02-28 1\n";
-    assert_eq!(rt; examined_by(alloc, &mut engine, back, "W09\n  a:                      b\n"), Some(1));
+    assert_eq!(rt;
+        examined_by(
+            alloc,
+            &mut engine,
+            back,
+            "W09\n  a:                      b\n"
+        ),
+        Some(1)
+    );
     let gone = "edit 1 a.org 3 17 17 0\nagenda 2024-02-28 1\n";
     assert_eq!(rt; examined_by(alloc, &mut engine, gone, "W09\n"), Some(0));
     let new = "edit 1 a.org 4 0 0 17\n* d\n<2024-02-28>\nagenda 2024-02-28 1\n";
-    assert_eq!(rt; examined_by(alloc, &mut engine, new, "W09\n  a:                      d\n"), Some(1));
+    assert_eq!(rt;
+        examined_by(
+            alloc,
+            &mut engine,
+            new,
+            "W09\n  a:                      d\n"
+        ),
+        Some(1)
+    );
     let kept = "pinned 1 agenda 2024-02-28 1\n";
-    assert_eq!(rt; examined_by(alloc, &mut engine, kept, "W09\n  a:                      b\n"), Some(1));
+    assert_eq!(rt;
+        examined_by(
+            alloc,
+            &mut engine,
+            kept,
+            "W09\n  a:                      b\n"
+        ),
+        Some(1)
+    );
     let dropped = "drop a.org\nagenda 2024-02-28 1\n";
     assert_eq!(rt; examined_by(alloc, &mut engine, dropped, "W09\n"), Some(0));
     Ok(())
@@ -91,7 +148,10 @@ fn deadlines_near_today(rt: HostRuntime) -> Result<(), Fail> {
     let year = "view 19\n2024-01-01 Mon W01\n";
     assert_eq!(rt; examined_by(alloc, &mut engine, DEADLINES, year), Some(0));
     let day = "agenda 2024-02-28 1\n";
-    assert_eq!(rt; examined_by(alloc, &mut engine, day, "1 d. ago: TODO t\n"), Some(3));
+    assert_eq!(rt;
+        examined_by(alloc, &mut engine, day, "1 d. ago: TODO t\n"),
+        Some(3)
+    );
     Ok(())
 }
 
@@ -107,9 +167,15 @@ agenda 2024-02-26 1
 fn ranges_by_profile(rt: HostRuntime) -> Result<(), Fail> {
     let alloc = rt.alloc();
     let mut one = new_engine(alloc)?;
-    assert_eq!(rt; examined_by(alloc, &mut one, REPEATED_RANGE, "W09\n"), Some(0));
+    assert_eq!(rt;
+        examined_by(alloc, &mut one, REPEATED_RANGE, "W09\n"),
+        Some(0)
+    );
     let mut two = new_engine(alloc)?;
-    assert_eq!(rt; examined_by(alloc, &mut two, "profile 2\n", "ok 0\n"), Some(0));
+    assert_eq!(rt;
+        examined_by(alloc, &mut two, "profile 2\n", "ok 0\n"),
+        Some(0)
+    );
     let copy = "W09\n  a:                      (1/2): a\n";
     assert_eq!(rt; examined_by(alloc, &mut two, REPEATED_RANGE, copy), Some(1));
     Ok(())
