@@ -70,6 +70,17 @@ impl DatedOutline {
         &self.outline
     }
 
+    /// Whether [`DatedOutline::set`] would make no pass over what is kept: nobody shares it, and both entries have one level.
+    pub fn is_set_at_once(&self, place: usize, entry: &Entry) -> bool
+        requires { place < length self.now }
+    {
+        let is_own = match &self.index {
+            None => true,
+            Some(index) => Rc::strong_count(index) == 1,
+        };
+        is_own && self.outline.is_set_at_once(place, entry)
+    }
+
     /// Puts an entry, which others may hold too, in the place of the one at a place. Where both have one level it costs what the
     /// stamps of both cost, unless others share what is kept: then it is copied first. Want of memory is the only refusal, and
     /// leaves the entries as before.

@@ -122,8 +122,8 @@ fn place_over<T: Text>(world: &World<T>, file: Option<&str>) -> Result<Option<us
 
 // The text of the list of the headings that have one of these keywords, or of none, one that isn't done; of all files, or of
 // the one of a name. `Unknown` exactly where there is none of that name, before anything is looked at; else want of memory is
-// the only refusal. Each section of each file is classified once and read once, as the meter counts; after a refusal some
-// of the sections may have been counted.
+// the only refusal. Sections that are still to be read are read first, each once as the meter counts; after a refusal some of
+// them may have been counted.
 pub(crate) fn todo_text<T: Text>(
     alloc: Global,
     meter: &mut Meter,

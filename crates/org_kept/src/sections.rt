@@ -141,7 +141,8 @@ impl Sections {
     }
 }
 
-// An outline with what a section says in its place, where it was read; None where memory is refused.
+// An outline with what a section says in its place, where it was read; None where memory is refused, or where that would take a
+// pass over all entries: who asks next makes it anew then, and who only edits pays for none.
 fn mended(
     alloc: Global,
     mut outline: DatedOutline,
@@ -151,6 +152,11 @@ fn mended(
     requires within { place < length outline }
     ensures value { IfSome result (λ es. es ≡ with_said section.now.entry place outline) }
 {
+    if let Some(entry) = section.entry()
+        && !outline.is_set_at_once(place, entry)
+    {
+        return None;
+    }
     match section.put_entry(alloc, &mut outline, place) {
         Ok(()) => Some(outline),
         Err(_) => None,
