@@ -138,12 +138,10 @@ impl Bench<'_> {
         first.extend(b"agenda 2024-02-28 1\n");
         let (added, todo, first) = (self.run(&self.added())?, self.run(&todo)?, self.run(&first)?);
         println!(
-            "{repeating} repeat: first read by a list {:.1} ms {:.1} MiB, and its stamps kept by days {:.1} ms {:.1} MiB more: {:.0} bytes a stamp",
+            "{repeating} repeat: first read by a list {:.1} ms, and its stamps kept by days {:.1} ms more; at most {:.1} MiB",
             (todo.seconds - added.seconds) * 1e3,
-            mib(todo),
             (first.seconds - todo.seconds) * 1e3,
-            mib(first) - mib(todo),
-            (mib(first) - mib(todo)) * 1024.0 * 1024.0 / years.stamps.len() as f64
+            mib(first)
         );
         let asked = [("2024-02-28", TODAY, 1), ("2024-02-28", TODAY, 7), ("2024-02-28", TODAY, 366), ("2026-05-05", 2316, 1), ("2026-05-05", 2316, 7)];
         for (date, from, days) in asked {
@@ -204,9 +202,10 @@ impl Bench<'_> {
         }
         let (none, pins, all) = (self.run(&none)?, self.run(&pins)?, self.run(&all)?);
         println!(
-            "{IN_TURN} pins: {:.3} ms each, {:.3} ms with a key and an agenda behind each",
+            "{IN_TURN} pins: {:.3} ms each, {:.3} ms with a key and an agenda behind each, by which each has {:.0} bytes of its own for a heading with its stamp",
             (pins.seconds - none.seconds) / IN_TURN as f64 * 1e3,
-            (all.seconds - none.seconds) / IN_TURN as f64 * 1e3
+            (all.seconds - none.seconds) / IN_TURN as f64 * 1e3,
+            (mib(all) - mib(pins)) * 1024.0 * 1024.0 / (IN_TURN * self.years.stamps.len()) as f64
         );
         Ok(())
     }
