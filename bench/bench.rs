@@ -18,6 +18,7 @@
 //!     bench cost FILE PROGRAM .. seconds and KiB of one run of a program over a file
 mod agenda;
 mod clocks;
+mod days;
 mod edits;
 mod kept;
 mod memory;
@@ -49,6 +50,7 @@ fn main() -> io::Result<()> {
         Some("sizes") => sizes::measure(&args[2], &args[0]),
         Some("memory") => memory::measure(&args[2], &args[0]),
         Some("kept") => kept::measure(&args[2], &args[0], args.get(3).map_or(1, |scale| scale.parse().expect("a scale"))),
+        Some("days") => days::measure(&args[2], &args[0], args.get(3).map_or(1, |scale| scale.parse().expect("a scale"))),
         Some("text") => io::stdout().write_all(text(args[2].parse().unwrap()).as_bytes()),
         Some("cost") => print_cost(&args[2], &args[3..]),
         Some("list") => {

@@ -13,4 +13,4 @@ mkdir -p bench/out
 rustc -O -o bench/out/bench bench/bench.rs || exit 2
 echo "machine: $(nproc) processors, $(sed -n 's/^model name.*: //p' /proc/cpuinfo | head -n 1), load $(cut -d' ' -f1 /proc/loadavg)"
 echo "commit: $(git rev-parse --short HEAD 2>/dev/null), kit: $(rt version 2>/dev/null)"
-bench/out/bench measure "$program" && bench/out/bench sizes "$program" && bench/out/bench memory "$program" && bench/out/bench kept "$program" && bench/out/bench parts "$parts" "$program" && sh bench/cold.sh "$orgq"
+bench/out/bench measure "$program" && bench/out/bench sizes "$program" && bench/out/bench memory "$program" && bench/out/bench kept "$program" && bench/out/bench days "$program" && bench/out/bench parts "$parts" "$program" && sh bench/cold.sh "$orgq"

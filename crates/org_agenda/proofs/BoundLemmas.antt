@@ -14,7 +14,7 @@ use Rattle.org_agenda.specs.Days.{source_rows}
 use Rattle.org_agenda.specs.Near.{IsSound, is_near}
 use Rattle.org_agenda.specs.Sources.{entry_sources, head_sources, owner_of, sources_at, sources_from, sources_of}
 use Rattle.org_agenda.specs.declared.source.Source.{Source}
-use Rattle.org_agenda.proofs.IndexedLemmas.{filter_append}
+use Rattle.org_agenda.proofs.ListLemmas.{filter_append}
 use Rattle.org_agenda.proofs.NearRowLemmas.{rows_are_near}
 
 -- what passes one test passes the other

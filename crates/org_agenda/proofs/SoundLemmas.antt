@@ -32,9 +32,8 @@ use Rattle.org_stamp.specs.declared.stamp.Stamp.{Stamp}
 use Rattle.org_stamp.proofs.CanPrintLemmas.{can_print, stamp_bounds}
 use Rattle.org_stamp.proofs.ReadLemmas.{single_found}
 use Rattle.org_stamp.proofs.SpelledLemmas.{inner_is_spelled}
-use Rattle.org_agenda.specs.Indexed.{ReadStampsAreSound}
-use Rattle.org_agenda.specs.Near.{IsSound}
-use Rattle.org_agenda.specs.Sources.{entry_sources, file_sources, head_sources, owner_of, plain_sources, put, source_at, sources_at, sources_from, with_planned, with_planning}
+use Rattle.org_agenda.specs.Near.{IsSound, ReadStampsAreSound}
+use Rattle.org_agenda.specs.Sources.{entry_sources, file_sources, head_sources, owner_of, plain_sources, put, source_at, sources_at, sources_from, sources_of, with_planned, with_planning}
 use Rattle.org_agenda.specs.declared.source.Owner.{Owner}
 use Rattle.org_agenda.specs.declared.source.Role.{Role}
 use Rattle.org_agenda.specs.declared.source.Role.TheVariants.{Scheduled, Deadline}
@@ -215,3 +214,17 @@ from_sound scope file i settings (s ∷ ss) =
 pub read_stamps_are_sound : ReadStampsAreSound
 read_stamps_are_sound scope file settings sections read =
     all_sound (file_sources scope file) (subst (λ (es : List Entry). AllSound (sources_from scope file 0 es)) (sym read) (from_sound scope file 0 settings sections))
+
+-- the entries of each file were read of sections
+abbrev pub AreReadOf : List Scope → Type 0
+AreReadOf [] = Unit {0}
+AreReadOf (s ∷ ss) = ((settings : FileSettings) × (sections : List (List ℕ)) × (s.entries ≡ map (entry_of settings) sections)) × AreReadOf ss
+
+files_sound : (k : ℕ) (ss : List Scope) → AreReadOf ss → AllSound (sources_of k ss)
+files_sound k [] h = tt
+files_sound k (s ∷ ss) h =
+    append_sound (file_sources s k) (sources_of (k + 1) ss) (subst (λ (es : List Entry). AllSound (sources_from s k 0 es)) (sym h.0.2) (from_sound s k 0 h.0.0 h.0.1)) (files_sound (k + 1) ss h.1)
+
+-- so the stamps of all files are sound
+pub read_sound : (k : ℕ) (ss : List Scope) → AreReadOf ss → All IsSound (sources_of k ss)
+read_sound k ss h = all_sound (sources_of k ss) (files_sound k ss h)

@@ -1,12 +1,16 @@
 -- Which stamps of headings are near some days (profile; delays and warnings as in Org manual 9.6, "Deadlines and
 -- Scheduling").
-use Rattle.std.specs.Prelude.{◌≡◌, ℕ, ◌≤◌, Bool, true, false, ◌&&◌, ◌||◌, List, [], filter, None}
+use Rattle.std.specs.Prelude.{◌≡◌, ℕ, ◌≤◌, Bool, true, false, ◌&&◌, ◌||◌, List, [], filter, map, None}
 use Rattle.std.specs.List.{All}
 use Rattle.org_base.specs.declared.profile.Profile.{Profile}
 use Rattle.org_cal.specs.Days.{IsDay}
+use Rattle.org_entry.specs.Entry.{entry_of}
 use Rattle.org_index.specs.Extents.{extent_of}
 use Rattle.org_index.specs.Near.{touches, warns}
+use Rattle.org_inherit.specs.Scope.{Scope}
+use Rattle.org_settings.specs.Settings.{FileSettings}
 use Rattle.org_agenda.specs.Days.{day_rows, source_rows}
+use Rattle.org_agenda.specs.Sources.{file_sources}
 use Rattle.org_agenda.specs.declared.source.Role.{Role}
 use Rattle.org_agenda.specs.declared.source.Role.TheVariants.{Plain, Scheduled, Deadline}
 use Rattle.org_agenda.specs.declared.source.Source.{Source}
@@ -43,3 +47,7 @@ RowsAreNear = (p : Profile) (s : Source) (from to today day : ℕ) → IsSound s
 abbrev pub NearGiveAll : Type 0
 NearGiveAll = (p : Profile) (sources : List Source) (from to today day : ℕ) → All IsSound sources → from ≤ day → day ≤ to →
     day_rows p (near_sources p from to today sources) today day ≡ day_rows p sources today day
+
+-- the stamps of a file whose entries were read of sections are sound
+abbrev pub ReadStampsAreSound : Type 0
+ReadStampsAreSound = (scope : Scope) (file : ℕ) (settings : FileSettings) (sections : List (List ℕ)) → scope.entries ≡ map (entry_of settings) sections → All IsSound (file_sources scope file)

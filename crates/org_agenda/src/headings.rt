@@ -4,8 +4,9 @@ ghost use Rattle.org_agenda.specs.Facts.{IsFoundAt};
 use crate::facts::HeadingFacts;
 use org_inherit::Inherit;
 
-// The heading of the entry at a place of a file, if there is one and it has a head.
-pub(crate) fn heading_at<'a, 'b>(
+/// The heading of the entry at a place of a file, which itself stands at one; None where there is no such entry, or one
+/// without head. It takes no memory.
+pub fn heading_at<'a, 'b>(
     inherit: &'a Inherit<'b>,
     file: usize,
     place: usize,

@@ -1,23 +1,17 @@
 //! Which stamps an agenda looks at.
-ghost use Rattle.std.specs.Prelude.{◌≡◌, ◌≤◌, ◌+◌, ℕ, List, IfOk, OnErr, OnOk, IsOkUnless, length};
+ghost use Rattle.std.specs.Prelude.{◌≡◌, ◌≤◌, ℕ, List, IfOk, OnErr, OnOk, IsOkUnless, length};
 ghost use Rattle.org_base.specs.Codes.{memory_fault};
 ghost use Rattle.org_base.specs.declared.profile.Profile.{Profile as AnyProfile};
-ghost use Rattle.org_index.specs.Near.{candidate_count, touching_count};
 ghost use Rattle.org_index.specs.Ticks.{Examines, examined};
 ghost use Rattle.org_agenda.specs.Days.{GiveAllRows};
-ghost use Rattle.org_agenda.specs.Indexed.{AreIndexed};
-ghost use Rattle.org_agenda.specs.Sources.{sources_of};
 ghost use Rattle.org_agenda.specs.declared.source.Source.{Source as AnySource};
+ghost use Rattle.org_agenda.specs.declared.standpoint.Standpoint.{Standpoint as AnyStandpoint};
 
-use crate::indexed::{Asked, Owners, add_near, add_touching, near_of};
 use crate::source::Source;
 use crate::standpoint::Standpoint;
 use org_base::{Fault, Meter, Tick};
 use org_cal::Day;
-use org_index::DayIndex;
-use org_inherit::Inherits;
 use std::alloc::Global;
-use std::collections::BTreeSet;
 
 /// Which stamps an agenda of some days looks at.
 pub trait Stamps {
@@ -27,8 +21,8 @@ pub trait Stamps {
     // What has to hold of it in a profile.
     ghost stands: { Self → AnyProfile → Type 0 };
 
-    // How many stamps are examined for the days from one to another, with a today.
-    ghost examines: { Self → ℕ → ℕ → ℕ → ℕ };
+    // How many stamps are examined for the days from one to another, as they are looked at.
+    ghost examines: { Self → AnyStandpoint → ℕ → ℕ → ℕ };
 
     /// The stamps to look at for the days from one to another, in order: on each of these days they give the rows that
     /// all stamps give. Each stamp that is examined is counted. Want of memory is the only refusal, and then some may
@@ -44,7 +38,7 @@ pub trait Stamps {
         requires stands { stands self.now standpoint.now.profile }
         requires order { from ≤ to }
         ensures rows { IfOk result (λ found. GiveAllRows standpoint.now (sources self.now) from to found.items) }
-        ensures counts { OnOk result (meter.new ≡ examined (examines self.now from to standpoint.now.today) meter.old) }
+        ensures counts { OnOk result (meter.new ≡ examined (examines self.now standpoint.now from to) meter.old) }
         ensures few { OnErr result (Examines meter.old meter.new) }
         ensures memory { IsOkUnless result memory_fault };
 }
@@ -60,7 +54,7 @@ impl<'a> Stamps for AllStamps<'a> {
 
     ghost stands = { λ s p. Unit {0} };
 
-    ghost examines = { λ s from to today. length s.sources.now };
+    ghost examines = { λ s seen from to. length s.sources.now };
 
     fn near(
         &self,
@@ -76,43 +70,5 @@ impl<'a> Stamps for AllStamps<'a> {
             meter.tick(Tick::Examine);
         }
         Ok(sources)
-    }
-}
-
-/// The stamps of files' headings, by two indexes: one of those in the planning line of headings without a done keyword,
-/// one of all others.
-#[derive(Drop)]
-pub struct IndexedStamps<'a, O: Owners> {
-    pub inherits: &'a Inherits<'a>,
-    pub pressing: &'a DayIndex,
-    pub others: &'a DayIndex,
-    pub owners: &'a O,
-}
-
-impl<'a, O: Owners> Stamps for IndexedStamps<'a, O> {
-    ghost sources = { λ s. sources_of 0 s.inherits.now };
-
-    ghost stands = { λ s p. AreIndexed p (O.place s.owners.now) s.pressing.now s.others.now s.inherits.now };
-
-    ghost examines = { λ s a b today. candidate_count a b today s.pressing.now + touching_count a b s.others.now };
-
-    fn near(
-        &self,
-        alloc: Global,
-        meter: &mut Meter,
-        standpoint: &Standpoint,
-        from: Day,
-        to: Day,
-    ) -> Result<Vec<Source>, Fault> {
-        let mut places: BTreeSet<(usize, usize)> = BTreeSet::new(alloc);
-        let owners = self.owners;
-        let asked = Asked {
-            standpoint: *standpoint,
-            from,
-            to,
-        };
-        add_near(&mut places, meter, self.pressing, owners, &asked)?;
-        add_touching(&mut places, meter, self.others, owners, &asked)?;
-        Ok(near_of(alloc, self.inherits, &places, &asked)?)
     }
 }

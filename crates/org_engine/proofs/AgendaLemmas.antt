@@ -1,9 +1,10 @@
 -- What an agenda over the files of a world shows.
-use Rattle.std.proofs.Common.{◌≡◌, ◌∙◌, ℕ, zero, suc, ◌+◌, ◌<◌, ◌≤◌, List, ◌++◌, arith, map, refl, ap, ap₂}
+use Rattle.std.proofs.Common.{◌≡◌, ◌∙◌, ℕ, zero, suc, ◌+◌, ◌-◌, ◌<◌, ◌≤◌, List, ◌++◌, arith, map, refl, ap, ap₂}
 use Rattle.std.specs.Prelude.{Option, None, Some}
 use Rattle.std.proofs.lemmas.Bool.{lt-leb, le-leb}
 use Rattle.std.specs.List.{concat, range_with_len}
 use Rattle.org_base.specs.declared.profile.Profile.{Profile}
+use Rattle.org_agenda.specs.Bound.{near_count}
 use Rattle.org_agenda.specs.Days.{AgendaView, day_rows}
 use Rattle.org_agenda.specs.Sources.{sources_of}
 use Rattle.org_agenda.specs.declared.source.Source.{Source}
@@ -15,6 +16,7 @@ use Rattle.org_cal.specs.Texts.{date_of}
 use Rattle.org_engine.specs.declared.limits.TheConstants.{MOST_DAYS}
 use Rattle.org_engine.specs.Questions.{asked_agenda, asked_days, asked_from, days_fault}
 use Rattle.org_engine.specs.Step.{DayAgenda, Unread}
+use Rattle.org_engine.specs.Examined.{near_in_world}
 use Rattle.org_engine.specs.Views.{agenda_view, days_over, scopes_named}
 use Rattle.org_engine.proofs.ListLemmas.{all_named}
 use Rattle.org_cal.specs.declared.moment.Moment.{Moment}
@@ -44,6 +46,14 @@ unfolding agenda_view
 days_are first count world p moment same is =
     ap (λ scopes. days_over p scopes moment.day first count) (all_named (scopes_of world))
     ∙ (λ i. days_over (same i) (scopes_of world) (is i).day first count)
+
+-- the stamps that it examines
+pub near_are : (first count : ℕ) (world : WorldView) (p : Profile) (moment : Moment) → p ≡ world.profile → moment ≡ world.moment →
+    near_count p first (first + count - 1) moment.day (scopes_named None (scopes_of world)) ≡ near_in_world first count world
+unfolding near_in_world
+near_are first count world p moment same is =
+    ap (λ scopes. near_count p first (first + count - 1) moment.day scopes) (all_named (scopes_of world))
+    ∙ (λ i. near_count (same i) first (first + count - 1) (is i).day (scopes_of world))
 
 module _ (date : List ℕ) (days : ℕ) where
   -- the calendar has no such day

@@ -1,8 +1,7 @@
 -- Which sections were read when a heading was completed.
-use Rattle.std.proofs.Common.{◌≡◌, ◌∙◌, ◌<◌, ◌≤◌, ℕ, Bool, true, false, cond, List, [], ◌∷◌, ap, arith, length, refl, subst, sym}
-use Rattle.std.specs.Prelude.{Err, IfSome, None, Ok, OnErr, OnOk, Option, Result, Some, bytes_eq, string_bytes}
+use Rattle.std.proofs.Common.{◌≡◌, ◌∙◌, ◌<◌, ℕ, Bool, true, false, cond, List, [], ◌∷◌, ap, arith, length, refl, subst, sym}
+use Rattle.std.specs.Prelude.{Err, IfSome, None, Ok, OnErr, OnOk, Option, Result, Some, bytes_eq}
 use Rattle.org_base.specs.Counts.{Counts}
-use Rattle.org_base.specs.Results.{IfRefused}
 use Rattle.org_base.specs.declared.fault.Fault.{Fault}
 use Rattle.org_class.specs.Changes.{new_sections}
 use Rattle.org_class.specs.Ticks.{classified}
@@ -14,9 +13,9 @@ use Rattle.org_file.specs.declared.revision.Revision.{Revision}
 use Rattle.org_kept.specs.File.{FileView as KeptFile, IsChanged, marked}
 use Rattle.org_kept.specs.declared.change.Change.{Change}
 use Rattle.org_engine.specs.Calls.{IsCompletionIn}
-use Rattle.org_engine.specs.Marks.{Completes, CompletesMarks, CompletesNone, CountsOne, EditsMarks, IsQuiet, KeepsOthers, PutsMarks, PutsNoMarks, ReadsAtMostOne, ReadsOne, completed_count, kept_named, marks_named, new_count, part_count, with_marks, with_section_read}
+use Rattle.org_engine.specs.Marks.{Completes, CompletesMarks, CompletesNone, IsQuiet, KeepsOthers, PutsMarks, PutsNoMarks, ReadsAtMostOne, ReadsOne, completed_count, kept_named, marks_named, new_count, part_count, with_marks, with_section_read}
 use Rattle.org_engine.specs.Step.{file_named}
-use Rattle.org_engine.specs.World.{EngineView, FileView, KeptPins, KeptWorld, Marks, WorldView}
+use Rattle.org_engine.specs.World.{EngineView, FileView, KeptPins, KeptWorld, WorldView}
 use Rattle.org_engine.proofs.FilesLemmas.{kept_text}
 
 same_kept : (a b : KeptFile) → Some a ≡ Some b → a ≡ b

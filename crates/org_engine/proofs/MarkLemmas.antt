@@ -1,13 +1,13 @@
 -- Which sections were read.
-use Rattle.std.proofs.Common.{◌≡◌, ◌∙◌, ℕ, zero, suc, ◌+◌, ◌<◌, ◌≤◌, List, [], ◌∷◌, Bool, true, false, cond, length, get_or, map, take, sym, refl, ap, arith, subst, true≢false}
-use Rattle.std.specs.Prelude.{Err, IfOk, Ok, OnErr, OnOk, is_some, Result, Some, None, Option, String, not, nat_lt, slice_get, slice_set}
+use Rattle.std.proofs.Common.{◌≡◌, ◌∙◌, ℕ, zero, suc, ◌+◌, ◌<◌, ◌≤◌, List, [], ◌∷◌, Bool, true, false, cond, length, take, sym, refl, ap, arith, true≢false}
+use Rattle.std.specs.Prelude.{Err, IfOk, Ok, OnErr, OnOk, is_some, Result, Some, None, Option, String, nat_lt, slice_get}
 use Rattle.std.proofs.lemmas.Bool.{le-ltb, lt-ltb}
 use Rattle.std.specs.Map.{values_of}
 use Rattle.std.proofs.lemmas.List.{take_all}
 use Rattle.indexmap.specs.IndexMap.{set_value_at}
 use Rattle.org_base.specs.Counts.{Counts, ticked}
 use Rattle.org_base.specs.declared.meter.Tick.TheVariants.{Read}
-use Rattle.org_kept.specs.Counts.{SomeRead, have_read}
+use Rattle.org_kept.specs.Counts.{have_read}
 use Rattle.org_base.specs.Results.{Gives, IfRefused}
 use Rattle.org_base.specs.declared.fault.Fault.{Fault}
 use Rattle.org_file.specs.Completion.{completion_part}
@@ -18,7 +18,8 @@ use Rattle.org_engine.specs.Calls.{IsCompletionIn}
 use Rattle.org_engine.specs.Step.{file_named}
 use Rattle.org_kept.specs.File.{FileView as KeptFile, all_marked, first_unread, marked, unread, with_first_read}
 use Rattle.org_engine.specs.Files.{file_of, files_of, marks_of}
-use Rattle.org_engine.specs.Marks.{IsFirstPending, KeepsMarks, ReadsAll, ReadsSome, all_read, first_read, marks_at, next_read, pending_at, pending_in, read_at}
+use Rattle.org_index.specs.Ticks.{examined}
+use Rattle.org_engine.specs.Marks.{ExaminesSome, IsFirstPending, KeepsMarks, NoStamps, ReadsAll, ReadsSome, all_read, first_read, marks_at, next_read, pending_at, pending_in, read_at}
 use Rattle.org_engine.specs.World.{EngineView, FileView, KeptWorld}
 
 no_more : (n : ℕ) → first_read n [] ≡ []
@@ -94,20 +95,38 @@ where_err (Ok x) f h = tt
 where_err (Err e) f h = f h
 
 -- all is some
-pub all_some : (old new : KeptWorld) (before after : Counts) → ReadsAll old new before after → ReadsSome old new before after
-all_some old new before after read =
+pub all_some : (may : Type 0) (stamps : ℕ) (old new : KeptWorld) (before after : Counts) → (0 < stamps → may) → ReadsAll stamps old new before after → ReadsSome may old new before after
+all_some may stamps old new before after allowed read =
     let all : length old.marks ≤ length old.marks = omega arith in
     record {
       files = length old.marks;
       reads = pending_in old.marks;
       few = omega arith;
       is = read.0 ∙ (λ i. record old { marks = sym (all_first (length old.marks) old.marks all) i });
+      stamps = stamps;
+      allowed = allowed;
       counts = read.1;
     }
 
+-- stamps that are examined behind what was read
+pub read_examined : (stamps : ℕ) (old new : KeptWorld) (before mid after : Counts) → ReadsAll 0 old new before mid → after ≡ examined stamps mid → ReadsAll stamps old new before after
+read_examined stamps old new before mid after read more = (read.0, more ∙ ap (examined stamps) read.1)
+
+pub some_examined : (may : Type 0) (old new : KeptWorld) (before mid after : Counts) → ReadsAll 0 old new before mid → ExaminesSome may mid after → ReadsSome may old new before after
+some_examined may old new before mid after read some = all_some may some.0 old new before after some.1 (read_examined some.0 old new before mid after read some.2)
+
+-- some of those that are read where no stamp is examined are some where stamps may be
+pub some_read : (may : Type 0) (old new : KeptWorld) (before after : Counts) → ReadsSome NoStamps old new before after → ReadsSome may old new before after
+some_read may old new before after some =
+    record { files = some.files; reads = some.reads; few = some.few; is = some.is; stamps = some.stamps; allowed = λ lt. absurd (some.allowed lt); counts = some.counts }
+
 -- none is some
-pub none_some : (old : KeptWorld) (counts : Counts) → ReadsSome old old counts counts
-none_some old counts = record { files = 0; reads = 0; few = omega arith; is = refl; counts = refl }
+pub none_some : (may : Type 0) (old : KeptWorld) (counts : Counts) → ReadsSome may old old counts counts
+none_some may old counts = record { files = 0; reads = 0; few = omega arith; is = refl; stamps = 0; allowed = λ lt. absurd (omega (arith, lt)); counts = refl }
+
+-- no stamp is some
+pub none_examined : (may : Type 0) (counts : Counts) → ExaminesSome may counts counts
+none_examined may counts = (0, λ lt. absurd (omega (arith, lt)), refl)
 
 -- a value with the same text and serial is the same file
 pub files_of-same : {Y : Type 0} (es : List (String Y × KeptFile)) (i : ℕ) (v kept : KeptFile) → slice_get (values_of es) i ≡ Some v → kept.text ≡ v.text → kept.serial ≡ v.serial → files_of (set_value_at es i kept) ≡ files_of es

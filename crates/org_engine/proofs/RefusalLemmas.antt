@@ -1,8 +1,7 @@
 -- In which order commands are refused.
-use Rattle.std.proofs.Common.{◌≡◌, ◌∙◌, ◌+◌, ◌-◌, ◌<◌, ◌≤◌, ◌==◌, ◌&&◌, ℕ, List, [], ◌∷◌, ◌++◌, Bool, true, false, cond, refl, ap, sym, arith, inl, inr, length, length-append, take, drop}
+use Rattle.std.proofs.Common.{◌≡◌, ◌+◌, ◌-◌, ◌≤◌, ◌==◌, ◌&&◌, ℕ, List, [], ◌∷◌, ◌++◌, Bool, true, false, cond, refl, arith, length, length-append, take, drop}
 use Rattle.std.specs.Prelude.{◌↔◌, Option, None, Some, Result, Ok, Err, is_some, nat_le, nat_lt, not}
 use Rattle.std.specs.Str.{is_utf8}
-use Rattle.std.proofs.lemmas.Bool.{cases_Bool}
 use Rattle.std.proofs.lemmas.Bool.Decides.{nat_tests}
 use Rattle.std.proofs.lemmas.List.{length-take-le, length-drop}
 use Rattle.org_base.specs.FileName.{is_file_name}
@@ -10,8 +9,8 @@ use Rattle.org_base.specs.declared.code.Code.TheVariants as code
 use Rattle.org_base.specs.declared.fault.Fault.{Fault}
 use Rattle.org_base.specs.declared.fault.Fault.TheVariants.{Plain, Stale}
 use Rattle.org_file.specs.Completion.{completed}
-use Rattle.org_text.specs.Replace.{is_boundary, max_bytes, refusal_of, replace}
-use Rattle.org_engine.specs.Refusals.{AreRefused, RefusalsComeInOrder, add_reasons, complete_reasons, edit_reasons, first_of, spent, text_reasons, unmade}
+use Rattle.org_text.specs.Replace.{is_boundary, max_bytes, replace}
+use Rattle.org_engine.specs.Refusals.{RefusalsComeInOrder, complete_reasons, edit_reasons, first_of, spent, text_reasons, unmade}
 use Rattle.org_engine.specs.Step.{Refused, Reply, Serial, changes, completed_at, edited, file_named, is_session, last_serial, most_files, put, text_at, unless_refused, with_file, with_text, without}
 use Rattle.org_engine.specs.World.{FileView, State}
 use Rattle.org_engine.proofs.LawLemmas.{next_state}

@@ -1,7 +1,6 @@
 -- What commands leave as it was, what a session pins, and over which files a table is.
-use Rattle.std.proofs.Common.{◌≡◌, ◌≢◌, ◌∙◌, ◌+◌, ◌==◌, eq-eqb, ℕ, List, [], ◌∷◌, ◌++◌, Bool, true, false, cond, refl, ap, sym, eqb, map, inl, inr}
-use Rattle.std.specs.Prelude.{Option, None, Some, Result, Ok, Err, filter, nat_le, nat_lt, is_some, not}
-use Rattle.std.specs.List.{All}
+use Rattle.std.proofs.Common.{◌≡◌, ◌≢◌, ◌∙◌, ◌+◌, eq-eqb, ℕ, List, [], ◌∷◌, ◌++◌, Bool, true, false, cond, refl, ap, sym, eqb, map, inl, inr}
+use Rattle.std.specs.Prelude.{Option, None, Some, Result, Ok, Err, nat_le, is_some, not}
 use Rattle.std.specs.Str.{bytes_eq, is_utf8}
 use Rattle.std.proofs.lemmas.Bool.{cases_Bool, false_from_ne_true}
 use Rattle.std.proofs.lemmas.List.{map-append}
@@ -16,12 +15,10 @@ use Rattle.org_clocktable.specs.Request.{TableRequest}
 use Rattle.org_expression.specs.Grammar.{Expr}
 use Rattle.org_kept.specs.Outline.{scope_of}
 use Rattle.org_inherit.specs.Scope.{Scope}
-use Rattle.org_text.specs.Replace.{max_bytes}
 use Rattle.org_engine.specs.World.{WorldView, FileView, State, PinView}
-use Rattle.org_engine.specs.Outlines.{scopes_of}
-use Rattle.org_engine.specs.Step.{Question, ClockTable, Shown, last_serial, most_files, Command, AddFile, DropFile, EditFile, Complete, At, Inherit, SetProfile, PinWorld, Unpin, TextOf, Ask, Serial, Refused, Outcome, step, changes, profiled, is_unused, refused, pinned_by, unpinned_by, world_of, is_session, answer, kept_world, added, dropped, put, edited, completed_at, text_seen, with_file, with_text, without, file_named, is_missing}
+use Rattle.org_engine.specs.Step.{Question, Shown, last_serial, Command, AddFile, DropFile, EditFile, Complete, At, Inherit, SetProfile, PinWorld, Unpin, TextOf, Ask, Serial, Refused, Outcome, step, changes, profiled, is_unused, refused, pinned_by, unpinned_by, world_of, is_session, answer, kept_world, added, dropped, put, edited, completed_at, text_seen, with_file, with_text, without, file_named, is_missing}
 use Rattle.org_engine.specs.Views.{scopes_named, step_text, table_view}
-use Rattle.org_engine.specs.Rest.{LimitsAreNamed, PinsKeepTheWorld, CommandsLeaveTheRest, IsNoName, KeepsOrder, KeepsRest, LeavesTheRest, TablesAreOverTheirFiles, TakesOut, changed_by, names_in, names_of, over_all, with_files}
+use Rattle.org_engine.specs.Rest.{LimitsAreNamed, PinsKeepTheWorld, CommandsLeaveTheRest, IsNoName, KeepsOrder, KeepsRest, TablesAreOverTheirFiles, TakesOut, changed_by, names_in, names_of, over_all}
 use Rattle.org_engine.proofs.LawLemmas.{next_state}
 
 pub limits : LimitsAreNamed

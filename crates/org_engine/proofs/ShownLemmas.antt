@@ -1,19 +1,23 @@
 -- The files that a view is over.
 use Rattle.std.proofs.Common.{◌≡◌, ◌∙◌, ℕ, zero, suc, ◌+◌, ◌<◌, ◌≤◌, Bool, true, false, cond, List, [], ◌∷◌, ◌++◌, length, drop, map, refl, subst, sym, ap, arith, append_assoc, append-nil, inl, inr, ◌⊎◌}
 use Rattle.std.specs.Prelude.{None, Option, Some, slice_get}
-use Rattle.std.specs.List.{All}
+use Rattle.std.specs.List.{All, AllZip}
 use Rattle.std.proofs.lemmas.List.{drop_all, drop_more, length-map}
 use Rattle.std.proofs.lemmas.Option.{get_or_from_slice_get}
 use Rattle.org_agenda.specs.Headings.{AllHaveHeads}
 use Rattle.org_base.specs.declared.limits.TheConstants.{MOST_FILES}
-use Rattle.org_kept.specs.Outline.{file_settings, scope_of}
+use Rattle.org_agenda.proofs.SoundLemmas.{AreReadOf, read_sound}
+use Rattle.org_class.specs.Sections.{sections}
+use Rattle.org_dated.specs.Stamps.{IsOf}
+use Rattle.org_kept.specs.Outline.{OutlineView, file_settings, outline_of, scope_of}
 use Rattle.org_inherit.specs.Scope.{Scope}
 use Rattle.org_sum.specs.Texts.{AreOfText}
 use Rattle.org_text.specs.Replace.{max_bytes}
 use Rattle.org_engine.proofs.HeadLemmas.{file_heads, first_heads}
 use Rattle.org_engine.specs.Tables.{AreShort}
 use Rattle.org_engine.specs.Views.{is_wanted, scopes_named, wanted_scope}
-use Rattle.org_engine.specs.Outlines.{AreRead, scopes_of}
+use Rattle.org_engine.specs.Outlines.{AreRead, outlines_of, scopes_of}
+use Rattle.org_engine.proofs.ListLemmas.{all_named}
 use Rattle.org_engine.specs.World.{FileView, WorldView}
 
 -- what is left at a place
@@ -114,10 +118,35 @@ named_heads wanted inherited (f ∷ fs) = by (is_wanted wanted f.name) (named_he
     by true h = first_heads first rest (file_heads inherited f) h
     by false h = h
 
+-- the entries of each are read of its sections
+named_sections : (wanted : Option (List ℕ)) (inherited : List (List ℕ)) (files : List FileView) → AreReadOf (scopes_named wanted (map (λ (f : FileView). scope_of inherited f.name f.text) files))
+named_sections wanted inherited [] = tt
+named_sections wanted inherited (f ∷ fs) = by (is_wanted wanted f.name) (named_sections wanted inherited fs)
+  where
+    first : Scope
+    first = scope_of inherited f.name f.text
+
+    rest : List Scope
+    rest = scopes_named wanted (map (λ (g : FileView). scope_of inherited g.name g.text) fs)
+
+    by : (t : Bool) → AreReadOf rest → AreReadOf (cond t (first ∷ rest) rest)
+    by true h = ((file_settings f.text, sections f.text, refl), h)
+    by false h = h
+
+-- what inheritance looks at in files is what they say
+zip_files : (inherited : List (List ℕ)) (files : List FileView) → AllZip IsOf (map (λ (f : FileView). outline_of f.text) files) (map (λ (f : FileView). scope_of inherited f.name f.text) files)
+zip_files inherited [] = tt
+zip_files inherited (f ∷ fs) = ((refl, refl), zip_files inherited fs)
+
+pub zip_all : (world : WorldView) (outlines : List OutlineView) (scopes : List Scope) → outlines ≡ outlines_of world → scopes ≡ scopes_named None (scopes_of world) → AllZip IsOf outlines scopes
+zip_all world outlines scopes read are =
+    subst (λ ds. AllZip IsOf ds scopes) (sym read) (subst (AllZip IsOf (outlines_of world)) (sym (are ∙ all_named (scopes_of world))) (zip_files world.inherited world.files))
+
 -- what is asked of the files that a view is over
 pub named_read : (wanted : Option (List ℕ)) (world : WorldView) (scopes : List Scope) → AreShort world.files → length world.files ≤ MOST_FILES → scopes ≡ scopes_named wanted (scopes_of world) → AreRead scopes
 named_read wanted world scopes short few are = subst AreRead (sym are) (record {
   heads = named_heads wanted world.inherited world.files;
+  sound = read_sound 0 (scopes_named wanted (scopes_of world)) (named_sections wanted world.inherited world.files);
   texts = named_texts wanted world.inherited world.files short;
   few = omega (arith, few, named_few wanted (scopes_of world), length-map world.files (λ (f : FileView). scope_of world.inherited f.name f.text));
 })

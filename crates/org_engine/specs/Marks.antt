@@ -11,6 +11,7 @@ use Rattle.org_cal.specs.declared.moment.Moment.{Moment}
 use Rattle.org_file.specs.Completion.{completion_part}
 use Rattle.org_file.specs.Parts.{Part}
 use Rattle.org_file.specs.Reading.{HasReadOne}
+use Rattle.org_index.specs.Ticks.{examined}
 use Rattle.org_kept.specs.Change.{IsChangedBy}
 use Rattle.org_kept.specs.Counts.{have_read}
 use Rattle.org_kept.specs.File.{FileView as KeptFile, IsChanged, all_marked, first_unread, marked, unread}
@@ -107,17 +108,31 @@ with_kept name file kept = record {
   marks = with_marks name file.marks kept.world.files kept.marks;
 }
 
--- all sections of a world were read, of which those were counted that were still to be read
-abbrev pub ReadsAll : KeptWorld → KeptWorld → Counts → Counts → Type 0
-ReadsAll old new before after = (new ≡ record old { marks = all_read old.marks }) × (after ≡ have_read (pending_in old.marks) before)
+-- all sections of a world were read, of which those were counted that were still to be read, and so many stamps were examined
+abbrev pub ReadsAll : ℕ → KeptWorld → KeptWorld → Counts → Counts → Type 0
+ReadsAll stamps old new before after = (new ≡ record old { marks = all_read old.marks }) × (after ≡ examined stamps (have_read (pending_in old.marks) before))
 
--- those of the first so many files were read; some of those still to be read were counted
-pub record ReadsSome (old new : KeptWorld) (before after : Counts) : Type 0 where
+-- no stamp may be examined
+abbrev pub NoStamps : Type 0
+NoStamps = ⊥
+
+-- some may be
+abbrev pub AnyStamps : Type 0
+AnyStamps = Unit {0}
+
+-- some stamps were examined, if they may be, and nothing else was counted
+abbrev pub ExaminesSome : Type 0 → Counts → Counts → Type 0
+ExaminesSome may before after = (stamps : ℕ) × (0 < stamps → may) × (after ≡ examined stamps before)
+
+-- those of the first so many files were read; some of those still to be read were counted, and some stamps, if they may be
+pub record ReadsSome (may : Type 0) (old new : KeptWorld) (before after : Counts) : Type 0 where
   pub files : ℕ
   pub reads : ℕ
   pub few : reads ≤ pending_in old.marks
   pub is : new ≡ record old { marks = first_read files old.marks }
-  pub counts : after ≡ have_read reads before
+  pub stamps : ℕ
+  pub allowed : 0 < stamps → may
+  pub counts : after ≡ examined stamps (have_read reads before)
 
 -- the first section was read that was still to be read, and no other
 abbrev pub WorksOnce : KeptWorld → KeptWorld → Counts → Counts → Type 0
@@ -191,19 +206,21 @@ at_asked (Some session) f pins marks = record marks { pins = at_pin session f pi
 abbrev pub pending_asked : Option ℕ → EngineView → ℕ
 pending_asked session e = pending_in (marks_asked session e.state.pins e.marks)
 
--- all sections of the world that is asked were read, of which those were counted that were still to be read; the marks of no
--- other world changed
-abbrev pub ReadsAllAsked : Option ℕ → EngineView → EngineView → Type 0
-ReadsAllAsked session old new =
-    (new.marks ≡ at_asked session all_read old.state.pins old.marks) × (new.counts ≡ have_read (pending_asked session old) old.counts)
+-- all sections of the world that is asked were read, of which those were counted that were still to be read, and so many stamps
+-- were examined; the marks of no other world changed
+abbrev pub ReadsAllAsked : ℕ → Option ℕ → EngineView → EngineView → Type 0
+ReadsAllAsked stamps session old new =
+    (new.marks ≡ at_asked session all_read old.state.pins old.marks) × (new.counts ≡ examined stamps (have_read (pending_asked session old) old.counts))
 
--- those of its first so many files were read; some of those still to be read were counted
-pub record ReadsSomeAsked (session : Option ℕ) (old new : EngineView) : Type 0 where
+-- those of its first so many files were read; some of those still to be read were counted, and some stamps, if they may be
+pub record ReadsSomeAsked (may : Type 0) (session : Option ℕ) (old new : EngineView) : Type 0 where
   pub files : ℕ
   pub reads : ℕ
   pub few : reads ≤ pending_asked session old
   pub marks : new.marks ≡ at_asked session (first_read files) old.state.pins old.marks
-  pub counts : new.counts ≡ have_read reads old.counts
+  pub stamps : ℕ
+  pub allowed : 0 < stamps → may
+  pub counts : new.counts ≡ examined stamps (have_read reads old.counts)
 
 -- nothing was read or classified, and no mark changed
 abbrev pub IsQuiet : EngineView → EngineView → Type 0
@@ -212,6 +229,10 @@ IsQuiet old new = (new.marks ≡ old.marks) × (new.counts ≡ old.counts)
 -- at most so many sections were classified, and none was read
 abbrev pub Classifies : ℕ → EngineView → EngineView → Type 0
 Classifies most old new = (n : ℕ) × (n ≤ most) × (new.counts ≡ classified n old.counts)
+
+-- at most so many sections were read, and some stamps examined, if they may be; none was classified
+abbrev pub Looks : ℕ → Type 0 → EngineView → EngineView → Type 0
+Looks most may old new = (n : ℕ) × (n ≤ most) × (stamps : ℕ) × (0 < stamps → may) × (new.counts ≡ examined stamps (have_read n old.counts))
 
 -- at most so many sections were read, and none was classified
 abbrev pub Reads : ℕ → EngineView → EngineView → Type 0

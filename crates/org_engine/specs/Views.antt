@@ -1,8 +1,6 @@
 -- Views of a world (Org manual 9.6, "Weekly/daily agenda"; "The Global TODO List"; "Matching tags and properties"; "The
 -- clock table").
 use Rattle.std.specs.Prelude.{◌≡◌, ℕ, List, Bool, true, if◌then◌else◌, [], ◌∷◌, map, Option, None, Some, filter, bytes_eq}
-use Rattle.std.specs.Borrow.{Bor}
-use Rattle.std.specs.Option.{option_copied}
 use Rattle.org_base.specs.declared.profile.Profile.{Profile}
 use Rattle.org_agenda.specs.Days.{AgendaView}
 use Rattle.org_agenda.specs.Sources.{sources_of}
@@ -17,7 +15,6 @@ use Rattle.org_clocktable.specs.Request.{TableRequest}
 use Rattle.org_clocktable.specs.Counted.{Counted, counted_of}
 use Rattle.org_clocktable.specs.Table.{step_rows}
 use Rattle.org_expression.specs.Grammar.{Expr}
-use Rattle.org_kept.specs.Outline.{OutlineView, scope_in}
 use Rattle.org_layout.specs.Lines.{list_lines}
 use Rattle.org_layout.specs.Tables.{step_lines}
 use Rattle.org_engine.specs.Outlines.{scopes_of}
@@ -51,6 +48,10 @@ wanted_scope file scope = if is_wanted file scope.file then scope ∷ [] else []
 -- the files that a view is over
 abbrev pub scopes_named : Option (List ℕ) → List Scope → List Scope
 scopes_named file scopes = filter (λ (scope : Scope). is_wanted file scope.file) scopes
+
+-- and what inheritance looks at in each of them, of a world
+abbrev pub scopes_over : Option (List ℕ) → WorldView → List Scope
+scopes_over file world = scopes_named file (scopes_of world)
 
 -- the text of a step: its line, and those of its rows
 unfoldable pub step_text : TableRequest Expr → List Scope → List Counted → ℕ × ℕ → List ℕ

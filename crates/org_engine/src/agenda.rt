@@ -1,28 +1,34 @@
 //! Agendas over the files of a world.
-ghost use Rattle.std.specs.Prelude.{◌≡◌, ◌+◌, ◌≤◌, None, string_bytes, IfErr, IfOk, OnOk, OnErr, IsOkUnless};
+ghost use Rattle.std.specs.Prelude.{◌≡◌, ◌+◌, ◌-◌, ◌≤◌, None, string_bytes, IfErr, IfOk, OnOk, OnErr, IsOkUnless};
 ghost use Rattle.org_base.specs.Codes.{memory_fault};
 ghost use Rattle.org_base.specs.Results.{GivesText, IfRefused};
-ghost use Rattle.org_agenda.specs.Headings.{AllHaveHeads};
+ghost use Rattle.org_agenda.specs.Bound.{near_count};
+ghost use Rattle.org_dated.specs.Stamps.{AreDated};
+ghost use Rattle.org_index.specs.Ticks.{Examines};
 ghost use Rattle.org_cal.specs.declared.day.TheConstants.{LAST_DAY};
 ghost use Rattle.org_engine.specs.Questions.{IsAgendaText, asked_agenda};
-ghost use Rattle.org_engine.specs.Marks.{ReadsAll, ReadsNone, ReadsSome};
+ghost use Rattle.org_engine.specs.Examined.{ExaminesNear, examined_for, near_in_world};
+ghost use Rattle.org_engine.specs.Marks.{AnyStamps, ReadsAll, ReadsNone, ReadsSome};
 ghost use Rattle.org_engine.specs.Step.{DayAgenda, Unread};
 ghost use Rattle.org_engine.specs.Views.{agenda_view, days_over, ShowsDays};
 
 use crate::limits::MOST_DAYS;
 use crate::shows::{Shows, view_of};
 use crate::world::World;
-use org_agenda::{Agenda, AllStamps, Stamps, Standpoint, sources_of};
-use org_base::{Code, Fault, Meter};
+use org_agenda::{Agenda, Stamps, Standpoint};
+use org_base::{Code, Fault, Meter, Profile};
 use org_cal::{Day, LAST_DAY};
+use org_dated::DatedStamps;
 use org_inherit::Inherits;
+use org_kept::FileOutline;
 use org_layout::agenda_text;
 use org_text::Text;
 use std::alloc::Global;
 
 // The text of the agenda of so many days from a date on. `Date` exactly where the calendar has no such day, `Days`
 // exactly where it has and the days are none, more than [`MOST_DAYS`], or end past 9999-12-31, both before anything is
-// looked at; else want of memory is the only refusal. Sections are classified and read as for a list.
+// looked at; else want of memory is the only refusal. Sections are read as for a list, and the stamps that are near the days
+// are examined, each once as the meter counts.
 pub(crate) fn dated_text<T: Text>(
     alloc: Global,
     meter: &mut Meter,
@@ -32,8 +38,8 @@ pub(crate) fn dated_text<T: Text>(
 ) -> Result<String, Fault>
     ensures value { IfOk result (λ text. IsAgendaText date.now days world.old.world (string_bytes text)) }
     ensures refused { IfRefused result (λ fault. asked_agenda date.now days ≡ Unread fault) }
-    ensures read { OnOk result (ReadsAll world.old world.new meter.old meter.new) }
-    ensures few { OnErr result (ReadsSome world.old world.new meter.old meter.new) }
+    ensures read { OnOk result (ReadsAll (examined_for (asked_agenda date.now days) world.old.world) world.old world.new meter.old meter.new) }
+    ensures few { OnErr result (ReadsSome AnyStamps world.old world.new meter.old meter.new) }
     ensures quiet { IfRefused result (λ _. ReadsNone world.old world.new meter.old meter.new) }
 {
     let (first, count) = read_days(date, days)?;
@@ -73,12 +79,26 @@ impl Shows for Days {
 
     ghost shown = { λ d scopes. days_over d.standpoint.profile scopes d.standpoint.today d.first d.count };
 
+    ghost examines = { λ d scopes. near_count d.standpoint.profile d.first (d.first + d.count - 1) d.standpoint.today scopes };
+
+    ghost may = { λ d. AnyStamps };
+
     fn file(&self) -> Option<&[u8]> {
         None
     }
 
-    fn text(&self, alloc: Global, inherits: &Inherits<'_>) -> Result<String, Fault> {
-        let agenda = agenda_of(alloc, inherits, self)?;
+    fn profile(&self) -> Option<Profile> {
+        Some(self.standpoint.profile)
+    }
+
+    fn text(
+        &self,
+        alloc: Global,
+        meter: &mut Meter,
+        inherits: &Inherits<'_>,
+        files: &[FileOutline],
+    ) -> Result<String, Fault> {
+        let agenda = agenda_of(alloc, meter, inherits, files, self)?;
         let mut text = String::new(alloc);
         agenda_text(alloc, &mut text, inherits, &agenda)?;
         Ok(text)
@@ -94,8 +114,8 @@ fn days_text<T: Text>(
 ) -> Result<String, Fault>
     requires within { (1 ≤ count) × (first + count ≤ LAST_DAY + 1) }
     ensures value { GivesText result (agenda_view first count world.old.world) }
-    ensures read { OnOk result (ReadsAll world.old world.new meter.old meter.new) }
-    ensures few { OnErr result (ReadsSome world.old world.new meter.old meter.new) }
+    ensures read { OnOk result (ReadsAll (near_in_world first count world.old.world) world.old world.new meter.old meter.new) }
+    ensures few { OnErr result (ReadsSome AnyStamps world.old world.new meter.old meter.new) }
     ensures memory { IsOkUnless result memory_fault }
 {
     let standpoint = Standpoint {
@@ -110,21 +130,25 @@ fn days_text<T: Text>(
     view_of(alloc, meter, world, &view)
 }
 
-// The agenda of these days over all stamps.
-fn agenda_of(alloc: Global, inherits: &Inherits<'_>, days: &Days) -> Result<Agenda, Fault>
-    requires heads { AllHaveHeads inherits.now }
+// The agenda of these days over the stamps that are near them, each of which is examined once, as the meter counts. Want of
+// memory is the only refusal, and then some may have been counted.
+fn agenda_of(
+    alloc: Global,
+    meter: &mut Meter,
+    inherits: &Inherits<'_>,
+    files: &[FileOutline],
+    days: &Days,
+) -> Result<Agenda, Fault>
+    requires dated { AreDated files.now inherits.now }
     ensures value { IfOk result (ShowsDays days.now.standpoint inherits.now days.now.first days.now.count) }
+    ensures counts { OnOk result (ExaminesNear days.now.standpoint inherits.now days.now.first days.now.count meter.old meter.new) }
+    ensures few { OnErr result (Examines meter.old meter.new) }
     ensures memory { IsOkUnless result memory_fault }
 {
     let (first, count) = (days.first, days.count);
-    let sources = sources_of(alloc, inherits)?;
-    let stamps = AllStamps {
-        sources: sources.as_slice(),
-    };
-    // The engine counts no examined stamps.
-    let mut examined = Meter::new();
+    let stamps = DatedStamps { inherits, files };
     let last = last_of(first, count);
-    let near = stamps.near(alloc, &mut examined, &days.standpoint, first, last)?;
+    let near = stamps.near(alloc, meter, &days.standpoint, first, last)?;
     Agenda::new(alloc, near, &days.standpoint, first, count)
 }
 

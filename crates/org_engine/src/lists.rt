@@ -8,15 +8,16 @@ ghost use Rattle.org_layout.specs.Lines.{list_lines};
 ghost use Rattle.org_engine.specs.Questions.{IsMissingFault, IsPlaceOver, RefusesOf, ShowsOf};
 ghost use Rattle.org_engine.specs.Step.{Refused, Shown};
 ghost use Rattle.org_engine.specs.declared.question.View.TheVariants.{Match as MatchView, Todo as TodoView};
-ghost use Rattle.org_engine.specs.Marks.{ReadsAll, ReadsNone, ReadsSome};
+ghost use Rattle.org_engine.specs.Marks.{NoStamps, ReadsAll, ReadsNone, ReadsSome};
 ghost use Rattle.org_engine.specs.Views.{list_view};
 
 use crate::shows::{Shows, view_of};
 use crate::world::World;
 use org_agenda::{Row, match_rows, todo_rows};
-use org_base::{Code, Fault, Meter, Texts};
+use org_base::{Code, Fault, Meter, Profile, Texts};
 use org_cal::Moment;
 use org_inherit::Inherits;
+use org_kept::FileOutline;
 use org_layout::list_text;
 use org_match::Match;
 use org_text::Text;
@@ -34,11 +35,25 @@ impl<'a> Shows for TodoList<'a> {
 
     ghost shown = { λ l scopes. list_lines scopes (list_rows (todo_listing l.words.now) l.over scopes) };
 
+    ghost examines = { λ v scopes. 0 };
+
+    ghost may = { λ v. NoStamps };
+
     fn file(&self) -> Option<&[u8]> {
         None
     }
 
-    fn text(&self, alloc: Global, inherits: &Inherits<'_>) -> Result<String, Fault> {
+    fn profile(&self) -> Option<Profile> {
+        None
+    }
+
+    fn text(
+        &self,
+        alloc: Global,
+        _meter: &mut Meter,
+        inherits: &Inherits<'_>,
+        _files: &[FileOutline],
+    ) -> Result<String, Fault> {
         let rows = todo_rows(alloc, inherits, self.over, self.words)?;
         lines_of(alloc, inherits, rows.as_slice())
     }
@@ -57,11 +72,25 @@ impl<'a> Shows for MatchList<'a> {
 
     ghost shown = { λ l scopes. list_lines scopes (list_rows (Matching l.expression.now l.moment) l.over scopes) };
 
+    ghost examines = { λ v scopes. 0 };
+
+    ghost may = { λ v. NoStamps };
+
     fn file(&self) -> Option<&[u8]> {
         None
     }
 
-    fn text(&self, alloc: Global, inherits: &Inherits<'_>) -> Result<String, Fault> {
+    fn profile(&self) -> Option<Profile> {
+        None
+    }
+
+    fn text(
+        &self,
+        alloc: Global,
+        _meter: &mut Meter,
+        inherits: &Inherits<'_>,
+        _files: &[FileOutline],
+    ) -> Result<String, Fault> {
         let rows = match_rows(alloc, inherits, self.over, self.expression, self.moment)?;
         lines_of(alloc, inherits, rows.as_slice())
     }
@@ -93,8 +122,8 @@ fn place_over<T: Text>(world: &World<T>, file: Option<&str>) -> Result<Option<us
 
 // The text of the list of the headings that have one of these keywords, or of none, one that isn't done; of all files, or of
 // the one of a name. `Unknown` exactly where there is none of that name, before anything is looked at; else want of memory is
-// the only refusal. Each section of each file is classified once and read once, as the meter counts; after a refusal some
-// of the sections may have been counted.
+// the only refusal. Sections that are still to be read are read first, each once as the meter counts; after a refusal some of
+// them may have been counted.
 pub(crate) fn todo_text<T: Text>(
     alloc: Global,
     meter: &mut Meter,
@@ -104,8 +133,8 @@ pub(crate) fn todo_text<T: Text>(
 ) -> Result<String, Fault>
     ensures ok { ShowsOf (TodoView file.entry words.entry) world.old.world result }
     ensures err { RefusesOf (TodoView file.entry words.entry) world.old.world result }
-    ensures read { OnOk result (ReadsAll world.old world.new meter.old meter.new) }
-    ensures few { OnErr result (ReadsSome world.old world.new meter.old meter.new) }
+    ensures read { OnOk result (ReadsAll 0 world.old world.new meter.old meter.new) }
+    ensures few { OnErr result (ReadsSome NoStamps world.old world.new meter.old meter.new) }
     ensures quiet { IfRefused result (λ _. ReadsNone world.old world.new meter.old meter.new) }
 {
     let over = place_over(world, file)?;
@@ -120,8 +149,8 @@ fn keyword_text<T: Text>(
     list: &TodoList<'_>,
 ) -> Result<String, Fault>
     ensures value { GivesText result (list_view (todo_listing list.now.words.now) list.now.over world.old.world) }
-    ensures read { OnOk result (ReadsAll world.old world.new meter.old meter.new) }
-    ensures few { OnErr result (ReadsSome world.old world.new meter.old meter.new) }
+    ensures read { OnOk result (ReadsAll 0 world.old world.new meter.old meter.new) }
+    ensures few { OnErr result (ReadsSome NoStamps world.old world.new meter.old meter.new) }
     ensures memory { IsOkUnless result memory_fault }
 {
     view_of(alloc, meter, world, list)
@@ -141,8 +170,8 @@ pub(crate) fn match_text<T: Text>(
     requires short { length text.now < 2 ^ 32 }
     ensures ok { ShowsOf (MatchView file.entry text.entry) world.old.world result }
     ensures err { RefusesOf (MatchView file.entry text.entry) world.old.world result }
-    ensures read { OnOk result (ReadsAll world.old world.new meter.old meter.new) }
-    ensures few { OnErr result (ReadsSome world.old world.new meter.old meter.new) }
+    ensures read { OnOk result (ReadsAll 0 world.old world.new meter.old meter.new) }
+    ensures few { OnErr result (ReadsSome NoStamps world.old world.new meter.old meter.new) }
     ensures quiet { IfRefused result (λ _. ReadsNone world.old world.new meter.old meter.new) }
 {
     // No effect at run time: that the text is UTF-8 is known to the proof from this use on.
@@ -161,8 +190,8 @@ fn matching_text<T: Text>(
     expression: &Match,
 ) -> Result<String, Fault>
     ensures value { GivesText result (list_view (Matching expression.now world.old.world.moment) over world.old.world) }
-    ensures read { OnOk result (ReadsAll world.old world.new meter.old meter.new) }
-    ensures few { OnErr result (ReadsSome world.old world.new meter.old meter.new) }
+    ensures read { OnOk result (ReadsAll 0 world.old world.new meter.old meter.new) }
+    ensures few { OnErr result (ReadsSome NoStamps world.old world.new meter.old meter.new) }
     ensures memory { IsOkUnless result memory_fault }
 {
     let view = MatchList {

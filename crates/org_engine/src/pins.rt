@@ -2,7 +2,8 @@
 ghost use Rattle.std.specs.Prelude.{◌≡◌, ◌<◌, ◌++◌, ◌∷◌, [], IfNone, IfOk, IfSome, OnErr, OnOk, None, Some, length};
 ghost use Rattle.org_base.specs.Results.{IfRefused};
 ghost use Rattle.org_engine.specs.Computed.{FailsAs};
-ghost use Rattle.org_engine.specs.Pins.{IsKept, IsPinned, IsPlaceAsked, IsPlaceOf, ReadsAllAt, ReadsNoneAt, ReadsSomeAt, RefusesAt, ShowsAt, pins_of, with_pin, without_pin};
+ghost use Rattle.org_engine.specs.Examined.{MayExamine};
+ghost use Rattle.org_engine.specs.Pins.{IsKept, IsPinned, IsPlaceAsked, IsPlaceOf, ReadsNoneAt, ReadsSomeAt, RefusesAt, ShowsAllAt, ShowsAt, pins_of, with_pin, without_pin};
 ghost use Rattle.org_engine.specs.Questions.{IsShort};
 ghost use Rattle.org_engine.specs.Step.{is_session, world_asked, world_of};
 ghost use Rattle.org_engine.specs.World.{WorldView};
@@ -52,6 +53,7 @@ pub(crate) struct Pins<T: Text> {
 }
 
 impl<T: Text> Model for Pins<T> {
+    ghost use Rattle.org_engine.specs.Examined.{MayExamine};
     ghost use Rattle.org_engine.specs.Pins.{pin_marks, pins_of};
     ghost use Rattle.org_engine.specs.World.{KeptPins};
 
@@ -97,8 +99,8 @@ impl<T: Text> Pins<T> {
         requires within { place < length self.old.pins }
         ensures ok { ShowsAt view.entry place self.old result }
         ensures err { RefusesAt view.entry place self.old result }
-        ensures read { OnOk result (ReadsAllAt place self.old self.new meter.old meter.new) }
-        ensures few { OnErr result (ReadsSomeAt place self.old self.new meter.old meter.new) }
+        ensures read { OnOk result (ShowsAllAt view.entry place self.old self.new meter.old meter.new) }
+        ensures few { OnErr result (ReadsSomeAt (MayExamine view.entry) place self.old self.new meter.old meter.new) }
         ensures quiet { IfRefused result (λ _. ReadsNoneAt self.old self.new meter.old meter.new) }
     {
         let pin = &mut self.pins[place];

@@ -1,17 +1,21 @@
 //! One way from the files of a world to what a view shows of them.
-ghost use Rattle.std.specs.Prelude.{◌≡◌, ℕ, List, Option, IfOk, OnOk, OnErr, IsOkUnless};
+ghost use Rattle.std.specs.Prelude.{◌≡◌, ℕ, List, None, Option, IfOk, OnOk, OnErr, IsOkUnless};
+ghost use Rattle.std.specs.List.{AllZip};
 ghost use Rattle.std.specs.Option.{option_copied};
 ghost use Rattle.org_base.specs.Codes.{memory_fault};
 ghost use Rattle.org_base.specs.Results.{Gives, GivesText};
+ghost use Rattle.org_dated.specs.Held.{scope_in};
+ghost use Rattle.org_dated.specs.Stamps.{IsOf};
+ghost use Rattle.org_index.specs.Ticks.{examined};
 ghost use Rattle.org_inherit.specs.Scope.{Scope};
 ghost use Rattle.org_engine.specs.Outlines.{AreRead, outlines_of, scopes_of};
-ghost use Rattle.org_engine.specs.Marks.{ReadsAll, ReadsSome};
-ghost use Rattle.org_engine.specs.Views.{is_wanted, scopes_named};
+ghost use Rattle.org_engine.specs.Marks.{ExaminesSome, ReadsAll, ReadsSome};
+ghost use Rattle.org_engine.specs.Views.{is_wanted, scopes_named, scopes_over};
 
 use crate::outlines::read_world;
 use crate::world::World;
-use org_base::{Fault, Meter};
-use org_inherit::Inherits;
+use org_base::{Fault, Meter, Profile, Texts};
+use org_inherit::{Inherit, Inherits};
 use org_kept::FileOutline;
 use org_text::Text;
 use std::alloc::Global;
@@ -24,55 +28,79 @@ pub(crate) trait Shows {
     // The text, by what inheritance looks at in each of these files.
     ghost shown: { Self → List Scope → List ℕ };
 
+    // How many stamps it examines for that.
+    ghost examines: { Self → List Scope → ℕ };
+
+    // What holds where it may examine stamps at all.
+    ghost may: { Self → Type 0 };
+
     // The name of that file.
     fn file(&self) -> Option<&[u8]>
         ensures value { option_copied result ≡ named self.now };
 
-    // The text over these files. Want of memory is the only refusal.
-    fn text(&self, alloc: Global, inherits: &Inherits<'_>) -> Result<String, Fault>
+    // The profile in which it asks for stamps by their days; None where it goes over all headings.
+    fn profile(&self) -> Option<Profile>;
+
+    // The text over these files; of a view over all of them it is given too what they say. The meter counts the stamps that are
+    // examined. Want of memory is the only refusal, and then some may have been counted.
+    fn text(
+        &self,
+        alloc: Global,
+        meter: &mut Meter,
+        inherits: &Inherits<'_>,
+        files: &[FileOutline],
+    ) -> Result<String, Fault>
         requires read { AreRead inherits.now }
+        requires same { named self.now ≡ None → AllZip IsOf files.now inherits.now }
         ensures value { GivesText result (shown self.now inherits.now) }
+        ensures counts { OnOk result (meter.new ≡ examined (examines self.now inherits.now) meter.old) }
+        ensures few { OnErr result (ExaminesSome (may self.now) meter.old meter.new) }
         ensures memory { IsOkUnless result memory_fault };
 }
 
-// What a view shows of a world. All sections that are still to be read are read first, each once as the meter counts. Want
-// of memory is the only refusal; then those of some files, from the first on, were read.
+// What a view shows of a world. All sections that are still to be read are read first, each once as the meter counts; then
+// stamps are examined. Want of memory is the only refusal; then those of some files, from the first on, were read.
 pub(crate) fn view_of<T: Text, V: Shows>(
     alloc: Global,
     meter: &mut Meter,
     world: &mut World<T>,
     view: &V,
 ) -> Result<String, Fault>
-    ensures value { GivesText result (V.shown view.now (scopes_named (V.named view.now) (scopes_of world.old.world))) }
-    ensures read { OnOk result (ReadsAll world.old world.new meter.old meter.new) }
-    ensures few { OnErr result (ReadsSome world.old world.new meter.old meter.new) }
+    ensures value { GivesText result (V.shown view.now (scopes_over (V.named view.now) world.old.world)) }
+    ensures read { OnOk result (ReadsAll (V.examines view.now (scopes_over (V.named view.now) world.old.world)) world.old world.new meter.old meter.new) }
+    ensures few { OnErr result (ReadsSome (V.may view.now) world.old world.new meter.old meter.new) }
     ensures memory { IsOkUnless result memory_fault }
 {
-    let outlines = read_world(alloc, meter, world)?;
-    view_over(alloc, world, outlines.as_slice(), view)
+    let outlines = read_world(alloc, meter, world, view.profile())?;
+    view_over(alloc, meter, world, outlines.as_slice(), view)
 }
 
 // The same, where it is known what the files say.
 fn view_over<T: Text, V: Shows>(
     alloc: Global,
+    meter: &mut Meter,
     world: &World<T>,
     outlines: &[FileOutline],
     view: &V,
 ) -> Result<String, Fault>
     requires read { outlines.now ≡ outlines_of world.now.world }
-    ensures value { GivesText result (V.shown view.now (scopes_named (V.named view.now) (scopes_of world.now.world))) }
+    ensures value { GivesText result (V.shown view.now (scopes_over (V.named view.now) world.now.world)) }
+    ensures counts { OnOk result (meter.new ≡ examined (V.examines view.now (scopes_over (V.named view.now) world.now.world)) meter.old) }
+    ensures few { OnErr result (ExaminesSome (V.may view.now) meter.old meter.new) }
     ensures memory { IsOkUnless result memory_fault }
 {
-    let inherits = inherits_named(alloc, world, outlines, view.file())?;
-    view.text(alloc, &inherits)
+    let by_days = view.profile().is_some();
+    let inherits = inherits_named(alloc, world, outlines, view.file(), by_days)?;
+    view.text(alloc, meter, &inherits, outlines)
 }
 
-// What the headings of the files that a view is over inherit, in the files' order.
+// What the headings of the files that a view is over inherit, in the files' order: along their ancestors, or by tables.
 fn inherits_named<'a, T: Text>(
     alloc: Global,
     world: &'a World<T>,
     outlines: &'a [FileOutline],
     file: Option<&[u8]>,
+    by_ancestors: bool,
 ) -> Result<Inherits<'a>, Fault>
     requires read { outlines.now ≡ outlines_of world.now.world }
     ensures value { Gives result (scopes_named (option_copied file.entry) (scopes_of world.now.world)) }
@@ -85,10 +113,33 @@ fn inherits_named<'a, T: Text>(
         if !is_wanted(file, name) {
             continue;
         }
-        let inherit = outlines[place].inherit(alloc, name, world.inherited())?;
+        let inherit = inherit_of(
+            alloc,
+            &outlines[place],
+            name,
+            world.inherited(),
+            by_ancestors,
+        )?;
         inherits.push(inherit)?;
     }
     Ok(inherits)
+}
+
+// What the headings of a file inherit, along their ancestors or by tables.
+fn inherit_of<'a>(
+    alloc: Global,
+    outline: &'a FileOutline,
+    name: &'a str,
+    inherited: &'a Texts,
+    by_ancestors: bool,
+) -> Result<Inherit<'a>, Fault>
+    ensures value { Gives result (scope_in outline.now name.now inherited.now) }
+    ensures memory { IsOkUnless result memory_fault }
+{
+    if by_ancestors {
+        return Ok(outline.inherit_by_ancestors(alloc, name, inherited));
+    }
+    outline.inherit(alloc, name, inherited)
 }
 
 // Whether a view is over the file of a name.

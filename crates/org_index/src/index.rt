@@ -24,7 +24,7 @@ use std::marker::Model;
 
 /// Stamps by their ids, found by days: seen as the list of ids, ascending, each with what of its stamp decides to which days
 /// it may matter.
-#[derive(Drop)]
+#[derive(Debug, Drop)]
 pub struct DayIndex {
     alloc: Global,
     extents: BTreeMap<u32, Extent>,
@@ -135,7 +135,10 @@ impl DayIndex {
     /// Takes the stamp with the id out, if there is one. It takes no memory.
     pub fn take(&mut self, id: u32)
         ensures value { self.new ≡ remove_entry (is_at (nat_cmp id)) self.old }
+        ensures ordered { IsStrictlySortedBy nat_cmp (keys_of self.old) }
     {
+        // For the proof alone: the ids of a map ascend.
+        let _ordered = self.extents.len();
         if let Some(extent) = self.extents.remove(&id) {
             clear(&mut self.days, own_day(&extent), id);
             clear(&mut self.repeating, repeated_day(&extent), id);

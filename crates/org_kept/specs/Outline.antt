@@ -1,5 +1,6 @@
 -- What a file says: its settings and its entries (Org Syntax, "Headings and Sections").
 use Rattle.std.specs.Prelude.{ℕ, List}
+pub use Rattle.org_dated.specs.Held.{OutlineView, scope_in}
 use Rattle.org_class.specs.Classes.{setting_lines}
 use Rattle.org_entry.specs.Entry.{entries_of}
 use Rattle.org_entry.specs.declared.entry.Entry.{Entry}
@@ -14,19 +15,10 @@ file_settings text = settings_of (setting_lines text)
 abbrev pub file_entries : List ℕ → List Entry
 file_entries text = entries_of (file_settings text) text
 
--- what a file says
-pub record OutlineView : Type 0 where
-  pub entries : List Entry
-  pub settings : FileSettings
-
 -- what a text says as a file
 abbrev pub outline_of : List ℕ → OutlineView
 outline_of text = record { entries = file_entries text; settings = file_settings text }
 
--- what inheritance looks at in a file, of the file's name and the inherited names
-abbrev pub scope_in : OutlineView → List ℕ → List (List ℕ) → Scope
-scope_in file name inherited = record { entries = file.entries; settings = file.settings; file = name; inherited = inherited }
-
--- the same of the file's text
+-- what inheritance looks at in a file of this text, of the file's name and the inherited names
 abbrev pub scope_of : List (List ℕ) → List ℕ → List ℕ → Scope
 scope_of inherited name text = scope_in (outline_of text) name inherited

@@ -11,12 +11,12 @@ ghost use Rattle.org_kept.specs.File.{all_marked, fresh_file, marked, read_secti
 ghost use Rattle.org_kept.specs.Outline.{file_settings, outline_of};
 
 use crate::fresh::list_of;
-use crate::outline::FileOutline;
 use crate::read::{all_read, read_in};
 use crate::sections::Sections;
 use crate::settings::shared_settings;
-use org_base::{Fault, Meter};
+use org_base::{Fault, Meter, Profile};
 use org_class::Settings;
+use org_dated::FileOutline;
 use org_entry::{Document, Entry};
 use org_text::Text;
 use std::alloc::{AllocError, Global};
@@ -225,8 +225,8 @@ impl<T: Text> File<T> {
 
     /// What the file says, shared with it. All sections that are still to be read are read first: the meter counts each
     /// once. The outline is kept as long as the settings and the number of sections stay, and what is read anew is put into
-    /// it: where few sections are still to be read, whose levels are as before, no other one is looked at, unless a clone
-    /// shares the outline: then its lists are copied first. Want of memory is the only refusal, and leaves the file as
+    /// it: where few sections are still to be read no other one is looked at. Where a level changes, or a clone shares the
+    /// outline, it is forgotten, and made anew by the next call. Want of memory is the only refusal, and leaves the file as
     /// before; then some of the sections may have been counted.
     pub fn outlined(&mut self, alloc: Global, meter: &mut Meter) -> Result<FileOutline, Fault>
         ensures value { Gives result (outline_of self.old.text) }
@@ -237,6 +237,27 @@ impl<T: Text> File<T> {
         ensures memory { IsOkUnless result memory_fault }
     {
         let sections = self.read_apart(alloc, meter)?;
+        self.keep(alloc, sections)
+    }
+
+    /// The same, with the stamps of the file's headings found by days, as they are looked at in a profile. They are kept as
+    /// the outline is: where few sections are still to be read, the stamps of these alone are put in, and those that stood there
+    /// taken out.
+    pub fn dated(
+        &mut self,
+        alloc: Global,
+        meter: &mut Meter,
+        profile: Profile,
+    ) -> Result<FileOutline, Fault>
+        ensures value { Gives result (outline_of self.old.text) }
+        ensures ok { OnOk result (self.new ≡ record self.old { marks = all_marked self.old.marks }) }
+        ensures err { OnErr result (self.new ≡ self.old) }
+        ensures counts { OnOk result (meter.new ≡ have_read (unread self.old.marks) meter.old) }
+        ensures few { OnErr result (SomeRead (unread self.old.marks) meter.old meter.new) }
+        ensures memory { IsOkUnless result memory_fault }
+    {
+        let mut sections = self.read_apart(alloc, meter)?;
+        sections.keep_index(alloc, &self.settings, profile)?;
         self.keep(alloc, sections)
     }
 

@@ -79,7 +79,7 @@ pub(crate) fn read_in<T: Text>(
     // For the proof alone: its contract says that the text is not too long.
     let _len = document.text.len();
     let section = read_at(alloc, meter, document, sections.list(), place)?;
-    Ok(sections.set(place, section)?)
+    Ok(sections.set(alloc, place, section)?)
 }
 
 // The sections of a document, all of them read: each that wasn't before is read once, as the meter counts. Want of memory is the

@@ -8,8 +8,9 @@ ghost use Rattle.org_kept.specs.Sections.{has_setting, is_pending, line_count, s
 
 use org_base::Fault;
 use org_class::{Class, Classes};
+use org_dated::DatedOutline;
 use org_entry::Entry;
-use org_outline::{Entries, Outline};
+use org_outline::Entries;
 use org_sequence::Measured;
 use std::alloc::{AllocError, Global};
 use std::marker::Model;
@@ -163,7 +164,12 @@ impl Section {
 
     // Puts what it says into an outline, which shares it, in the place of the entry at a place, where it was read. Want of
     // memory is the only refusal, and leaves the outline as before.
-    pub(crate) fn put_entry(&self, outline: &mut Outline, place: usize) -> Result<(), Fault>
+    pub(crate) fn put_entry(
+        &self,
+        alloc: Global,
+        outline: &mut DatedOutline,
+        place: usize,
+    ) -> Result<(), Fault>
         requires within { place < length outline.old }
         ensures ok { OnOk result (outline.new ≡ with_said self.now.entry place outline.old) }
         ensures err { OnErr result (outline.new ≡ outline.old) }
@@ -171,7 +177,7 @@ impl Section {
     {
         match &self.entry {
             None => Ok(()),
-            Some(entry) => outline.set(place, entry),
+            Some(entry) => outline.set(alloc, place, entry),
         }
     }
 }

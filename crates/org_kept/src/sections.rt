@@ -7,18 +7,20 @@ ghost use Rattle.org_kept.specs.Sections.{Follow, entries_in, is_pending, sectio
 
 use crate::outline::{outline_in, shared};
 use crate::section::Section;
-use org_base::Fault;
-use org_outline::Outline;
+use org_base::{Fault, Profile};
+use org_class::Settings;
+use org_dated::DatedOutline;
 use org_sequence::Sequence;
 use std::alloc::{AllocError, Global};
 use std::marker::Model;
+use std::rc::Rc;
 
 // What is kept of the sections of a file, seen as their list. Where there is an outline, it has an entry for each of them:
 // of those that were read what they say, of the others what stood there before.
 #[derive(Debug, Drop)]
 pub(crate) struct Sections {
     list: Sequence<Section>,
-    outline: Option<Outline>,
+    outline: Option<DatedOutline>,
 }
 
 impl Model for Sections {
@@ -85,7 +87,12 @@ impl Sections {
 
     // Puts a section in the place of another, and what it says into the outline; where memory is refused for that alone,
     // the outline is forgotten. Else want of memory leaves the sections as before.
-    pub(crate) fn set(&mut self, place: u32, section: Section) -> Result<(), AllocError>
+    pub(crate) fn set(
+        &mut self,
+        alloc: Global,
+        place: u32,
+        section: Section,
+    ) -> Result<(), AllocError>
         requires within { place < length self.old }
         requires size_fits { sum_by section_len self.old + section_len section < 2 ^ 32 }
         ensures ok { OnOk result (self.new ≡ splice self.old place (place + 1) (section ∷ [])) }
@@ -95,12 +102,12 @@ impl Sections {
         let Some(outline) = self.outline.take() else {
             return Ok(());
         };
-        self.outline = mended(outline, self.list.get(place), place as usize);
+        self.outline = mended(alloc, outline, self.list.get(place), place as usize);
         Ok(())
     }
 
     // What they say, shared: the outline, which is made first where there is none. Want of memory is the only refusal.
-    pub(crate) fn outline(&mut self, alloc: Global) -> Result<Outline, Fault>
+    pub(crate) fn outline(&mut self, alloc: Global) -> Result<DatedOutline, Fault>
         requires read { count_by is_pending self.old ≡ 0 }
         ensures value { Gives result (entries_in self.old) }
         ensures same { self.new ≡ self.old }
@@ -114,14 +121,43 @@ impl Sections {
         self.outline = Some(outline);
         Ok(share)
     }
+
+    // Keeps the stamps of what they say by days, as they are read by settings and looked at in a profile. Want of memory is the
+    // only refusal.
+    pub(crate) fn keep_index(
+        &mut self,
+        alloc: Global,
+        settings: &Rc<Settings>,
+        profile: Profile,
+    ) -> Result<(), Fault>
+        requires read { count_by is_pending self.old ≡ 0 }
+        ensures same { self.new ≡ self.old }
+        ensures memory { IsOkUnless result memory_fault }
+    {
+        let mut outline = self.outline(alloc)?;
+        outline.keep_index(alloc, settings, profile)?;
+        self.outline = Some(outline);
+        Ok(())
+    }
 }
 
-// An outline with what a section says in its place, where it was read; None where memory is refused.
-fn mended(mut outline: Outline, section: &Section, place: usize) -> Option<Outline>
+// An outline with what a section says in its place, where it was read; None where memory is refused, or where that would take a
+// pass over all entries: who asks next makes it anew then, and who only edits pays for none.
+fn mended(
+    alloc: Global,
+    mut outline: DatedOutline,
+    section: &Section,
+    place: usize,
+) -> Option<DatedOutline>
     requires within { place < length outline }
     ensures value { IfSome result (λ es. es ≡ with_said section.now.entry place outline) }
 {
-    match section.put_entry(&mut outline, place) {
+    if let Some(entry) = section.entry()
+        && !outline.is_set_at_once(place, entry)
+    {
+        return None;
+    }
+    match section.put_entry(alloc, &mut outline, place) {
         Ok(()) => Some(outline),
         Err(_) => None,
     }

@@ -9,6 +9,7 @@ ghost use Rattle.org_outline.specs.Tree.{all_ends, end_of, parent};
 
 use crate::body::Body;
 use crate::entries::Entries;
+use crate::levels::level_of;
 use org_base::{Code, Fault};
 use org_entry::Entry;
 use std::alloc::{AllocError, AllocFailed, Global};
@@ -163,6 +164,19 @@ impl Outline {
                 Ok(())
             }
             Err(_) => Err(Refused { entries }),
+        }
+    }
+
+    /// Whether [`Outline::set`] would make no pass over the entries: no other outline shares these, and both entries have one
+    /// level.
+    pub fn is_set_at_once(&self, place: usize, entry: &Entry) -> bool
+        requires { place < length self.now }
+    {
+        match &self.body {
+            None => false,
+            Some(body) => {
+                Rc::strong_count(body) == 1 && level_of(body.entry(place)) == level_of(entry)
+            }
         }
     }
 

@@ -15,10 +15,10 @@ use Rattle.org_wire.proofs.RunLemmas.{read_at, turn_of}
 
 -- nothing is no more than a command may count
 nothing_counts : (command : Command) (e : EngineView) → CountsFor command e e
-nothing_counts (Todo session file words) e = (0, omega arith, refl)
-nothing_counts (Match session file text) e = (0, omega arith, refl)
-nothing_counts (Agenda session date days) e = (0, omega arith, refl)
-nothing_counts (Clock session text) e = (0, omega arith, refl)
+nothing_counts (Todo session file words) e = (0, omega arith, 0, λ lt. absurd (omega (arith, lt)), refl)
+nothing_counts (Match session file text) e = (0, omega arith, 0, λ lt. absurd (omega (arith, lt)), refl)
+nothing_counts (Agenda session date days) e = (0, omega arith, 0, λ lt. absurd (omega (arith, lt)), refl)
+nothing_counts (Clock session text) e = (0, omega arith, 0, λ lt. absurd (omega (arith, lt)), refl)
 nothing_counts (Complete seen line keyword) e = record { reads = 0; count = 0; one = omega arith; few = omega arith; counts = refl }
 nothing_counts (Add name text) e = (0, omega arith, refl)
 nothing_counts (Edit seen at del ins) e = (0, omega arith, refl)

@@ -4,7 +4,7 @@ use Rattle.org_base.specs.declared.fault.Fault.{Fault}
 use Rattle.std.specs.Io.KnownBytes.{Appends}
 use Rattle.org_base.specs.Codes.{code_of}
 use Rattle.org_engine.specs.Questions.{Asks, AsksOf}
-use Rattle.org_engine.specs.Marks.{Classifies, Completes, Reads, added_count, new_count, pending_asked}
+use Rattle.org_engine.specs.Marks.{AnyStamps, Classifies, Completes, Looks, NoStamps, added_count, new_count, pending_asked}
 use Rattle.org_engine.specs.Step.{file_named}
 use Rattle.org_engine.specs.Step as step
 use Rattle.org_engine.specs.World.{EngineView, State}
@@ -65,14 +65,15 @@ pub record IsViewServed (view : View) (session : Option ℕ) (old : State) (answ
 abbrev pub ServesView : View → Option ℕ → EngineView → Reply → EngineView → Type 0
 ServesView view session old answer new = IsViewServed view session old.state answer new.state
 
--- what a command may count: a view the sections of the world that it is asked of which are still to be read, as read; a file
+-- what a command may count: a view the sections of the world that it is asked of which are still to be read, as read, and an
+-- agenda stamps that are examined besides; a file
 -- that is added its sections, and a change of one the new ones, as classified; completing a heading one as read besides; all
 -- others nothing
 abbrev pub CountsFor : Command → EngineView → EngineView → Type 0
-CountsFor (Todo session file words) old new = Reads (pending_asked session old) old new
-CountsFor (Match session file text) old new = Reads (pending_asked session old) old new
-CountsFor (Agenda session date days) old new = Reads (pending_asked session old) old new
-CountsFor (Clock session text) old new = Reads (pending_asked session old) old new
+CountsFor (Todo session file words) old new = Looks (pending_asked session old) NoStamps old new
+CountsFor (Match session file text) old new = Looks (pending_asked session old) NoStamps old new
+CountsFor (Agenda session date days) old new = Looks (pending_asked session old) AnyStamps old new
+CountsFor (Clock session text) old new = Looks (pending_asked session old) NoStamps old new
 CountsFor (Complete seen line keyword) old new = Completes seen.name line keyword old new
 CountsFor (Add name text) old new = Classifies (added_count text) old new
 CountsFor (Edit seen at del ins) old new = Classifies (new_count at del ins (file_named seen.name old.state.world.files)) old new

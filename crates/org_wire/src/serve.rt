@@ -2,7 +2,8 @@
 ghost use Rattle.std.specs.Prelude.{◌≡◌};
 ghost use Rattle.std.specs.Option.{option_copied};
 ghost use Rattle.org_engine.specs.Questions.{IsShort};
-ghost use Rattle.org_engine.specs.Marks.{Reads, pending_asked};
+ghost use Rattle.org_engine.specs.Examined.{MayExamine};
+ghost use Rattle.org_engine.specs.Marks.{Looks, Reads, pending_asked};
 ghost use Rattle.org_wire.specs.Run.{moment_command};
 ghost use Rattle.org_wire.specs.Turns.{CountsFor, Serves, ServesSurely, ServesView, told, told_text};
 ghost use Rattle.org_wire.specs.declared.command.Command.TheVariants.{Complete, Edit};
@@ -95,7 +96,7 @@ fn complete<T: Text>(engine: &mut Engine<T>, seen: &Seen, line: u64, keyword: &s
 fn ask<T: Text>(engine: &mut Engine<T>, view: View<'_>, session: Option<u64>) -> Reply
     requires short { IsShort view }
     ensures value { ServesView view.entry session engine.old result engine.new }
-    ensures counts { Reads (pending_asked session engine.old) engine.old engine.new }
+    ensures counts { Looks (pending_asked session engine.old) (MayExamine view.entry) engine.old engine.new }
 {
     told_text(engine.query(view, session))
 }

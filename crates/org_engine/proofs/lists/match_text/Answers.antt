@@ -19,7 +19,7 @@ returns-in_err-over-clause-err g c =
     (λ why is. rw is (λ other. match_gone c.args.file c.args.text c.args.world.now.world c.read-read.result fault (subst IsUtf8 c.as_bytes.ensures.value c.as_bytes.ensures.utf8) c.read-read.ensures.value c.read-read.ensures.built c.read-read.ensures.refused c.in_err-over.ensures.err)) c.from_residual.ensures.1
 
 pub returns-in_err-over-clause-few : goal.returns-in_err-over-clause-few
-returns-in_err-over-clause-few g c = on_err c.from_residual.result (none_some c.args.world.now c.args.meter.now)
+returns-in_err-over-clause-few g c = on_err c.from_residual.result (none_some _ c.args.world.now c.args.meter.now)
 
 pub returns-in_err-expression-clause-err : goal.returns-in_err-expression-clause-err
 returns-in_err-expression-clause-err g c =
@@ -28,4 +28,4 @@ returns-in_err-expression-clause-err g c =
     (λ why is. rw is (λ other. match_declined c.args.file c.args.text c.args.world.now.world c.in_ok-over.over fault c.in_ok-over.ensures.ok (unread c.args.text.now fault c.in_err-expression.ensures.refused other))) c.from_residual-in_err-expression.ensures.1
 
 pub returns-in_err-expression-clause-few : goal.returns-in_err-expression-clause-few
-returns-in_err-expression-clause-few g c = on_err c.from_residual-in_err-expression.result (none_some c.args.world.now c.args.meter.now)
+returns-in_err-expression-clause-few g c = on_err c.from_residual-in_err-expression.result (none_some _ c.args.world.now c.args.meter.now)

@@ -1,5 +1,4 @@
-use Rattle.std.proofs.lemmas.Result.{IfErr-weaker, IfOk-weaker}
-use Rattle.org_engine.proofs.ListLemmas.{todo_declined, todo_shown}
+use Rattle.org_engine.proofs.ListLemmas.{todo_shown}
 use Rattle.org_engine.proofs.lists.todo_text.Goals as goal
 
 pub returns-clause-ok : goal.returns-clause-ok

@@ -1,6 +1,8 @@
 use Rattle.std.proofs.Common.{◌∙◌, ap}
+use Rattle.org_engine.specs.Outlines.{scopes_of}
+use Rattle.org_engine.specs.Views.{scopes_named}
 use Rattle.org_engine.specs.World.{KeptWorld}
-use Rattle.org_engine.proofs.MarkLemmas.{all_some, on_err, on_ok}
+use Rattle.org_engine.proofs.MarkLemmas.{on_err, read_examined, some_examined, some_read, where_err, where_ok}
 use Rattle.org_engine.proofs.shows.view_of.Goals as goal
 
 pub view_over-requires : goal.view_over-requires
@@ -10,7 +12,13 @@ pub returns-clause-value : goal.returns-clause-value
 returns-clause-value g c = rw (ap (λ (w : KeptWorld). w.world) c.in_ok-outlines.ensures.read.0) at c.view_over.ensures.value
 
 pub returns-clause-read : goal.returns-clause-read
-returns-clause-read g c = on_ok c.view_over.result c.in_ok-outlines.ensures.read
+returns-clause-read g c =
+    where_ok c.view_over.result (λ more. read_examined (g.V.Shows.examines c.args.view.now (scopes_named (g.V.Shows.named c.args.view.now) (scopes_of c.args.world.now.world))) c.args.world.now c.read_world.new.world c.args.meter.now c.read_world.new.meter c.view_over.new.meter c.in_ok-outlines.ensures.read more)
+    (rw (ap (λ (w : KeptWorld). w.world) c.in_ok-outlines.ensures.read.0) at c.view_over.ensures.counts)
 
 pub returns-clause-few : goal.returns-clause-few
-returns-clause-few g c = on_err c.view_over.result (all_some _ _ _ _ c.in_ok-outlines.ensures.read)
+returns-clause-few g c =
+    where_err c.view_over.result (λ some. some_examined (g.V.Shows.may c.args.view.now) c.args.world.now c.read_world.new.world c.args.meter.now c.read_world.new.meter c.view_over.new.meter c.in_ok-outlines.ensures.read some) c.view_over.ensures.few
+
+pub returns-in_err-outlines-clause-few : goal.returns-in_err-outlines-clause-few
+returns-in_err-outlines-clause-few g c = on_err c.from_residual.result (some_read (g.V.Shows.may c.args.view.now) c.args.world.now c.read_world.new.world c.args.meter.now c.read_world.new.meter c.in_err-outlines.ensures.few)

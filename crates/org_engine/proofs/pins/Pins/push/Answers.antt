@@ -1,4 +1,4 @@
-use Rattle.std.proofs.Common.{◌∙◌, ◌∷◌, [], ap}
+use Rattle.std.proofs.Common.{◌∙◌, ap}
 use Rattle.org_engine.specs.Pins.{pin_marks, pins_of}
 use Rattle.org_engine.proofs.PinLemmas.{pin_marks-append, pins_of-append}
 use Rattle.org_engine.proofs.pins.Pins.push.Goals as goal

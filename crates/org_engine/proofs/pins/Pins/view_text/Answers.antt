@@ -1,5 +1,6 @@
-use Rattle.std.proofs.Common.{◌≡◌, ◌<◌, ◌∙◌, arith, length, string_bytes, subst, sym}
+use Rattle.std.proofs.Common.{◌<◌, ◌∙◌, arith, length, string_bytes, subst, sym}
 use Rattle.std.proofs.lemmas.Result.{IfErr-weaker, IfOk-weaker}
+use Rattle.org_engine.specs.Examined.{MayExamine}
 use Rattle.org_engine.specs.Pins.{pins_of}
 use Rattle.org_engine.specs.Questions.{TellsOf}
 use Rattle.org_engine.specs.Step.{Refused, Shown}
@@ -39,7 +40,7 @@ returns-clause-read g c =
     let shown : place < length (pins_of items) = rw (← c.self.view_is) at c.requires.within in
     let within : place < length items = omega (arith, shown, length-pins_of items) in
     let is = c.pin.view_is ∙ c.index_mut-pin.ensures.value in
-    rw (← c.self.view_is) (where_ok c.view_text.result (pin_read items place within _ c.pin.inside.session c.pin.inside.world is c.view_text.new.world c.args.meter.now c.view_text.new.meter) c.view_text.ensures.read)
+    rw (← c.self.view_is) (where_ok c.view_text.result (pin_read items place within _ c.pin.inside.session c.pin.inside.world is c.args.view c.view_text.new.world c.args.meter.now c.view_text.new.meter) c.view_text.ensures.read)
 
 pub returns-clause-few : goal.returns-clause-few
 returns-clause-few g c =
@@ -48,7 +49,7 @@ returns-clause-few g c =
     let shown : place < length (pins_of items) = rw (← c.self.view_is) at c.requires.within in
     let within : place < length items = omega (arith, shown, length-pins_of items) in
     let is = c.pin.view_is ∙ c.index_mut-pin.ensures.value in
-    rw (← c.self.view_is) (where_err c.view_text.result (pin_some items place within _ c.pin.inside.session c.pin.inside.world is c.view_text.new.world c.args.meter.now c.view_text.new.meter) c.view_text.ensures.few)
+    rw (← c.self.view_is) (where_err c.view_text.result (pin_some items place within _ c.pin.inside.session c.pin.inside.world is (MayExamine c.args.view) c.view_text.new.world c.args.meter.now c.view_text.new.meter) c.view_text.ensures.few)
 
 pub returns-clause-quiet : goal.returns-clause-quiet
 returns-clause-quiet g c =

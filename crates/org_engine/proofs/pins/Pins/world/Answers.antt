@@ -1,7 +1,7 @@
 use Rattle.std.proofs.Common.{◌≡◌, ◌<◌, ◌∙◌, ap, arith, get_or, length, sym}
 use Rattle.std.specs.Prelude.{Some}
 use Rattle.org_engine.specs.Pins.{IsPlaceOf, pin_marks, pins_of}
-use Rattle.org_engine.specs.World.{KeptPin, KeptWorld, PinView, WorldView}
+use Rattle.org_engine.specs.World.{KeptPin, KeptWorld, PinView}
 use Rattle.org_engine.proofs.PinLemmas.{length-pins_of, marks_there, pin_at}
 use Rattle.org_engine.proofs.pins.Pins.world.Goals as goal
 

@@ -1,13 +1,10 @@
-use Rattle.std.proofs.Common.{◌≡◌, ◌∙◌, ap, arith, refl, subst, sym, true, true≢false}
-use Rattle.std.specs.Prelude.{Some, is_some, slice_get}
-use Rattle.std.specs.List.{position_or_len}
-use Rattle.std.specs.Map.{keys_of, values_of}
+use Rattle.std.proofs.Common.{◌∙◌, ap, arith, subst, sym, true≢false}
+use Rattle.std.specs.Prelude.{Some, is_some}
 use Rattle.indexmap.specs.Layout.{length-set_value_at}
 use Rattle.org_kept.specs.Change.{LiesIn, edited}
 use Rattle.org_engine.specs.Calls.{IsChangeIn}
 use Rattle.org_engine.specs.Files.{files_of, marks_of}
-use Rattle.org_engine.specs.Marks.{kept_named}
-use Rattle.org_engine.proofs.FilesLemmas.{files_of-set, is_key, is_some-file_named, kept_at, kept_text, made_new, marks_of-set, placed}
+use Rattle.org_engine.proofs.FilesLemmas.{files_of-set, is_some-file_named, kept_at, kept_text, made_new, marks_of-set, placed}
 use Rattle.org_engine.proofs.MarkLemmas.{set-same, where_err, where_ok}
 use Rattle.org_engine.proofs.world.World.change.Goals as goal
 

@@ -1,4 +1,4 @@
-use Rattle.std.proofs.Common.{◌≡◌, ◌∙◌, ap, arith, subst, sym, true, true≢false}
+use Rattle.std.proofs.Common.{◌≡◌, ◌∙◌, arith, subst, sym, true, true≢false}
 use Rattle.std.specs.Prelude.{IfOk, Ok, Some, is_some}
 use Rattle.indexmap.specs.Layout.{length-set_value_at}
 use Rattle.org_file.specs.Completion.{completed, completion_part}

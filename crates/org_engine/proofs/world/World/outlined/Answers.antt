@@ -14,7 +14,7 @@ index_mut-file-requires g c =
     omega (arith, within, length-files_of entries)
 
 pub invariant_of-self : goal.invariant_of-self
-invariant_of-self g c = omega (arith, length-set_value_at c.self.inside.files.entries c.args.place c.outlined.new.self, c.self.invariant)
+invariant_of-self g c = omega (arith, length-set_value_at c.self.inside.files.entries c.args.place c.outlined.new.file, c.self.invariant)
 
 pub returns-clause-value : goal.returns-clause-value
 returns-clause-value g c = λ file is.
@@ -27,7 +27,7 @@ pub returns-clause-ok : goal.returns-clause-ok
 returns-clause-ok g c =
     let entries = c.self.inside.files.entries in
     let place = c.args.place in
-    let new = c.outlined.new.self in
+    let new = c.outlined.new.file in
     let at = c.index_mut-file.ensures.value in
     where_ok c.outlined.result (λ is. rw (← c.self.view_is) (λ i. record {
       world = record {
@@ -43,7 +43,7 @@ pub returns-clause-err : goal.returns-clause-err
 returns-clause-err g c =
     let entries = c.self.inside.files.entries in
     let place = c.args.place in
-    let new = c.outlined.new.self in
+    let new = c.outlined.new.file in
     let at = c.index_mut-file.ensures.value in
     where_err c.outlined.result (λ is.
     let same = set-same entries place new (at ∙ ap Some (sym is)) in

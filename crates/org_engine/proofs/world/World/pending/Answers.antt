@@ -1,4 +1,4 @@
-use Rattle.std.proofs.Common.{◌<◌, ◌≤◌, ◌∙◌, arith, length, sym}
+use Rattle.std.proofs.Common.{◌<◌, ◌≤◌, ◌∙◌, arith, length}
 use Rattle.org_engine.proofs.MarkLemmas.{pending_all, pending_more}
 use Rattle.org_engine.proofs.world.World.pending.Goals as goal
 

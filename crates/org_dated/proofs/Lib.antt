@@ -1,0 +1,9 @@
+pub mod SumLemmas
+pub mod PutLemmas
+pub mod TakeLemmas
+pub mod HouseLemmas
+pub mod IndexLemmas
+pub mod NearLemmas
+pub mod PlaceLemmas
+pub mod FileLemmas
+pub mod StampLemmas

@@ -1,0 +1,5 @@
+pub mod Asked
+pub mod Held
+pub mod Index
+pub mod Near
+pub mod Stamps

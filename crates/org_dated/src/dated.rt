@@ -1,0 +1,179 @@
+//! An outline with its stamps by days.
+ghost use Rattle.std.specs.Prelude.{◌≡◌, ◌<◌, ◌≤◌, length, slice_set, IfOk, OnErr, OnOk, IsOkUnless};
+ghost use Rattle.org_base.specs.Codes.{memory_fault};
+ghost use Rattle.org_base.specs.Results.{Gives};
+ghost use Rattle.org_dated.specs.Held.{KeepsIndexOf};
+ghost use Rattle.org_dated.specs.Index.{IsCopy, IsIndexOf};
+ghost use Rattle.org_dated.specs.Near.{CountsNear, HoldNear};
+ghost use Rattle.org_index.specs.Ticks.{Examines};
+
+use crate::asked::Asked;
+use crate::index::StampIndex;
+use org_base::{Fault, Meter, Profile};
+use org_entry::Entry;
+use org_outline::Outline;
+use org_settings::Settings;
+use std::alloc::Global;
+use std::collections::BTreeSet;
+use std::marker::Model;
+use std::rc::Rc;
+
+/// The entries of one text with the tree of their headings, seen as their list. Beside them it may keep their stamps by days,
+/// which no answer shows.
+#[derive(Debug, Drop)]
+pub struct DatedOutline {
+    outline: Outline,
+    index: Option<Rc<StampIndex>>,
+}
+
+impl Model for DatedOutline {
+    ghost use Rattle.std.specs.Prelude.{List};
+    ghost use Rattle.org_dated.specs.Held.{KeepsIndexOf};
+    ghost use Rattle.org_entry.specs.declared.entry.Entry.{Entry};
+
+    ghost Value = { List Entry };
+
+    ghost view = { λ d. d.outline };
+
+    ghost invariant = { λ d. KeepsIndexOf d.outline d.index };
+}
+
+impl DatedOutline {
+    /// An outline whose stamps aren't kept by days.
+    pub fn new(outline: Outline) -> DatedOutline
+        ensures value { result ≡ outline }
+    {
+        DatedOutline {
+            outline,
+            index: None,
+        }
+    }
+
+    /// An equal one, at the cost of one count for each part, which later changes of this one don't reach. Want of memory is its
+    /// only refusal.
+    pub fn share(&self) -> Result<DatedOutline, Fault>
+        ensures value { Gives result self.now }
+        ensures memory { IsOkUnless result memory_fault }
+    {
+        let outline = self.outline.share()?;
+        let index = match &self.index {
+            None => None,
+            Some(index) => Some(index.clone()?),
+        };
+        Ok(DatedOutline { outline, index })
+    }
+
+    /// The outline.
+    pub fn outline(&self) -> &Outline
+        ensures value { result.now ≡ self.now }
+    {
+        &self.outline
+    }
+
+    /// Whether [`DatedOutline::set`] would make no pass over what is kept: nobody shares it, and both entries have one level.
+    pub fn is_set_at_once(&self, place: usize, entry: &Entry) -> bool
+        requires { place < length self.now }
+    {
+        let is_own = match &self.index {
+            None => true,
+            Some(index) => Rc::strong_count(index) == 1,
+        };
+        is_own && self.outline.is_set_at_once(place, entry)
+    }
+
+    /// Puts an entry, which others may hold too, in the place of the one at a place. Where both have one level it costs what the
+    /// stamps of both cost, unless others share what is kept: then it is copied first. Want of memory is the only refusal, and
+    /// leaves the entries as before.
+    pub fn set(&mut self, alloc: Global, place: usize, entry: &Rc<Entry>) -> Result<(), Fault>
+        requires { place < length self.old }
+        ensures ok { OnOk result (self.new ≡ slice_set self.old place entry.now.value) }
+        ensures err { OnErr result (self.new ≡ self.old) }
+        ensures memory { IsOkUnless result memory_fault }
+    {
+        let index = match self.index.take() {
+            None => None,
+            Some(index) => self.mended(alloc, index, place, entry.as_ref()),
+        };
+        self.outline.set(place, entry)?;
+        self.index = index;
+        Ok(())
+    }
+
+    // The indexes with the stamps of an entry in the place of those of the one at a place; None where they are worn, or where
+    // memory is refused.
+    fn mended(
+        &self,
+        alloc: Global,
+        index: Rc<StampIndex>,
+        place: usize,
+        entry: &Entry,
+    ) -> Option<Rc<StampIndex>>
+        requires is { IsIndexOf index.value.settings.value self.now index.value }
+        requires within { place < length self.now }
+        ensures value { KeepsIndexOf (slice_set self.now place entry.now) result }
+    {
+        if index.as_ref().is_worn() {
+            return None;
+        }
+        let mut index = owned(index).ok()?;
+        index.set(alloc, &self.outline, place, entry).ok()?;
+        Rc::new(alloc, index).ok()
+    }
+
+    /// Keeps the stamps by days from now on, as they are read by settings and looked at in a profile. Where they are kept so
+    /// already no entry is looked at; else all are. Want of memory is the only refusal.
+    pub fn keep_index(
+        &mut self,
+        alloc: Global,
+        settings: &Rc<Settings>,
+        profile: Profile,
+    ) -> Result<(), Fault>
+        ensures value { self.new ≡ self.old }
+        ensures memory { IsOkUnless result memory_fault }
+    {
+        if let Some(index) = &self.index
+            && index.as_ref().is_of(settings.as_ref(), profile)
+        {
+            return Ok(());
+        }
+        let index = StampIndex::of(alloc, &self.outline, settings, profile)?;
+        self.index = Some(Rc::new(alloc, index)?);
+        Ok(())
+    }
+
+    // The places of the headings that own a stamp near the days, as it is read by settings; each such stamp is examined, as the
+    // meter counts. Where the stamps aren't kept so by days, they are brought so for this call. Want of memory is the only
+    // refusal, and then some may have been counted.
+    pub(crate) fn near(
+        &self,
+        alloc: Global,
+        meter: &mut Meter,
+        settings: &Rc<Settings>,
+        asked: &Asked,
+    ) -> Result<BTreeSet<usize>, Fault>
+        requires order { asked.now.from ≤ asked.now.to }
+        ensures value { IfOk result (HoldNear asked.now settings.now.value self.now) }
+        ensures counts { OnOk result (CountsNear asked.now settings.now.value self.now meter.old meter.new) }
+        ensures few { OnErr result (Examines meter.old meter.new) }
+        ensures memory { IsOkUnless result memory_fault }
+    {
+        let profile = asked.standpoint.profile;
+        if let Some(index) = &self.index
+            && index.as_ref().is_of(settings.as_ref(), profile)
+        {
+            return index.as_ref().near(alloc, meter, asked);
+        }
+        let index = StampIndex::of(alloc, &self.outline, settings, profile)?;
+        index.near(alloc, meter, asked)
+    }
+}
+
+// The indexes alone: where others share them, a copy.
+fn owned(index: Rc<StampIndex>) -> Result<StampIndex, Fault>
+    ensures value { IfOk result (IsCopy index.value) }
+{
+    match Rc::try_unwrap(index) {
+        Ok(index) => Ok(index),
+        Err(shared) => shared.as_ref().copy(),
+    }
+}

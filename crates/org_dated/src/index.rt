@@ -1,0 +1,237 @@
+//! The stamps of a file's headings, found by days.
+ghost use Rattle.std.specs.Prelude.{◌≡◌, ◌≤◌, ◌<◌, ◌+◌, ◌^◌, ◌∷◌, [], true, get_or, length, slice_set, IfOk, OnErr, OnOk, IsOkUnless};
+ghost use Rattle.org_base.specs.Codes.{memory_fault};
+ghost use Rattle.org_index.specs.Ticks.{Examines};
+ghost use Rattle.org_dated.specs.Index.{AreFresh, HasPut, HasTaken, IsCopy, IsIndexOf};
+ghost use Rattle.org_dated.specs.Near.{AddHomes, AddsHome, CountsNearOf, HoldNearOf, KeepPlaces};
+
+use crate::asked::{Asked, is_pressing};
+use org_agenda::{Source, write_bare};
+use org_base::{Code, Fault, Meter, Profile};
+use org_entry::Entry;
+use org_index::DayIndex;
+use org_outline::Outline;
+use org_settings::Settings;
+use std::alloc::{AllocError, Global};
+use std::collections::BTreeSet;
+use std::rc::Rc;
+
+// So many ids may always lead to no stamp.
+const FEW_GONE: usize = 65_536;
+
+// So many ids can be given: they are numbers of 32 bits.
+const MOST_IDS: usize = 4_294_967_296;
+
+// The stamps of a file's headings in two indexes: of those that press, and of the others. Ids count up from 0 and are never
+// given twice.
+#[derive(Debug, Drop)]
+pub(crate) struct StampIndex {
+    // By which the stamps were read, and in which they are looked at.
+    pub(crate) settings: Rc<Settings>,
+    pub(crate) profile: Profile,
+    pub(crate) pressing: DayIndex,
+    pub(crate) others: DayIndex,
+    // By id the place of its heading.
+    pub(crate) homes: Vec<usize>,
+    // By place the first id of its heading's stamps; the others follow.
+    pub(crate) firsts: Vec<u32>,
+    // How many ids lead to no stamp any more.
+    gone: usize,
+}
+
+impl StampIndex {
+    // The stamps of all entries of an outline, read by settings, as they are looked at in a profile. Want of memory is the only
+    // refusal.
+    pub(crate) fn of(
+        alloc: Global,
+        outline: &Outline,
+        settings: &Rc<Settings>,
+        profile: Profile,
+    ) -> Result<StampIndex, Fault>
+        ensures value { IfOk result (IsIndexOf settings.now.value outline.now) }
+        ensures settings { IfOk result (λ x. x.settings.value ≡ settings.now.value) }
+        ensures profile { IfOk result (λ x. x.profile ≡ profile) }
+        ensures memory { IsOkUnless result memory_fault }
+    {
+        let mut index = StampIndex {
+            settings: settings.clone()?,
+            profile,
+            pressing: DayIndex::new(alloc),
+            others: DayIndex::new(alloc),
+            homes: Vec::new(alloc),
+            firsts: Vec::with_capacity(alloc, outline.count())?,
+            gone: 0,
+        };
+        let mut own = Vec::new(alloc);
+        for place in 0..outline.count() {
+            write_bare(&mut own, settings.as_ref(), outline.entry(place))?;
+            let first = index.put_stamps(place, own.as_slice())?;
+            index.firsts.push(first)?;
+        }
+        Ok(index)
+    }
+
+    // Puts the stamps of an entry in the place of those of the one at a place of an outline. Want of memory is the only refusal;
+    // then the index is of no use any more.
+    pub(crate) fn set(
+        &mut self,
+        alloc: Global,
+        outline: &Outline,
+        place: usize,
+        entry: &Entry,
+    ) -> Result<(), Fault>
+        requires is { IsIndexOf self.old.settings.value outline.now self.old }
+        requires within { place < length outline.now }
+        ensures ok { OnOk result (IsIndexOf self.old.settings.value (slice_set outline.now place entry.now) self.new) }
+        ensures settings { OnOk result (self.new.settings.value ≡ self.old.settings.value) }
+        ensures memory { IsOkUnless result memory_fault }
+    {
+        let settings = self.settings.clone()?;
+        let mut own = Vec::new(alloc);
+        write_bare(&mut own, settings.as_ref(), outline.entry(place))?;
+        let first = self.first_id(place);
+        self.take_stamps(first, own.as_slice());
+        write_bare(&mut own, settings.as_ref(), entry)?;
+        let first = self.put_stamps(place, own.as_slice())?;
+        self.firsts[place] = first;
+        Ok(())
+    }
+
+    // Whether it has the stamps as they are read by these settings and looked at in a profile.
+    pub(crate) fn is_of(&self, settings: &Settings, profile: Profile) -> bool
+        ensures settings { result ≡ true → self.now.settings.value ≡ settings.now }
+        ensures profile { result ≡ true → self.now.profile ≡ profile }
+    {
+        self.profile == profile && self.settings.as_ref().same(settings)
+    }
+
+    // Whether so many ids lead to no stamp any more that it is better made anew.
+    pub(crate) fn is_worn(&self) -> bool {
+        self.gone > FEW_GONE && self.gone > self.homes.len() / 2
+    }
+
+    // The first id of the stamps of the heading at a place.
+    fn first_id(&self, place: usize) -> usize
+        requires { place < length self.now.firsts.items }
+        ensures value { result ≡ get_or self.now.firsts.items place 0 }
+    {
+        self.firsts[place] as usize
+    }
+
+    // Puts stamps of the heading at a place in, under ids that were never given; the first of these ids. Want of memory is the
+    // only refusal; then the index is of no use any more.
+    fn put_stamps(&mut self, place: usize, stamps: &[Source]) -> Result<u32, Fault>
+        requires fresh { AreFresh self.old }
+        ensures first { IfOk result (λ first. first ≡ length self.old.homes.items) }
+        ensures ok { OnOk result (HasPut place stamps.now self.old self.new) }
+        ensures memory { IsOkUnless result memory_fault }
+    {
+        let first = self.homes.len();
+        if first >= MOST_IDS {
+            return Err(Fault::Plain(Code::Memory));
+        }
+        for stamp in stamps {
+            self.put_stamp(place, stamp)?;
+        }
+        Ok(first as u32)
+    }
+
+    // Puts a stamp of the heading at a place in, under an id that was never given.
+    fn put_stamp(&mut self, place: usize, stamp: &Source) -> Result<(), Fault>
+        requires fresh { AreFresh self.old }
+        ensures ok { OnOk result (HasPut place (stamp.now ∷ []) self.old self.new) }
+        ensures memory { IsOkUnless result memory_fault }
+    {
+        let id = self.homes.len();
+        if id >= MOST_IDS {
+            return Err(Fault::Plain(Code::Memory));
+        }
+        let id = id as u32;
+        self.homes.push(place)?;
+        if is_pressing(stamp) {
+            self.pressing.put(&stamp.stamp, self.profile, id)
+        } else {
+            self.others.put(&stamp.stamp, self.profile, id)
+        }
+    }
+
+    // Takes stamps out, whose ids count up from a first one. It takes no memory.
+    fn take_stamps(&mut self, first: usize, stamps: &[Source])
+        requires few { first + length stamps.now ≤ 2 ^ 32 }
+        ensures value { HasTaken first stamps.now self.old self.new }
+    {
+        self.gone = self.gone.saturating_add(stamps.len());
+        for (ahead, stamp) in stamps.iter().enumerate() {
+            let id = (first + ahead) as u32;
+            if is_pressing(stamp) {
+                self.pressing.take(id);
+            } else {
+                self.others.take(id);
+            }
+        }
+    }
+
+    // An equal index, which later changes of this one don't reach. Want of memory is its only refusal.
+    pub(crate) fn copy(&self) -> Result<StampIndex, Fault>
+        ensures value { IfOk result (IsCopy self.now) }
+        ensures memory { IsOkUnless result memory_fault }
+    {
+        Ok(StampIndex {
+            settings: self.settings.clone()?,
+            profile: self.profile,
+            pressing: self.pressing.share()?,
+            others: self.others.share()?,
+            homes: self.homes.clone()?,
+            firsts: self.firsts.clone()?,
+            gone: self.gone,
+        })
+    }
+
+    // The places of the headings that own a stamp near the days; each such stamp is examined, as the meter counts. Want of memory
+    // is the only refusal, and then some may have been counted.
+    pub(crate) fn near(
+        &self,
+        alloc: Global,
+        meter: &mut Meter,
+        asked: &Asked,
+    ) -> Result<BTreeSet<usize>, Fault>
+        requires order { asked.now.from ≤ asked.now.to }
+        requires profile { asked.now.standpoint.profile ≡ self.now.profile }
+        ensures value { IfOk result (HoldNearOf asked.now self.now) }
+        ensures counts { OnOk result (CountsNearOf asked.now self.now meter.old meter.new) }
+        ensures few { OnErr result (Examines meter.old meter.new) }
+        ensures memory { IsOkUnless result memory_fault }
+    {
+        let (from, to) = (asked.from, asked.to);
+        let pressing = self
+            .pressing
+            .candidates(meter, from, to, asked.standpoint.today)?;
+        let others = self.others.touching(meter, from, to)?;
+        let mut places = BTreeSet::new(alloc);
+        add_homes(&mut places, self.homes.as_slice(), pressing.as_slice())?;
+        add_homes(&mut places, self.homes.as_slice(), others.as_slice())?;
+        Ok(places)
+    }
+}
+
+// The places of these ids, with those that are there already.
+fn add_homes(places: &mut BTreeSet<usize>, homes: &[usize], ids: &[u32]) -> Result<(), AllocError>
+    ensures keeps { OnOk result (KeepPlaces places.old places.new) }
+    ensures adds { OnOk result (AddHomes homes.now ids.now places.new) }
+{
+    for id in ids {
+        add_home(places, homes, *id)?;
+    }
+    Ok(())
+}
+
+// The place of an id, if it has one, with those that are there already.
+fn add_home(places: &mut BTreeSet<usize>, homes: &[usize], id: u32) -> Result<(), AllocError>
+    ensures keeps { OnOk result (KeepPlaces places.old places.new) }
+    ensures adds { OnOk result (AddsHome homes.now id places.new) }
+{
+    if let Some(home) = homes.get(id as usize) {
+        places.insert(*home)?;
+    }
+    Ok(())
+}

@@ -1,0 +1,13 @@
+use Rattle.std.proofs.Common.{◌∙◌, ap}
+use Rattle.org_engine.specs.Outlines.{scopes_of}
+use Rattle.org_engine.specs.Views.{scopes_named}
+use Rattle.org_engine.proofs.MarkLemmas.{none_examined, on_err}
+use Rattle.org_engine.proofs.ShownLemmas.{zip_all}
+use Rattle.org_engine.proofs.shows.view_over.Goals as goal
+
+pub returns-in_err-inherits-clause-few : goal.returns-in_err-inherits-clause-few
+returns-in_err-inherits-clause-few g c = on_err c.from_residual.result (none_examined (g.V.Shows.may c.args.view.now) c.args.meter.now)
+
+pub text-requires-clause-same : goal.text-requires-clause-same
+text-requires-clause-same g c = λ named.
+    zip_all c.args.world.now.world c.args.outlines.now c.in_ok-inherits.inherits c.requires.read (c.in_ok-inherits.ensures.value ∙ ap (λ n. scopes_named n (scopes_of c.args.world.now.world)) (c.file.ensures.value ∙ named))

@@ -1,0 +1,50 @@
+-- How many stamps views examine (profile).
+use Rattle.std.specs.Prelude.{◌≡◌, ℕ, ◌+◌, ◌-◌, List, Result, Ok, Err}
+use Rattle.org_agenda.specs.Bound.{near_count}
+use Rattle.org_agenda.specs.declared.standpoint.Standpoint.{Standpoint}
+use Rattle.org_base.specs.Counts.{Counts}
+use Rattle.org_base.specs.declared.fault.Fault.{Fault}
+use Rattle.org_index.specs.Ticks.{examined}
+use Rattle.org_inherit.specs.Scope.{Scope}
+use Rattle.org_engine.specs.Outlines.{scopes_of}
+use Rattle.org_engine.specs.Marks.{AnyStamps, NoStamps}
+use Rattle.org_engine.specs.Questions.{asked_agenda}
+use Rattle.org_engine.specs.Step.{ClockTable, DayAgenda, MatchList, Question, TodoList, Unread}
+use Rattle.org_engine.specs.World.{WorldView}
+use Rattle.org_engine.specs.declared.question.View.{View}
+use Rattle.org_engine.specs.declared.question.View.TheVariants.{Agenda, Match, Todo, Clock}
+
+-- how many stamps of a world are near so many days from a first one on
+unfoldable pub near_in_world : ℕ → ℕ → WorldView → ℕ
+near_in_world first count world = near_count world.profile first (first + count - 1) world.moment.day (scopes_of world)
+
+-- those that are near so many days from a first one on were examined, each once, and nothing else was counted
+abbrev pub ExaminesNear : Standpoint → List Scope → ℕ → ℕ → Counts → Counts → Type 0
+ExaminesNear seen scopes first count old new = new ≡ examined (near_count seen.profile first (first + count - 1) seen.today scopes) old
+
+-- an agenda examines those that are near its days, and no other question any
+abbrev pub examined_for : Question → WorldView → ℕ
+examined_for (DayAgenda first count) world = near_in_world first count world
+examined_for (TodoList file words) world = 0
+examined_for (MatchList file read) world = 0
+examined_for (ClockTable table) world = 0
+examined_for (Unread fault) world = 0
+
+-- the same of a view that is answered
+abbrev pub examined_by : View → WorldView → ℕ
+examined_by (Agenda date days) world = examined_for (asked_agenda date.now days) world
+examined_by (Todo file words) world = 0
+examined_by (Match file text) world = 0
+examined_by (Clock text) world = 0
+
+-- and of the world that is asked, if one is
+abbrev pub examined_in : View → Result WorldView Fault → ℕ
+examined_in view (Ok world) = examined_by view world
+examined_in view (Err fault) = 0
+
+-- a view that is refused may have examined stamps where it is an agenda
+abbrev pub MayExamine : View → Type 0
+MayExamine (Agenda date days) = AnyStamps
+MayExamine (Todo file words) = NoStamps
+MayExamine (Match file text) = NoStamps
+MayExamine (Clock text) = NoStamps
