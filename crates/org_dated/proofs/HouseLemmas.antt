@@ -14,7 +14,8 @@ use Rattle.org_agenda.specs.declared.source.Source.{Source}
 use Rattle.org_dated.specs.Index.{AreBelow, AreHomes, AreHoused, all_ids, ids_of}
 use Rattle.org_dated.proofs.SumLemmas.{below_append}
 
-get_append : (xs ys : List ℕ) (n v : ℕ) → slice_get xs n ≡ Some v → slice_get (xs ++ ys) n ≡ Some v
+-- what stands in a list stands in a longer one
+pub get_append : (xs ys : List ℕ) (n v : ℕ) → slice_get xs n ≡ Some v → slice_get (xs ++ ys) n ≡ Some v
 get_append [] ys n v there = absurd (cc)
 get_append (x ∷ xs) ys zero v there = there
 get_append (x ∷ xs) ys (suc n) v there = get_append xs ys n v there

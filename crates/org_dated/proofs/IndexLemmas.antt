@@ -1,5 +1,5 @@
 -- Indexes of entries: made, and with another entry at a place.
-use Rattle.std.proofs.Common.{◌≡◌, ◌∙◌, ℕ, ◌+◌, ◌^◌, ◌<◌, ◌≤◌, Bool, List, [], ◌∷◌, ◌++◌, length, get_or, sym, ap, subst, arith}
+use Rattle.std.proofs.Common.{◌≡◌, ◌∙◌, ℕ, ◌+◌, ◌^◌, ◌<◌, ◌≤◌, Bool, List, ◌++◌, length, get_or, sym, ap, subst, arith}
 use Rattle.std.specs.Prelude.{Some, replicate, slice_get, slice_set}
 use Rattle.std.specs.List.{sum_by}
 use Rattle.std.proofs.lemmas.List.Sums.{sum_by-append}
@@ -14,7 +14,7 @@ use Rattle.org_agenda.specs.declared.source.Source.{Source}
 use Rattle.org_dated.specs.Index.{AreBelow, AreFresh, AreHomes, AreHoused, HasPut, HasTaken, HaveSame, IsCopy, IsIndexOf, LeavesRest, all_ids, ids_of, is_waiting}
 use Rattle.org_dated.specs.declared.index.StampIndex.{StampIndex}
 use Rattle.org_dated.proofs.SumLemmas.{below_behind, below_same}
-use Rattle.org_dated.proofs.HouseLemmas.{all_below, homes_new, housed_at, housed_long, housed_more, housed_push, housed_set, rest_ids, sum_at, sum_push, sum_set}
+use Rattle.org_dated.proofs.HouseLemmas.{all_below, homes_new, housed_at, housed_long, housed_more, housed_set, rest_ids, sum_at, sum_set}
 
 module _ (settings : FileSettings) where
   -- no id was given that isn't an entry's
@@ -41,14 +41,6 @@ module _ (settings : FileSettings) where
   }
 
   module _ (q : Profile) (wanted : Source → Bool) where
-    pushed_same : (fs : List ℕ) (es : List Entry) (f : ℕ) (e : Entry) (old new : List (ℕ × Extent)) → length fs ≡ length es → HaveSame (all_ids q wanted settings fs es) old → HaveSame (ids_of q wanted f (bare_stamps settings e) ++ old) new →
-        HaveSame (all_ids q wanted settings (fs ++ f ∷ []) (es ++ e ∷ [])) new
-    pushed_same fs es f e old new long had put weight =
-        let whole = sum_push settings q wanted weight fs es f e long in
-        let one : sum_by weight (ids_of q wanted f (bare_stamps settings e)) + sum_by weight old ≡ sum_by weight new = sym (sum_by-append weight (ids_of q wanted f (bare_stamps settings e)) old) ∙ put weight in
-        let two : sum_by weight (all_ids q wanted settings fs es) ≡ sum_by weight old = had weight in
-        omega (arith, whole, one, two)
-
     left_below : (n : ℕ) (fs : List ℕ) (es : List Entry) (place : ℕ) (was : Entry) (old mid : List (ℕ × Extent)) → length fs ≡ length es → slice_get es place ≡ Some was → HaveSame (all_ids q wanted settings fs es) old →
         LeavesRest (ids_of q wanted (get_or fs place 0) (bare_stamps settings was)) old mid → AreBelow n (all_ids q wanted settings fs es) → AreBelow n mid
     left_below n fs es place was old mid long there had taken below =
@@ -78,40 +70,6 @@ module _ (settings : FileSettings) where
       record {
         pressing = subst (λ (hs : List ℕ). AreBelow (length hs) t.pressing) (sym taken.homes) (left_below x.profile is_pressing (length x.homes.items) x.firsts.items es place was x.pressing t.pressing long there is.pressing taken.pressing (all_below settings x.profile is_pressing x.homes.items 0 x.firsts.items es is.housed));
         others = subst (λ (hs : List ℕ). AreBelow (length hs) t.others) (sym taken.homes) (left_below x.profile is_waiting (length x.homes.items) x.firsts.items es place was x.others t.others long there is.others taken.others (all_below settings x.profile is_waiting x.homes.items 0 x.firsts.items es is.housed));
-      }
-
-  -- an index without entries
-  pub none_is : (x : StampIndex) → x.homes.items ≡ [] → x.firsts.items ≡ [] → x.pressing ≡ [] → x.others ≡ [] → IsIndexOf settings [] x
-  none_is x homes firsts pressing others = record {
-    housed = subst (λ fs. AreHoused settings x.homes.items 0 fs []) (sym firsts) tt;
-    few = let none : length x.homes.items ≡ 0 = ap length homes in omega (arith, none);
-    pressing = λ weight. ap (λ fs. sum_by weight (all_ids x.profile is_pressing settings fs [])) firsts ∙ ap (sum_by weight) (sym pressing);
-    others = λ weight. ap (λ fs. sum_by weight (all_ids x.profile is_waiting settings fs [])) firsts ∙ ap (sum_by weight) (sym others);
-  }
-
-  -- one entry more
-  pub pushed : (es : List Entry) (e : Entry) (x y z : StampIndex) → IsIndexOf settings es x → HasPut (length es) (bare_stamps settings e) x y →
-      z.homes.items ≡ y.homes.items → z.firsts.items ≡ y.firsts.items ++ length x.homes.items ∷ [] → z.profile ≡ y.profile → z.pressing ≡ y.pressing → z.others ≡ y.others → IsIndexOf settings (es ++ e ∷ []) z
-  pushed es e x y z is put homes firsts profile pressing others =
-      let long = housed_long settings x.homes.items 0 x.firsts.items es is.housed in
-      let homes_are : z.homes.items ≡ x.homes.items ++ replicate (length (bare_stamps settings e)) (length es) = homes ∙ put.homes in
-      let firsts_are : z.firsts.items ≡ x.firsts.items ++ length x.homes.items ∷ [] = firsts ∙ ap (λ fs. fs ++ length x.homes.items ∷ []) put.firsts in
-      let profile_is : z.profile ≡ x.profile = profile ∙ put.profile in
-      let at : AreHomes (x.homes.items ++ replicate (length (bare_stamps settings e)) (length es)) (length x.homes.items) (length (bare_stamps settings e)) (0 + length es) =
-      subst (AreHomes (x.homes.items ++ replicate (length (bare_stamps settings e)) (length es)) (length x.homes.items) (length (bare_stamps settings e))) (let w : length es ≡ 0 + length es = omega arith in w) (homes_new x.homes.items (length (bare_stamps settings e)) (length es)) in
-      let housed : AreHoused settings (x.homes.items ++ replicate (length (bare_stamps settings e)) (length es)) 0 (x.firsts.items ++ length x.homes.items ∷ []) (es ++ e ∷ []) =
-      housed_push settings (x.homes.items ++ replicate (length (bare_stamps settings e)) (length es)) 0 x.firsts.items es (length x.homes.items) e (housed_more settings x.homes.items (replicate (length (bare_stamps settings e)) (length es)) 0 x.firsts.items es is.housed) at in
-      record {
-        housed = subst (λ fs. AreHoused settings z.homes.items 0 fs (es ++ e ∷ [])) (sym firsts_are) (subst (λ hs. AreHoused settings hs 0 (x.firsts.items ++ length x.homes.items ∷ []) (es ++ e ∷ [])) (sym homes_are) housed);
-        few = subst (λ (hs : List ℕ). length hs ≤ 2 ^ 32) (sym homes) (put.few is.few);
-        pressing = λ weight.
-            (λ i. sum_by weight (all_ids (profile_is i) is_pressing settings (firsts_are i) (es ++ e ∷ [])))
-            ∙ pushed_same x.profile is_pressing x.firsts.items es (length x.homes.items) e x.pressing y.pressing long is.pressing put.pressing weight
-            ∙ ap (sum_by weight) (sym pressing);
-        others = λ weight.
-            (λ i. sum_by weight (all_ids (profile_is i) is_waiting settings (firsts_are i) (es ++ e ∷ [])))
-            ∙ pushed_same x.profile is_waiting x.firsts.items es (length x.homes.items) e x.others y.others long is.others put.others weight
-            ∙ ap (sum_by weight) (sym others);
       }
 
   -- another entry at a place

@@ -1,5 +1,6 @@
 pub mod SumLemmas
 pub mod PutLemmas
+pub mod ReplaceLemmas
 pub mod TakeLemmas
 pub mod HouseLemmas
 pub mod IndexLemmas

@@ -1,6 +1,6 @@
 -- What the indexes of a file's stamps hold (profile).
-use Rattle.std.specs.Prelude.{◌≡◌, ◌<◌, ◌≤◌, ◌^◌, ℕ, ◌+◌, Bool, not, if◌then◌else◌, List, [], ◌∷◌, ◌++◌, Some, length, replicate, slice_get}
-use Rattle.std.specs.List.{sum_by}
+use Rattle.std.specs.Prelude.{◌≡◌, ◌<◌, ◌≤◌, ◌^◌, ℕ, ◌+◌, ◌-◌, Bool, min, nat_lt, not, if◌then◌else◌, List, [], ◌∷◌, ◌++◌, Some, length, replicate, slice_get}
+use Rattle.std.specs.List.{between, splice, sum_by}
 use Rattle.org_base.specs.declared.profile.Profile.{Profile}
 use Rattle.org_entry.specs.declared.entry.Entry.{Entry}
 use Rattle.org_index.specs.Extents.{extent_of}
@@ -34,6 +34,11 @@ HaveSame xs ys = (weight : ℕ × Extent → ℕ) → sum_by weight xs ≡ sum_b
 -- so many ids from a first one on were given, to a place
 abbrev pub AreHomes : List ℕ → ℕ → ℕ → ℕ → Type 0
 AreHomes homes first count place = (first + count ≤ length homes) × ((j : ℕ) → j < count → slice_get homes (first + j) ≡ Some place)
+
+-- ids that were given to places are still theirs
+pub record Stay (old new : List ℕ) : Type 0 where
+  pub long : length old ≤ length new
+  pub same : (id place : ℕ) → slice_get old id ≡ Some place → slice_get new id ≡ Some place
 
 -- the ids of each of some entries, the first of which stands at a place, are its place's
 abbrev pub AreHoused : FileSettings → List ℕ → ℕ → List ℕ → List Entry → Type 0
@@ -83,6 +88,39 @@ pub record HasTaken (first : ℕ) (stamps : List Source) (old new : StampIndex) 
   pub settings : new.settings.value ≡ old.settings.value
   pub pressing : LeavesRest (ids_of old.profile is_pressing first stamps) old.pressing new.pressing
   pub others : LeavesRest (ids_of old.profile is_waiting first stamps) old.others new.others
+
+-- the stamps of entries were put in, the first of which stands at a place; by entry the first of its ids, which were never given
+pub record ArePut (by : FileSettings) (place : ℕ) (es : List Entry) (ids : List ℕ) (old new : StampIndex) : Type 0 where
+  pub kept : Stay old.homes.items new.homes.items
+  pub housed : AreHoused by new.homes.items place ids es
+  pub firsts : new.firsts.items ≡ old.firsts.items
+  pub profile : new.profile ≡ old.profile
+  pub settings : new.settings.value ≡ old.settings.value
+  pub few : length old.homes.items ≤ 2 ^ 32 → length new.homes.items ≤ 2 ^ 32
+  pub fresh : AreFresh new
+  pub pressing : HaveSame (all_ids old.profile is_pressing by ids es ++ old.pressing) new.pressing
+  pub others : HaveSame (all_ids old.profile is_waiting by ids es ++ old.others) new.others
+
+-- the stamps of entries were taken out; by entry the first of its ids
+pub record AreTaken (by : FileSettings) (es : List Entry) (ids : List ℕ) (old new : StampIndex) : Type 0 where
+  pub homes : new.homes.items ≡ old.homes.items
+  pub firsts : new.firsts.items ≡ old.firsts.items
+  pub profile : new.profile ≡ old.profile
+  pub settings : new.settings.value ≡ old.settings.value
+  pub pressing : LeavesRest (all_ids old.profile is_pressing by ids es) old.pressing new.pressing
+  pub others : LeavesRest (all_ids old.profile is_waiting by ids es) old.others new.others
+
+-- the new number of a place, where what stands at an end and behind it begins at another place
+abbrev pub moved : ℕ → ℕ → ℕ → ℕ
+moved end behind home = if nat_lt home end then home else min (home - end + behind) (2 ^ 64 - 1)
+
+-- where in another list what stands behind a place begins
+abbrev pub behind_in : List Entry → ℕ → List Entry → ℕ
+behind_in before end after = length after - (length before - end)
+
+-- entries are others, with some in the place of those in a range
+abbrev pub IsReplaced : List Entry → ℕ → ℕ → List Entry → Type 0
+IsReplaced before start end after = after ≡ splice before start end (between start (behind_in before end after) after)
 
 -- one index is a copy of another one
 pub record IsCopy (x y : StampIndex) : Type 0 where

@@ -1,9 +1,10 @@
 //! An outline with its stamps by days.
 ghost use Rattle.std.specs.Prelude.{◌≡◌, ◌<◌, ◌≤◌, length, slice_set, IfOk, OnErr, OnOk, IsOkUnless};
+ghost use Rattle.std.specs.List.{splice};
 ghost use Rattle.org_base.specs.Codes.{memory_fault};
 ghost use Rattle.org_base.specs.Results.{Gives};
 ghost use Rattle.org_dated.specs.Held.{KeepsIndexOf};
-ghost use Rattle.org_dated.specs.Index.{IsCopy, IsIndexOf};
+ghost use Rattle.org_dated.specs.Index.{IsCopy, IsIndexOf, IsReplaced};
 ghost use Rattle.org_dated.specs.Near.{CountsNear, HoldNear};
 ghost use Rattle.org_index.specs.Ticks.{Examines};
 
@@ -11,11 +12,12 @@ use crate::asked::Asked;
 use crate::index::StampIndex;
 use org_base::{Fault, Meter, Profile};
 use org_entry::Entry;
-use org_outline::Outline;
+use org_outline::{Entries, Outline};
 use org_settings::Settings;
 use std::alloc::Global;
 use std::collections::BTreeSet;
 use std::marker::Model;
+use std::ops::Range;
 use std::rc::Rc;
 
 /// The entries of one text with the tree of their headings, seen as their list. Beside them it may keep their stamps by days,
@@ -99,6 +101,30 @@ impl DatedOutline {
         Ok(())
     }
 
+    /// Puts entries in the place of those in a range. It takes a pass over the entries; of stamps that are kept by days it looks
+    /// at those of the entries that go or come alone, unless others share them: then they are copied first. Want of memory is the
+    /// only refusal, and leaves the entries as before.
+    pub fn replace(
+        &mut self,
+        alloc: Global,
+        range: &Range<usize>,
+        entries: Entries,
+    ) -> Result<(), Fault>
+        requires order { range.now.start ≤ range.now.end }
+        requires within { range.now.end ≤ length self.old }
+        ensures ok { OnOk result (self.new ≡ splice self.old range.now.start range.now.end entries) }
+        ensures err { OnErr result (self.new ≡ self.old) }
+        ensures memory { IsOkUnless result memory_fault }
+    {
+        let before = self.outline.share()?;
+        let index = self.index.take();
+        if let Err(refused) = self.outline.replace(range.start..range.end, entries) {
+            return Err(refused.fault());
+        }
+        self.index = replaced(alloc, index, &before, range, &self.outline);
+        Ok(())
+    }
+
     // The indexes with the stamps of an entry in the place of those of the one at a place; None where they are worn, or where
     // memory is refused.
     fn mended(
@@ -166,6 +192,30 @@ impl DatedOutline {
         let index = StampIndex::of(alloc, &self.outline, settings, profile)?;
         index.near(alloc, meter, asked)
     }
+}
+
+// The indexes with the stamps of an outline in the place of those of an earlier one, whose entries in a range were replaced; None
+// where there are none, where they are worn, or where memory is refused.
+fn replaced(
+    alloc: Global,
+    index: Option<Rc<StampIndex>>,
+    before: &Outline,
+    range: &Range<usize>,
+    after: &Outline,
+) -> Option<Rc<StampIndex>>
+    requires keeps { KeepsIndexOf before.now index }
+    requires order { range.now.start ≤ range.now.end }
+    requires within { range.now.end ≤ length before.now }
+    requires replaced { IsReplaced before.now range.now.start range.now.end after.now }
+    ensures value { KeepsIndexOf after.now result }
+{
+    let index = index?;
+    if index.as_ref().is_worn() {
+        return None;
+    }
+    let mut index = owned(index).ok()?;
+    index.replace(alloc, before, range, after).ok()?;
+    Rc::new(alloc, index).ok()
 }
 
 // The indexes alone: where others share them, a copy.

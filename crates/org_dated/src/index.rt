@@ -1,8 +1,10 @@
 //! The stamps of a file's headings, found by days.
-ghost use Rattle.std.specs.Prelude.{◌≡◌, ◌≤◌, ◌<◌, ◌+◌, ◌^◌, ◌∷◌, [], true, get_or, length, slice_set, IfOk, OnErr, OnOk, IsOkUnless};
+ghost use Rattle.std.specs.Prelude.{◌≡◌, ◌≤◌, ◌<◌, ◌+◌, ◌^◌, ◌∷◌, [], true, get_or, length, map, slice_set, IfOk, OnErr, OnOk, IsOkUnless};
+ghost use Rattle.std.specs.List.{between, splice};
 ghost use Rattle.org_base.specs.Codes.{memory_fault};
+ghost use Rattle.org_base.specs.Results.{GivesItems};
 ghost use Rattle.org_index.specs.Ticks.{Examines};
-ghost use Rattle.org_dated.specs.Index.{AreFresh, HasPut, HasTaken, IsCopy, IsIndexOf};
+ghost use Rattle.org_dated.specs.Index.{ArePut, AreFresh, AreTaken, HasPut, HasTaken, IsCopy, IsIndexOf, IsReplaced, moved};
 ghost use Rattle.org_dated.specs.Near.{AddHomes, AddsHome, CountsNearOf, HoldNearOf, KeepPlaces};
 
 use crate::asked::{Asked, is_pressing};
@@ -14,6 +16,7 @@ use org_outline::Outline;
 use org_settings::Settings;
 use std::alloc::{AllocError, Global};
 use std::collections::BTreeSet;
+use std::ops::Range;
 use std::rc::Rc;
 
 // So many ids may always lead to no stamp.
@@ -59,15 +62,11 @@ impl StampIndex {
             pressing: DayIndex::new(alloc),
             others: DayIndex::new(alloc),
             homes: Vec::new(alloc),
-            firsts: Vec::with_capacity(alloc, outline.count())?,
+            firsts: Vec::new(alloc),
             gone: 0,
         };
-        let mut own = Vec::new(alloc);
-        for place in 0..outline.count() {
-            write_bare(&mut own, settings.as_ref(), outline.entry(place))?;
-            let first = index.put_stamps(place, own.as_slice())?;
-            index.firsts.push(first)?;
-        }
+        let firsts = index.put_entries(alloc, outline, &(0..outline.count()))?;
+        index.firsts = firsts;
         Ok(index)
     }
 
@@ -97,6 +96,32 @@ impl StampIndex {
         Ok(())
     }
 
+    // Puts the stamps of the entries of an outline in the place of those of an earlier one, whose entries in a range were replaced:
+    // only the stamps of entries that went or came are looked at, and the place of each heading once. Want of memory is the only
+    // refusal; then the index is of no use any more.
+    pub(crate) fn replace(
+        &mut self,
+        alloc: Global,
+        before: &Outline,
+        range: &Range<usize>,
+        after: &Outline,
+    ) -> Result<(), Fault>
+        requires is { IsIndexOf self.old.settings.value before.now self.old }
+        requires order { range.now.start ≤ range.now.end }
+        requires within { range.now.end ≤ length before.now }
+        requires replaced { IsReplaced before.now range.now.start range.now.end after.now }
+        ensures ok { OnOk result (IsIndexOf self.old.settings.value after.now self.new) }
+        ensures settings { OnOk result (self.new.settings.value ≡ self.old.settings.value) }
+        ensures memory { IsOkUnless result memory_fault }
+    {
+        let behind = after.count() - (before.count() - range.end);
+        self.take_entries(alloc, before, range)?;
+        move_homes(&mut self.homes, range.end, behind);
+        let firsts = self.put_entries(alloc, after, &(range.start..behind))?;
+        self.firsts = spliced(alloc, self.firsts.as_slice(), range, firsts.as_slice())?;
+        Ok(())
+    }
+
     // Whether it has the stamps as they are read by these settings and looked at in a profile.
     pub(crate) fn is_of(&self, settings: &Settings, profile: Profile) -> bool
         ensures settings { result ≡ true → self.now.settings.value ≡ settings.now }
@@ -116,6 +141,55 @@ impl StampIndex {
         ensures value { result ≡ get_or self.now.firsts.items place 0 }
     {
         self.firsts[place] as usize
+    }
+
+    // Puts the stamps of the entries of an outline in a range in, under ids that were never given; for each entry the first of its
+    // ids. Want of memory is the only refusal; then the index is of no use any more.
+    fn put_entries(
+        &mut self,
+        alloc: Global,
+        outline: &Outline,
+        range: &Range<usize>,
+    ) -> Result<Vec<u32>, Fault>
+        requires fresh { AreFresh self.old }
+        requires order { range.now.start ≤ range.now.end }
+        requires within { range.now.end ≤ length outline.now }
+        ensures ok { IfOk result (λ firsts. ArePut self.old.settings.value range.now.start (between range.now.start range.now.end outline.now) firsts.items self.old self.new) }
+        ensures memory { IsOkUnless result memory_fault }
+    {
+        let settings = self.settings.clone()?;
+        let mut own = Vec::new(alloc);
+        let mut firsts = Vec::with_capacity(alloc, range.end - range.start)?;
+        for place in range.start..range.end {
+            write_bare(&mut own, settings.as_ref(), outline.entry(place))?;
+            let first = self.put_stamps(place, own.as_slice())?;
+            firsts.push(first)?;
+        }
+        Ok(firsts)
+    }
+
+    // Takes the stamps of the entries of an outline in a range out. Want of memory is the only refusal; then the index is of no use
+    // any more.
+    fn take_entries(
+        &mut self,
+        alloc: Global,
+        outline: &Outline,
+        range: &Range<usize>,
+    ) -> Result<(), Fault>
+        requires is { IsIndexOf self.old.settings.value outline.now self.old }
+        requires order { range.now.start ≤ range.now.end }
+        requires within { range.now.end ≤ length outline.now }
+        ensures ok { OnOk result (AreTaken self.old.settings.value (between range.now.start range.now.end outline.now) (between range.now.start range.now.end self.old.firsts.items) self.old self.new) }
+        ensures memory { IsOkUnless result memory_fault }
+    {
+        let settings = self.settings.clone()?;
+        let mut own = Vec::new(alloc);
+        for place in range.start..range.end {
+            write_bare(&mut own, settings.as_ref(), outline.entry(place))?;
+            let first = self.first_id(place);
+            self.take_stamps(first, own.as_slice());
+        }
+        Ok(())
     }
 
     // Puts stamps of the heading at a place in, under ids that were never given; the first of these ids. Want of memory is the
@@ -212,6 +286,44 @@ impl StampIndex {
         add_homes(&mut places, self.homes.as_slice(), others.as_slice())?;
         Ok(places)
     }
+}
+
+// Gives places their new numbers, where what stands at an end and behind it begins at another place.
+fn move_homes(homes: &mut [usize], end: usize, behind: usize)
+    ensures value { homes.new ≡ map (moved end behind) homes.old }
+{
+    for home in homes.iter_mut() {
+        *home = moved_home(*home, end, behind);
+    }
+}
+
+// The new number of one place.
+fn moved_home(home: usize, end: usize, behind: usize) -> usize
+    ensures value { result ≡ moved end behind home }
+{
+    if home < end {
+        home
+    } else {
+        (home - end).saturating_add(behind)
+    }
+}
+
+// Ids with others in the place of those in a range.
+fn spliced(
+    alloc: Global,
+    ids: &[u32],
+    range: &Range<usize>,
+    others: &[u32],
+) -> Result<Vec<u32>, AllocError>
+    requires order { range.now.start ≤ range.now.end }
+    requires within { range.now.end ≤ length ids.now }
+    ensures value { GivesItems result (splice ids.now range.now.start range.now.end others.now) }
+{
+    let mut spliced = Vec::new(alloc);
+    spliced.extend_from_slice(&ids[..range.start])?;
+    spliced.extend_from_slice(others)?;
+    spliced.extend_from_slice(&ids[range.end..])?;
+    Ok(spliced)
 }
 
 // The places of these ids, with those that are there already.

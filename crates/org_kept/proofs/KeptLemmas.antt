@@ -33,20 +33,20 @@ splice_same (y ∷ xs) (suc i) x lt is =
     let next : suc i + 1 ≡ suc (i + 1) = omega arith in
     ap (λ n. take (suc i) (y ∷ xs) ++ (x ∷ drop n (y ∷ xs))) next ∙ ap (λ zs. y ∷ zs) (splice_same xs i x (omega arith) is)
 
-zip_append : {A B : Type 0} (R : A → B → Type 0) (xs us : List A) (ys vs : List B) → AllZip R xs ys → AllZip R us vs → AllZip R (xs ++ us) (ys ++ vs)
+pub zip_append : {A B : Type 0} (R : A → B → Type 0) (xs us : List A) (ys vs : List B) → AllZip R xs ys → AllZip R us vs → AllZip R (xs ++ us) (ys ++ vs)
 zip_append R [] us [] vs h k = k
 zip_append R [] us (y ∷ ys) vs h k = absurd h
 zip_append R (x ∷ xs) us [] vs h k = absurd h
 zip_append R (x ∷ xs) us (y ∷ ys) vs h k = (h.0, zip_append R xs us ys vs h.1 k)
 
-zip_take : {A B : Type 0} (R : A → B → Type 0) (n : ℕ) (xs : List A) (ys : List B) → AllZip R xs ys → AllZip R (take n xs) (take n ys)
+pub zip_take : {A B : Type 0} (R : A → B → Type 0) (n : ℕ) (xs : List A) (ys : List B) → AllZip R xs ys → AllZip R (take n xs) (take n ys)
 zip_take R zero xs ys h = tt
 zip_take R (suc n) [] [] h = tt
 zip_take R (suc n) [] (y ∷ ys) h = absurd h
 zip_take R (suc n) (x ∷ xs) [] h = absurd h
 zip_take R (suc n) (x ∷ xs) (y ∷ ys) h = (h.0, zip_take R n xs ys h.1)
 
-zip_drop : {A B : Type 0} (R : A → B → Type 0) (n : ℕ) (xs : List A) (ys : List B) → AllZip R xs ys → AllZip R (drop n xs) (drop n ys)
+pub zip_drop : {A B : Type 0} (R : A → B → Type 0) (n : ℕ) (xs : List A) (ys : List B) → AllZip R xs ys → AllZip R (drop n xs) (drop n ys)
 zip_drop R zero xs ys h = h
 zip_drop R (suc n) [] [] h = tt
 zip_drop R (suc n) [] (y ∷ ys) h = absurd h

@@ -13,5 +13,6 @@ pub mod ReadLemmas
 pub mod RenewLemmas
 pub mod ShownLemmas
 pub mod SingleLemmas
+pub mod StandingLemmas
 pub mod StartLemmas
 pub mod TouchedLemmas

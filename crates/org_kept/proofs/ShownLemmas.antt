@@ -1,16 +1,16 @@
 -- An outline beside the sections whose entries it has.
-use Rattle.std.proofs.Common.{◌≡◌, ◌∙◌, inl, inr, ℕ, zero, suc, ◌+◌, ◌-◌, ◌<◌, ◌≤◌, false, cond, List, [], ◌∷◌, ◌++◌, map, length, take, drop, get_or, refl, sym, ap, subst, arith, length-append}
+use Rattle.std.proofs.Common.{◌≡◌, ◌∙◌, inl, inr, ℕ, zero, suc, ◌+◌, ◌-◌, ◌<◌, ◌≤◌, false, cond, List, [], ◌∷◌, ◌++◌, map, length, take, drop, refl, sym, ap, subst, arith, length-append}
 use Rattle.std.specs.Prelude.{Option, None, Some, IfSome, is_none, slice_set}
 use Rattle.std.specs.List.{AllZip, count_by, splice}
 use Rattle.std.proofs.lemmas.Bool.{cases_Bool}
-use Rattle.std.proofs.lemmas.List.{drop-drop, get_or-set_same, length-drop, length-map, length-take-le, set_split, take-append-drop}
+use Rattle.std.proofs.lemmas.List.{drop-drop, length-drop, length-map, length-take-le, set_split, take-append-drop}
 use Rattle.std.proofs.lemmas.List.Sums.{sum_by-cons}
 use Rattle.org_entry.specs.declared.entry.Entry.{Entry}
-use Rattle.org_kept.specs.Sections.{Follow, IsLeft, SaysSo, SectionView, Shows, entries_in, fresh_section, is_pending, said, with_said}
+use Rattle.org_kept.specs.Sections.{IsLeft, SaysSo, SectionView, entries_in, fresh_section, is_pending, said, with_said}
 use Rattle.org_kept.proofs.KeptLemmas.{zip_splice}
 
 -- an item put in by a list of one
-splice_one : {X : Type 0} (xs : List X) (i : ℕ) (x : X) → i < length xs → splice xs i (i + 1) (x ∷ []) ≡ slice_set xs i x
+pub splice_one : {X : Type 0} (xs : List X) (i : ℕ) (x : X) → i < length xs → splice xs i (i + 1) (x ∷ []) ≡ slice_set xs i x
 splice_one xs i x lt = let next : i + 1 ≡ suc i = omega arith in ap (λ n. take i xs ++ x ∷ drop n xs) next ∙ sym (set_split xs i x lt)
 
 -- as many sections as entries
@@ -21,7 +21,7 @@ as_many (k ∷ ks) [] h = absurd h
 as_many (k ∷ ks) (e ∷ es) h = ap suc (as_many ks es h.1)
 
 -- a section and what it says, put in the same place
-put_said : (list : List SectionView) (entries : List Entry) (i : ℕ) (k : SectionView) (o : Option Entry) → k.entry ≡ o → AllZip SaysSo list entries → AllZip SaysSo (slice_set list i k) (with_said o i entries)
+pub put_said : (list : List SectionView) (entries : List Entry) (i : ℕ) (k : SectionView) (o : Option Entry) → k.entry ≡ o → AllZip SaysSo list entries → AllZip SaysSo (slice_set list i k) (with_said o i entries)
 put_said [] [] i k None is h = tt
 put_said [] [] i k (Some x) is h = tt
 put_said [] (e ∷ es) i k o is h = absurd h
@@ -30,9 +30,6 @@ put_said (j ∷ ks) (e ∷ es) zero k None is h = (subst (λ (x : Option Entry).
 put_said (j ∷ ks) (e ∷ es) zero k (Some x) is h = (subst (λ (y : Option Entry). IfSome y (λ own. own ≡ x)) (sym is) refl, h.1)
 put_said (j ∷ ks) (e ∷ es) (suc i) k None is h = (h.0, put_said ks es i k None is h.1)
 put_said (j ∷ ks) (e ∷ es) (suc i) k (Some x) is h = (h.0, put_said ks es i k (Some x) is h.1)
-
-pub shown_put : (list : List SectionView) (entries : List Entry) (i : ℕ) (k : SectionView) → i < length list → AllZip SaysSo list entries → AllZip SaysSo (splice list i (i + 1) (k ∷ [])) (with_said k.entry i entries)
-shown_put list entries i k lt h = subst (λ ks. AllZip SaysSo ks (with_said k.entry i entries)) (sym (splice_one list i k lt)) (put_said list entries i k k.entry refl h)
 
 -- sections that are left say no more than before
 left_says : (was now : Option Entry) (e : Entry) → IfSome was (λ own. own ≡ e) → IfSome now (λ entry. was ≡ Some entry) → IfSome now (λ own. own ≡ e)
@@ -79,22 +76,6 @@ all_shown (k ∷ ks) none =
           said_own k k.entry ks (entries_in ks) refl no_is (all_shown ks (omega (arith, count, own)))
     ]
 
--- the same of an outline that may be missing
-pub shown_some : (o : Option (List Entry)) (list : List SectionView) (entries : List Entry) → Shows o list → o ≡ Some entries → AllZip SaysSo list entries
-shown_some o list entries h is = subst (λ (x : Option (List Entry)). Shows x list) is h
-
-pub shown_follow : (o : Option (List Entry)) (was now : List SectionView) → Shows o was → length now ≡ length was → Follow was now → Shows o now
-shown_follow None was now h many left = tt
-shown_follow (Some entries) was now h many left = shown_left was now entries h (left many)
-
-pub shown_mended : (o : Option (List Entry)) (list new : List SectionView) (entries : List Entry) (i : ℕ) (k there : SectionView) → i < length list → AllZip SaysSo list entries → new ≡ splice list i (i + 1) (k ∷ []) → there ≡ get_or new i there →
-    IfSome o (λ es. es ≡ with_said there.entry i entries) → Shows o new
-shown_mended None list new entries i k there lt h is at mended = tt
-shown_mended (Some es) list new entries i k there lt h is at mended =
-    let own : there ≡ k = at ∙ (ap (λ ks. get_or ks i there) (is ∙ splice_one list i k lt) ∙ get_or-set_same list i k there lt) in
-    let put : es ≡ with_said k.entry i entries = mended ∙ ap (λ (x : SectionView). with_said x.entry i entries) own in
-    subst (λ ks. AllZip SaysSo ks es) (sym is) (subst (λ xs. AllZip SaysSo (splice list i (i + 1) (k ∷ [])) xs) (sym put) (shown_put list entries i k lt h))
-
 -- a part of a list in its own place
 whole : {X : Type 0} (xs : List X) (f e : ℕ) → f ≤ e → splice xs f e (take (e - f) (drop f xs)) ≡ xs
 whole xs f e order =
@@ -102,7 +83,7 @@ whole xs f e order =
     ap (λ ys. take f xs ++ (take (e - f) (drop f xs) ++ ys)) (ap (λ n. drop n xs) (sym to) ∙ sym (drop-drop (e - f) f xs))
     ∙ (ap (λ ys. take f xs ++ ys) (take-append-drop (e - f) (drop f xs)) ∙ take-append-drop f xs)
 
-splice_length : {X : Type 0} (xs us : List X) (f e : ℕ) → f ≤ length xs → length (splice xs f e us) ≡ f + length us + (length xs - e)
+pub splice_length : {X : Type 0} (xs us : List X) (f e : ℕ) → f ≤ length xs → length (splice xs f e us) ≡ f + length us + (length xs - e)
 splice_length xs us f e within =
     omega (arith, length-append (take f xs) (us ++ drop e xs), length-append us (drop e xs), length-take-le f xs within, length-drop e xs)
 
@@ -120,9 +101,9 @@ left_fresh [] (s ∷ ss) many = absurd (omega arith)
 left_fresh (k ∷ ks) [] many = absurd (omega arith)
 left_fresh (k ∷ ks) (s ∷ ss) many = (tt, left_fresh ks ss (omega (arith, many)))
 
--- new sections in the place of others
-pub follow_fresh : (list : List SectionView) (f e : ℕ) (ss : List (List ℕ)) → f ≤ e → e ≤ length list → Follow list (splice list f e (map fresh_section ss))
-follow_fresh list f e ss order within many =
+-- as many new sections in the place of others
+pub left_spliced : (list : List SectionView) (f e : ℕ) (ss : List (List ℕ)) → f ≤ e → e ≤ length list → length (splice list f e (map fresh_section ss)) ≡ length list → AllZip IsLeft list (splice list f e (map fresh_section ss))
+left_spliced list f e ss order within many =
     let own = take (e - f) (drop f list) in
     let fresh = map fresh_section ss in
     let lengths = length-drop f list in

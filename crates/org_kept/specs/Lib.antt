@@ -7,3 +7,4 @@ pub mod Laws
 pub mod Outline
 pub mod Renewed
 pub mod Sections
+pub mod Standing

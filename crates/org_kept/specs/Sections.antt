@@ -1,6 +1,6 @@
 -- What is kept of a section (profile).
 use Rattle.std.specs.Prelude.{◌≡◌, ◌<◌, ◌≤◌, ℕ, Bool, List, [], ◌∷◌, ◌++◌, length, map, drop, Option, None, Some, IfSome, is_none, is_some, slice_set, ◌+◌, ◌-◌}
-use Rattle.std.specs.List.{AllZip, list_any, position_or_len}
+use Rattle.std.specs.List.{list_any, position_or_len}
 use Rattle.org_class.specs.Classes.{section_classes, is_setting_class}
 use Rattle.org_class.specs.Sections.{sections}
 use Rattle.org_class.specs.declared.class.Class.{Class}
@@ -71,14 +71,6 @@ with_said (Some entry) place entries = slice_set entries place entry
 abbrev pub SaysSo : SectionView → Entry → Type 0
 SaysSo kept entry = IfSome kept.entry (λ own. own ≡ entry)
 
--- an outline, where there is one, has an entry for each section, which is what it says where it was read
-abbrev pub Shows : Option (List Entry) → List SectionView → Type 0
-Shows outline list = IfSome outline (λ entries. AllZip SaysSo list entries)
-
 -- a section is still to be read, or says what another one says
 abbrev pub IsLeft : SectionView → SectionView → Type 0
 IsLeft was now = IfSome now.entry (λ entry. was.entry ≡ Some entry)
-
--- where they are as many as others, those that were read say what the others say
-abbrev pub Follow : List SectionView → List SectionView → Type 0
-Follow was now = length now ≡ length was → AllZip IsLeft was now

@@ -224,10 +224,10 @@ impl<T: Text> File<T> {
     }
 
     /// What the file says, shared with it. All sections that are still to be read are read first: the meter counts each
-    /// once. The outline is kept as long as the settings and the number of sections stay, and what is read anew is put into
-    /// it: where few sections are still to be read no other one is looked at. Where a level changes, or a clone shares the
-    /// outline, it is forgotten, and made anew by the next call. Want of memory is the only refusal, and leaves the file as
-    /// before; then some of the sections may have been counted.
+    /// once. The outline is kept as long as the settings stay, and what is read anew is put into it: where few sections are
+    /// still to be read no other one is looked at. Where the number of sections or a level changed, or a clone shares the
+    /// outline, it takes a pass over its entries too. Want of memory is the only refusal, and leaves the file as before; then
+    /// some of the sections may have been counted.
     pub fn outlined(&mut self, alloc: Global, meter: &mut Meter) -> Result<FileOutline, Fault>
         ensures value { Gives result (outline_of self.old.text) }
         ensures ok { OnOk result (self.new ≡ record self.old { marks = all_marked self.old.marks }) }

@@ -1,5 +1,6 @@
 //! The outline of sections.
-ghost use Rattle.std.specs.Prelude.{◌≡◌, IsOkUnless};
+ghost use Rattle.std.specs.Prelude.{◌≡◌, ◌≤◌, length, IsOkUnless};
+ghost use Rattle.std.specs.List.{between};
 ghost use Rattle.org_base.specs.Codes.{memory_fault};
 ghost use Rattle.org_base.specs.Results.{Gives};
 ghost use Rattle.org_kept.specs.Sections.{entries_in};
@@ -9,7 +10,7 @@ use org_base::Fault;
 use org_dated::DatedOutline;
 use org_outline::{Entries, Outline};
 use org_sequence::Sequence;
-use std::alloc::{AllocError, Global};
+use std::alloc::Global;
 
 // The outline of those sections that were read, which shares their entries. Want of memory is the only refusal.
 pub(crate) fn outline_in(alloc: Global, list: &Sequence<Section>) -> Result<DatedOutline, Fault>
@@ -33,15 +34,23 @@ fn shared_entries(alloc: Global, list: &Sequence<Section>) -> Result<Entries, Fa
     Ok(entries)
 }
 
-// A share of an outline, where there is one.
-pub(crate) fn shared(outline: &Option<DatedOutline>) -> Result<Option<DatedOutline>, AllocError>
-    ensures value { Gives result outline.now }
+// The entries of those sections from one place up to another that were read, shared.
+pub(crate) fn entries_between(
+    alloc: Global,
+    list: &Sequence<Section>,
+    start: usize,
+    end: usize,
+) -> Result<Entries, Fault>
+    requires order { start ≤ end }
+    requires within { end ≤ length list.now }
+    ensures value { Gives result (entries_in (between start end list.now)) }
+    ensures memory { IsOkUnless result memory_fault }
 {
-    match outline {
-        None => Ok(None),
-        Some(outline) => match outline.share() {
-            Ok(outline) => Ok(Some(outline)),
-            Err(_) => Err(AllocError),
-        },
+    // For the proof alone: places are numbers of 32 bits.
+    let _count = list.len();
+    let mut entries = Entries::with_room(alloc, end - start)?;
+    for place in start..end {
+        list.get(place as u32).push_entry(&mut entries)?;
     }
+    Ok(entries)
 }

@@ -48,15 +48,15 @@ impl<T: Text> File<T> {
             text: &self.text,
             list: self.sections.list(),
         };
-        let list = changed_list(alloc, meter, &old, &text, change)?;
-        let renewed = self.renewed(alloc, &text, &list, change)?;
+        let changed = changed_list(alloc, meter, &old, &text, change)?;
+        let renewed = self.renewed(alloc, &text, &changed.list, change)?;
         let Some(settings) = renewed else {
             self.text = text;
             self.serial = serial;
-            self.sections.follow(list);
+            self.sections.follow(changed);
             return Ok(());
         };
-        let pending = all_pending(alloc, &list)?;
+        let pending = all_pending(alloc, &changed.list)?;
         self.text = text;
         self.serial = serial;
         self.sections = Sections::new(pending);

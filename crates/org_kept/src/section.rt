@@ -162,6 +162,16 @@ impl Section {
         }
     }
 
+    // Whether [`Section::put_entry`] would make no pass over the entries.
+    pub(crate) fn is_put_at_once(&self, outline: &DatedOutline, place: usize) -> bool
+        requires within { place < length outline.now }
+    {
+        match &self.entry {
+            None => true,
+            Some(entry) => outline.is_set_at_once(place, entry.as_ref()),
+        }
+    }
+
     // Puts what it says into an outline, which shares it, in the place of the entry at a place, where it was read. Want of
     // memory is the only refusal, and leaves the outline as before.
     pub(crate) fn put_entry(

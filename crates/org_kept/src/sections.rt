@@ -1,12 +1,14 @@
 //! The sections of a file with their outline.
-ghost use Rattle.std.specs.Prelude.{◌≡◌, ◌+◌, ◌^◌, ◌<◌, ◌∷◌, [], length, IfSome, OnOk, OnErr, IsOkUnless};
+ghost use Rattle.std.specs.Prelude.{◌≡◌, ◌+◌, ◌^◌, ◌<◌, ◌∷◌, [], length, OnOk, OnErr, IsOkUnless};
 ghost use Rattle.std.specs.List.{count_by, splice, sum_by};
 ghost use Rattle.org_base.specs.Codes.{memory_fault};
 ghost use Rattle.org_base.specs.Results.{Gives};
-ghost use Rattle.org_kept.specs.Sections.{Follow, entries_in, is_pending, section_len, with_said};
+ghost use Rattle.org_kept.specs.Sections.{entries_in, is_pending, section_len};
+ghost use Rattle.org_kept.specs.Standing.{Follows};
 
-use crate::outline::{outline_in, shared};
 use crate::section::Section;
+use crate::standing::{Standing, opened, shared, whole};
+use crate::touched::Changed;
 use org_base::{Fault, Profile};
 use org_class::Settings;
 use org_dated::DatedOutline;
@@ -15,23 +17,24 @@ use std::alloc::{AllocError, Global};
 use std::marker::Model;
 use std::rc::Rc;
 
-// What is kept of the sections of a file, seen as their list. Where there is an outline, it has an entry for each of them:
-// of those that were read what they say, of the others what stood there before.
+// What is kept of the sections of a file, seen as their list. Where an outline stands beside them, it has an entry for each of
+// them, but for a gap where there is one: of those that were read what they say, of the others what stood there before.
 #[derive(Debug, Drop)]
 pub(crate) struct Sections {
     list: Sequence<Section>,
-    outline: Option<DatedOutline>,
+    standing: Option<Standing>,
 }
 
 impl Model for Sections {
     ghost use Rattle.std.specs.Prelude.{List};
-    ghost use Rattle.org_kept.specs.Sections.{Shows, SectionView};
+    ghost use Rattle.org_kept.specs.Sections.{SectionView};
+    ghost use Rattle.org_kept.specs.Standing.{Shows};
 
     ghost Value = { List SectionView };
 
     ghost view = { λ s. s.list };
 
-    ghost invariant = { λ s. Shows s.outline s.list };
+    ghost invariant = { λ s. Shows s.standing s.list };
 }
 
 impl Sections {
@@ -41,7 +44,7 @@ impl Sections {
     {
         Sections {
             list,
-            outline: None,
+            standing: None,
         }
     }
 
@@ -57,8 +60,8 @@ impl Sections {
         ensures value { Gives result self.now }
     {
         let list = self.list.share()?;
-        let outline = shared(&self.outline)?;
-        Ok(Sections { list, outline })
+        let standing = shared(&self.standing)?;
+        Ok(Sections { list, standing })
     }
 
     // The same sections, to which the outline goes over.
@@ -69,20 +72,23 @@ impl Sections {
         let list = self.list.share()?;
         Ok(Sections {
             list,
-            outline: self.outline.take(),
+            standing: self.standing.take(),
         })
     }
 
-    // Takes these sections over. The outline stays where their number does.
-    pub(crate) fn follow(&mut self, list: Sequence<Section>)
-        requires left { Follow self.old list }
-        ensures value { self.new ≡ list }
+    // Takes the sections of a changed text over. Where their number stays the outline does too; else it has a gap there, which
+    // the next question closes.
+    pub(crate) fn follow(&mut self, changed: Changed)
+        requires follows { Follows self.old changed.first changed.end changed.list }
+        ensures value { self.new ≡ changed.list }
     {
-        if list.len() == self.list.len() {
-            self.list = list;
-            return;
+        let Changed { list, first, end } = changed;
+        let stays = list.len() == self.list.len();
+        let tail = self.list.len() - end;
+        self.list = list;
+        if !stays {
+            self.standing = opened(self.standing.take(), first as usize, tail as usize);
         }
-        *self = Sections::new(list);
     }
 
     // Puts a section in the place of another, and what it says into the outline; where memory is refused for that alone,
@@ -99,26 +105,25 @@ impl Sections {
         ensures err { OnErr result (self.new ≡ self.old) }
     {
         self.list.set(place, section)?;
-        let Some(outline) = self.outline.take() else {
+        let Some(standing) = self.standing.take() else {
             return Ok(());
         };
-        self.outline = mended(alloc, outline, self.list.get(place), place as usize);
+        let count = self.list.len() as usize;
+        self.standing = standing.put(alloc, self.list.get(place), place as usize, count);
         Ok(())
     }
 
-    // What they say, shared: the outline, which is made first where there is none. Want of memory is the only refusal.
+    // What they say, shared: the outline, which is made first where there is none, and whose gap is closed first where there is
+    // one. Want of memory is the only refusal.
     pub(crate) fn outline(&mut self, alloc: Global) -> Result<DatedOutline, Fault>
         requires read { count_by is_pending self.old ≡ 0 }
         ensures value { Gives result (entries_in self.old) }
         ensures same { self.new ≡ self.old }
         ensures memory { IsOkUnless result memory_fault }
     {
-        if let Some(outline) = &self.outline {
-            return outline.share();
-        }
-        let outline = outline_in(alloc, &self.list)?;
+        let outline = whole(alloc, self.standing.take(), &self.list)?;
         let share = outline.share()?;
-        self.outline = Some(outline);
+        self.standing = Some(Standing::of(outline));
         Ok(share)
     }
 
@@ -136,29 +141,7 @@ impl Sections {
     {
         let mut outline = self.outline(alloc)?;
         outline.keep_index(alloc, settings, profile)?;
-        self.outline = Some(outline);
+        self.standing = Some(Standing::of(outline));
         Ok(())
-    }
-}
-
-// An outline with what a section says in its place, where it was read; None where memory is refused, or where that would take a
-// pass over all entries: who asks next makes it anew then, and who only edits pays for none.
-fn mended(
-    alloc: Global,
-    mut outline: DatedOutline,
-    section: &Section,
-    place: usize,
-) -> Option<DatedOutline>
-    requires within { place < length outline }
-    ensures value { IfSome result (λ es. es ≡ with_said section.now.entry place outline) }
-{
-    if let Some(entry) = section.entry()
-        && !outline.is_set_at_once(place, entry)
-    {
-        return None;
-    }
-    match section.put_entry(alloc, &mut outline, place) {
-        Ok(()) => Some(outline),
-        Err(_) => None,
     }
 }

@@ -7,7 +7,8 @@ ghost use Rattle.org_class.specs.Changes.{ended_before, begun_by, first_touched_
 ghost use Rattle.org_kept.specs.Change.{AreEdited, LiesIn, edited, edited_end, edited_list, first_edited};
 ghost use Rattle.org_kept.specs.Counts.{NewClassified, FewNewClassified};
 ghost use Rattle.org_kept.specs.File.{AreOf};
-ghost use Rattle.org_kept.specs.Sections.{Follow, section_len};
+ghost use Rattle.org_kept.specs.Sections.{section_len};
+ghost use Rattle.org_kept.specs.Standing.{Follows};
 
 use crate::change::Change;
 use crate::fresh::classified;
@@ -100,6 +101,15 @@ pub(crate) fn touched<T: Text>(old: &Listed<'_, T>, new: &T, change: Change<'_>)
     }
 }
 
+// The sections of a text that is another one with a change. Before the change, others stood from `first` to before `end` in the
+// place of the new ones.
+#[derive(Debug, Drop)]
+pub(crate) struct Changed {
+    pub(crate) list: Sequence<Section>,
+    pub(crate) first: u32,
+    pub(crate) end: u32,
+}
+
 // The sections of a text that is another one with a change: those that the change touches are classified anew, each once as
 // the meter counts, and the others are as before. Want of memory is the only refusal; then some of them may have been
 // counted.
@@ -109,12 +119,12 @@ pub(crate) fn changed_list<T: Text>(
     old: &Listed<'_, T>,
     new: &T,
     change: Change<'_>,
-) -> Result<Sequence<Section>, Fault>
+) -> Result<Changed, Fault>
     requires kept { AreOf (T.content old.now.text.now) old.now.list.now }
     requires within { LiesIn (T.content old.now.text.now) change }
     requires changed { T.content new.now ≡ edited (T.content old.now.text.now) change }
-    ensures value { Gives result (edited_list old.now.list.now (T.content old.now.text.now) change.entry) }
-    ensures left { IfOk result (Follow old.now.list.now) }
+    ensures value { IfOk result (λ c. c.list ≡ edited_list old.now.list.now (T.content old.now.text.now) change.entry) }
+    ensures follows { IfOk result (λ c. Follows old.now.list.now c.first c.end c.list) }
     ensures counts { OnOk result (NewClassified (T.content old.now.text.now) change.entry meter.old meter.new) }
     ensures few { OnErr result (FewNewClassified (T.content old.now.text.now) change.entry meter.old meter.new) }
     ensures memory { IsOkUnless result memory_fault }
@@ -126,5 +136,9 @@ pub(crate) fn changed_list<T: Text>(
     let fresh = classified(alloc, meter, new, touched.part)?;
     let mut list = old.list.share()?;
     list.replace(touched.first, touched.end, fresh.as_slice())?;
-    Ok(list)
+    Ok(Changed {
+        list,
+        first: touched.first,
+        end: touched.end,
+    })
 }

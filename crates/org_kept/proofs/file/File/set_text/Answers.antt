@@ -21,8 +21,8 @@ renewed-requires-clause-kept g c =
     let now : file_settings t ≡ file_settings c.args.self.now.text = ap (λ (f : FileView). file_settings f.text) c.self.view_is in
     let changed : new ≡ replace t at del ins = c.requires.changed ∙ ap (λ (f : FileView). replace f.text at del ins) (sym c.self.view_is) in
     let within : at + del ≤ length t = omega (arith, c.requires.within, ap (λ (f : FileView). length f.text) c.self.view_is) in
-    let made : c.in_ok-list.list ≡ list_after list t at del ins = c.in_ok-list.ensures.value ∙ ap (λ ks. list_after ks t at del ins) c.list.ensures.value in
-    subst (λ xs. AreOf xs c.in_ok-list.list) (sym changed) (subst (AreOf (replace t at del ins)) (sym made) (list_changed t ins list at del within kept.list_is))
+    let made : c.in_ok-changed.changed.list ≡ list_after list t at del ins = c.in_ok-changed.ensures.value ∙ ap (λ ks. list_after ks t at del ins) c.list.ensures.value in
+    subst (λ xs. AreOf xs c.in_ok-changed.changed.list) (sym changed) (subst (AreOf (replace t at del ins)) (sym made) (list_changed t ins list at del within kept.list_is))
 
 pub invariant_of-self : goal.invariant_of-self
 invariant_of-self g c =
@@ -36,7 +36,7 @@ invariant_of-self g c =
     let now : file_settings t ≡ file_settings c.args.self.now.text = ap (λ (f : FileView). file_settings f.text) c.self.view_is in
     let changed : new ≡ replace t at del ins = c.requires.changed ∙ ap (λ (f : FileView). replace f.text at del ins) (sym c.self.view_is) in
     let within : at + del ≤ length t = omega (arith, c.requires.within, ap (λ (f : FileView). length f.text) c.self.view_is) in
-    let made : c.in_ok-list.list ≡ list_after list t at del ins = c.in_ok-list.ensures.value ∙ ap (λ ks. list_after ks t at del ins) c.list.ensures.value in
+    let made : c.in_ok-changed.changed.list ≡ list_after list t at del ins = c.in_ok-changed.ensures.value ∙ ap (λ ks. list_after ks t at del ins) c.list.ensures.value in
     let same : file_settings (replace t at del ins) ≡ file_settings t = ap file_settings (sym changed) ∙ (renewed_none c.args.self.now.text new c.in_ok-renewed.renewed c.in_ok-renewed.ensures.value c.in_default.not-Some ∙ sym now) in
     subst (λ xs. IsKept xs c.follow.new.self c.self.inside.settings.value) (sym changed) (subst (λ ks. IsKept (replace t at del ins) ks c.self.inside.settings.value) (sym (c.follow.ensures.value ∙ made)) (kept_changed t ins list at del c.self.inside.settings.value within kept same))
 
@@ -52,7 +52,7 @@ returns-in_default-clause-ok g c =
     let now : file_settings t ≡ file_settings c.args.self.now.text = ap (λ (f : FileView). file_settings f.text) c.self.view_is in
     let changed : new ≡ replace t at del ins = c.requires.changed ∙ ap (λ (f : FileView). replace f.text at del ins) (sym c.self.view_is) in
     let within : at + del ≤ length t = omega (arith, c.requires.within, ap (λ (f : FileView). length f.text) c.self.view_is) in
-    let made : c.in_ok-list.list ≡ list_after list t at del ins = c.in_ok-list.ensures.value ∙ ap (λ ks. list_after ks t at del ins) c.list.ensures.value in
+    let made : c.in_ok-changed.changed.list ≡ list_after list t at del ins = c.in_ok-changed.ensures.value ∙ ap (λ ks. list_after ks t at del ins) c.list.ensures.value in
     let same : file_settings (replace t at del ins) ≡ file_settings t = ap file_settings (sym changed) ∙ (renewed_none c.args.self.now.text new c.in_ok-renewed.renewed c.in_ok-renewed.ensures.value c.in_default.not-Some ∙ sym now) in
     let marks = ap (map is_read) (c.follow.ensures.value ∙ made) ∙ marks_changed t ins list at del within kept.list_is in
     rw (← c.self.view_is) (record {
@@ -73,10 +73,10 @@ invariant_of-self-2 g c =
     let now : file_settings t ≡ file_settings c.args.self.now.text = ap (λ (f : FileView). file_settings f.text) c.self.view_is in
     let changed : new ≡ replace t at del ins = c.requires.changed ∙ ap (λ (f : FileView). replace f.text at del ins) (sym c.self.view_is) in
     let within : at + del ≤ length t = omega (arith, c.requires.within, ap (λ (f : FileView). length f.text) c.self.view_is) in
-    let made : c.in_ok-list.list ≡ list_after list t at del ins = c.in_ok-list.ensures.value ∙ ap (λ ks. list_after ks t at del ins) c.list.ensures.value in
-    let are : AreOf new c.in_ok-list.list = subst (λ xs. AreOf xs c.in_ok-list.list) (sym changed) (subst (AreOf (replace t at del ins)) (sym made) (list_changed t ins list at del within kept.list_is)) in
+    let made : c.in_ok-changed.changed.list ≡ list_after list t at del ins = c.in_ok-changed.ensures.value ∙ ap (λ ks. list_after ks t at del ins) c.list.ensures.value in
+    let are : AreOf new c.in_ok-changed.changed.list = subst (λ xs. AreOf xs c.in_ok-changed.changed.list) (sym changed) (subst (AreOf (replace t at del ins)) (sym made) (list_changed t ins list at del within kept.list_is)) in
     let both = renewed_some c.args.self.now.text new c.in_ok-renewed.renewed c.in-Some.settings c.in_ok-renewed.ensures.value c.in-Some.is in
-    subst (λ ks. IsKept new ks c.in-Some.settings.value) (sym (c.new.ensures.value ∙ c.in_ok-pending.ensures.value)) (kept_bare new c.in_ok-list.list c.in-Some.settings.value are both.0)
+    subst (λ ks. IsKept new ks c.in-Some.settings.value) (sym (c.new.ensures.value ∙ c.in_ok-pending.ensures.value)) (kept_bare new c.in_ok-changed.changed.list c.in-Some.settings.value are both.0)
 
 pub returns-clause-ok : goal.returns-clause-ok
 returns-clause-ok g c =
@@ -90,10 +90,10 @@ returns-clause-ok g c =
     let now : file_settings t ≡ file_settings c.args.self.now.text = ap (λ (f : FileView). file_settings f.text) c.self.view_is in
     let changed : new ≡ replace t at del ins = c.requires.changed ∙ ap (λ (f : FileView). replace f.text at del ins) (sym c.self.view_is) in
     let within : at + del ≤ length t = omega (arith, c.requires.within, ap (λ (f : FileView). length f.text) c.self.view_is) in
-    let made : c.in_ok-list.list ≡ list_after list t at del ins = c.in_ok-list.ensures.value ∙ ap (λ ks. list_after ks t at del ins) c.list.ensures.value in
-    let are : AreOf new c.in_ok-list.list = subst (λ xs. AreOf xs c.in_ok-list.list) (sym changed) (subst (AreOf (replace t at del ins)) (sym made) (list_changed t ins list at del within kept.list_is)) in
+    let made : c.in_ok-changed.changed.list ≡ list_after list t at del ins = c.in_ok-changed.ensures.value ∙ ap (λ ks. list_after ks t at del ins) c.list.ensures.value in
+    let are : AreOf new c.in_ok-changed.changed.list = subst (λ xs. AreOf xs c.in_ok-changed.changed.list) (sym changed) (subst (AreOf (replace t at del ins)) (sym made) (list_changed t ins list at del within kept.list_is)) in
     let both = renewed_some c.args.self.now.text new c.in_ok-renewed.renewed c.in-Some.settings c.in_ok-renewed.ensures.value c.in-Some.is in
-    let marks = ap (map is_read) (c.new.ensures.value ∙ c.in_ok-pending.ensures.value) ∙ (marks_bare new c.in_ok-list.list are ∙ ap (λ xs. replicate (length (sections xs)) false) changed) in
+    let marks = ap (map is_read) (c.new.ensures.value ∙ c.in_ok-pending.ensures.value) ∙ (marks_bare new c.in_ok-changed.changed.list are ∙ ap (λ xs. replicate (length (sections xs)) false) changed) in
     rw (← c.self.view_is) (record {
       stays = false;
       settings = (λ e. absurd cc, λ e. absurd (both.1 (ap file_settings changed ∙ (e ∙ now))));

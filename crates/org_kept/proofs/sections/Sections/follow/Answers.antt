@@ -1,10 +1,20 @@
-use Rattle.std.proofs.Common.{◌≡◌, length, sym, subst, arith}
-use Rattle.org_kept.specs.Sections.{Follow}
-use Rattle.org_kept.proofs.ShownLemmas.{shown_follow}
+use Rattle.std.proofs.Common.{◌≡◌, ◌-◌, length, ap, sym, subst, arith}
+use Rattle.org_kept.specs.Standing.{Follows, IsOpened}
+use Rattle.org_kept.proofs.StandingLemmas.{shows_followed, shows_opened}
 use Rattle.org_kept.proofs.sections.Sections.follow.Goals as goal
 
-pub invariant_of-self : goal.invariant_of-self
-invariant_of-self c =
+pub invariant_of-self-then-not-stays-3 : goal.invariant_of-self-then-not-stays-3
+invariant_of-self-then-not-stays-3 c =
     let was = c.self.inside.list in
-    let many : length c.args.list ≡ length was = omega (arith, c.len.ensures.value, c.len-2.ensures.value, c.if-len.true) in
-    shown_follow c.self.inside.outline was c.args.list c.self.invariant many (subst (λ ks. Follow ks c.args.list) (sym c.self.view_is) c.requires.left)
+    let now' = c.args.changed.list in
+    let follows = subst (λ ks. Follows ks c.args.changed.first c.args.changed.end now') (sym c.self.view_is) c.requires.follows in
+    let tail : c.len-3.result - c.args.changed.end ≡ length was - c.args.changed.end = ap (λ n. n - c.args.changed.end) c.len-3.ensures.value in
+    let opened = subst (λ s. IsOpened c.args.changed.first (c.len-3.result - c.args.changed.end) s c.opened.result) c.take.ensures.value c.opened.ensures.value in
+    shows_opened c.self.inside.standing c.opened.result was now' c.args.changed.first c.args.changed.end (c.len-3.result - c.args.changed.end) tail opened c.self.invariant follows
+
+pub invariant_of-self-else-not-stays : goal.invariant_of-self-else-not-stays
+invariant_of-self-else-not-stays c =
+    let was = c.self.inside.list in
+    let follows = subst (λ ks. Follows ks c.args.changed.first c.args.changed.end c.args.changed.list) (sym c.self.view_is) c.requires.follows in
+    let many : length c.args.changed.list ≡ length was = omega (arith, c.len.ensures.value, c.len-2.ensures.value, c.if-not-stays.false) in
+    shows_followed c.self.inside.standing was c.args.changed.list c.args.changed.first c.args.changed.end c.self.invariant follows many
