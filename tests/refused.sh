@@ -12,7 +12,7 @@
 # And with a `read_one` of org_kept that keeps what an empty section says where `read_entry` finds no memory, so that a
 # background step takes the mark away and loses what the section says: then the call `Work` lists no heading, and is named.
 here=$(cd "$(dirname "$0")" && pwd)
-streams="every-command lists-of-one-file-in-every-form edits-of-one-section-among-many"
+streams="every-command lists-of-one-file-in-every-form edits-of-one-section-among-many headings-that-come-and-go-among-many"
 work=$(mktemp -d) || exit 2
 trap 'rm -rf "$work"' EXIT
 passed=0
