@@ -128,9 +128,7 @@ stands_followed gap was now entries f e tail is h follows =
 
 pub shows_opened : (old new : Option Standing) (was now : List SectionView) (f e tail : ℕ) → tail ≡ length was - e → IsOpened f tail old new → Shows old was → Follows was f e now → Shows new now
 shows_opened None new was now f e tail is opened h follows = subst (λ s. Shows s now) (sym opened) tt
-shows_opened (Some s) None was now f e tail is opened h follows = tt
-shows_opened (Some s) (Some t) was now f e tail is opened h follows =
-    subst (λ es. Stands t.gap now es) (sym opened.0) (subst (λ g. Stands g now s.outline) (sym opened.1) (stands_followed s.gap was now s.outline f e tail is h follows))
+shows_opened (Some s) new was now f e tail is opened h follows = subst (λ t. Shows t now) (sym opened) (stands_followed s.gap was now s.outline f e tail is h follows)
 
 -- a gap fits where the outline stands beside sections
 pub stands_fit : (gap : Option Gap) (list : List SectionView) (entries : List Entry) → Stands gap list entries → Fits gap (length list) (length entries)

@@ -32,10 +32,10 @@ abbrev pub widened : ℕ → ℕ → Option Gap → Gap
 widened lead tail None = record { lead = lead; tail = tail }
 widened lead tail (Some gap) = record { lead = min gap.lead lead; tail = min gap.tail tail }
 
--- the same of what is kept of an outline, if anything is
+-- an outline whose gap leaves at most so many of the first and of the last, where there is an outline
 abbrev pub IsOpened : ℕ → ℕ → Option Standing → Option Standing → Type 0
 IsOpened lead tail None new = new ≡ None
-IsOpened lead tail (Some s) new = IfSome new (λ t. (t.outline ≡ s.outline) × (t.gap ≡ Some (widened lead tail s.gap)))
+IsOpened lead tail (Some s) new = new ≡ Some (record { outline = s.outline; gap = Some (widened lead tail s.gap) })
 
 -- beside whatever so many sections the one stands, the other stands beside them with this section at a place
 abbrev pub StandsWith : Standing → SectionView → ℕ → ℕ → Standing → Type 0

@@ -21,8 +21,8 @@ pub(crate) struct Standing {
     gap: Option<Gap>,
 }
 
-// A stretch where entries and sections differ. Before it so many of the first of both belong together, and behind it so many of
-// the last.
+// A stretch where entries and sections differ. Before it the first sections, so many, have as many of the first entries, and behind
+// it the last ones as many of the last.
 #[derive(Clone, Copy, Debug)]
 pub(crate) struct Gap {
     lead: usize,
@@ -119,11 +119,7 @@ impl Standing {
 
     // The outline of all sections. Where there is a gap, it takes a pass over the entries; where that is wider than all else, the
     // outline is made anew. Want of memory is the only refusal.
-    pub(crate) fn whole(
-        self,
-        alloc: Global,
-        list: &Sequence<Section>,
-    ) -> Result<DatedOutline, Fault>
+    fn whole(self, alloc: Global, list: &Sequence<Section>) -> Result<DatedOutline, Fault>
         requires stands { Stands self.gap list.now self.outline }
         requires read { count_by is_pending list.now ≡ 0 }
         ensures value { Gives result (entries_in list.now) }
