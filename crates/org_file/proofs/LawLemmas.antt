@@ -10,8 +10,8 @@ use Rattle.org_class.specs.Sections.{sections}
 use Rattle.org_drawer.specs.declared.planning.Planning.{Planning}
 use Rattle.org_entry.specs.Entry.{heading_line}
 use Rattle.org_entry.specs.Planning.{entry_planning}
-use Rattle.org_file.specs.Completion.{by_place, entry_parts, keyword_plan, keyword_span, lacks, plain_plan, plan_for, plan_parts, planned_parts, put_at, repeat_plan, shift_at, shift_plan, shifts}
-use Rattle.org_file.specs.Laws.{AreShifts, CompletionsAreApart, IsRepeated, IsShiftOf, IsShifted, KeywordsAreWritten, Repeats}
+use Rattle.org_file.specs.Completion.{by_place, entry_parts, lacks, plain_plan, plan_for, plan_parts, planned_parts, put_at, repeat_plan, shift_at, shift_plan, shifts}
+use Rattle.org_file.specs.Laws.{AreShifts, CompletionsAreApart, IsRepeated, IsShiftOf, KeywordsAreWritten}
 use Rattle.org_file.specs.Parts.{AreApart, Part}
 use Rattle.org_file.specs.declared.plan.Plan.{Plan}
 use Rattle.org_file.specs.declared.plan.Shift.{Shift}
@@ -21,7 +21,6 @@ use Rattle.org_kept.specs.Begun.{entry_there, section_start}
 use Rattle.org_kept.specs.Outline.{file_settings}
 use Rattle.org_repeat.specs.Shift.{shift_answer}
 use Rattle.org_settings.specs.Keywords.{keyword_done, keyword_first, keyword_place}
-use Rattle.org_settings.specs.Settings.{FileSettings}
 use Rattle.org_stamp.specs.declared.stamp.Stamp.{Stamp}
 use Rattle.org_text.specs.Replace.{max_bytes}
 

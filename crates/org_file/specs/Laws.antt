@@ -1,5 +1,5 @@
 -- Laws of completed tasks (Org manual 9.6, "Repeated tasks").
-use Rattle.std.specs.Prelude.{◌≡◌, ◌⊎◌, ◌<◌, ◌≤◌, ℕ, true, List, length, Option, None, Some, Result, Ok, is_some}
+use Rattle.std.specs.Prelude.{◌≡◌, ◌⊎◌, ◌<◌, ◌≤◌, ℕ, true, List, length, Option, None, Some, Ok, is_some}
 use Rattle.std.specs.Str.{IsUtf8}
 use Rattle.org_base.specs.declared.span.Span.{Span}
 use Rattle.org_cal.specs.declared.moment.Moment.{Moment}

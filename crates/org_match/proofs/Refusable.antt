@@ -13,7 +13,6 @@ use Rattle.regex_syntax.specs.Verdict.{Refuses}
 use Rattle.regex_syntax.specs.declared.error.Error as parser
 use Rattle.regex_syntax.specs.declared.error.ErrorKind.TheVariants as kind
 use Rattle.regex.specs.Patterns.{default_config}
-use Rattle.regex.specs.declared.error.Error.{Error}
 use Rattle.regex.specs.declared.error.Error.TheVariants.{Syntax}
 use Rattle.org_expression.specs.Grammar.{Expr, Tags, Todo, Open, Item, item, Term, Tag, Found, Compare, Value, Number, Quoted, Pattern, Reads, spell, spell_item, spell_items, spell_link, spell_name, spell_op, spell_sign, spell_term, spell_value}
 use Rattle.org_match.specs.Patterns.{IsReadable, IsRefused}

@@ -1,6 +1,6 @@
 -- Copies of ranges.
 use Rattle.std.proofs.Common.{◌≡◌, ◌↔◌, ◌⊎◌, ℕ, pos, ◌+◌, ◌-◌, ◌*◌, ◌/◌, ◌%◌, ◌<◌, ◌≤◌, min, ℤ, inl, inr, refl, sym, ap, subst, arith}
-use Rattle.std.specs.Prelude.{Option, Some, None, IfSome, unwrap_or}
+use Rattle.std.specs.Prelude.{Option, Some, None, unwrap_or}
 use Rattle.std.proofs.lemmas.Bool.{cases_lt}
 use Rattle.std.proofs.lemmas.Option.{same_Some}
 use Rattle.jiff_core.specs.Calendar.{days_in_month}
@@ -14,7 +14,7 @@ use Rattle.org_cal.proofs.AddedLemmas.{day_of_month_real}
 use Rattle.org_cal.proofs.PartLemmas.{number_holds}
 use Rattle.org_stamp.specs.declared.mark.Repeater.{Repeater}
 use Rattle.org_stamp.specs.declared.stamp.Stamp.{Stamp}
-use Rattle.org_repeat.specs.First.{HasNoneFrom, HasNoneTo, IsFirstFrom, IsLastTo}
+use Rattle.org_repeat.specs.First.{HasNoneFrom, IsFirstFrom, IsLastTo}
 use Rattle.org_repeat.specs.Laws.{CopiesOccur, ProfilesAgree}
 use Rattle.org_repeat.specs.Occurs.{Begins, Hits, HoldsCopy, Occurs, OccursBy, OccursInRange, OccursOn}
 use Rattle.org_repeat.specs.Starts.{IsStartIn}

@@ -1,12 +1,12 @@
 -- No stamp with a row that is ahead is missed.
-use Rattle.std.proofs.Common.{◌≡◌, ◌∙◌, ℕ, zero, suc, ◌+◌, ◌<◌, Bool, true, false, cond, List, [], ◌∷◌, ◌++◌, refl, sym, ap, subst, arith, not, eq-eqb}
-use Rattle.std.specs.Prelude.{Option, None, Some, ◌&&◌, ◌||◌, ◌==◌, slice_get, fold}
+use Rattle.std.proofs.Common.{◌≡◌, ℕ, zero, suc, ◌+◌, ◌<◌, Bool, true, false, cond, List, [], ◌∷◌, ◌++◌, refl, sym, ap, subst, arith, not, eq-eqb}
+use Rattle.std.specs.Prelude.{Some, ◌&&◌, ◌||◌, slice_get, fold}
 use Rattle.std.specs.List.{list_any, range_with_len}
 use Rattle.org_agenda.specs.Days.{AgendaView, day_rows}
 use Rattle.org_agenda.specs.declared.row.Row.{Row}
 use Rattle.org_cal.specs.declared.moment.Moment.{Moment}
 use Rattle.org_rows.specs.Laws.{NoStampIsMissed}
-use Rattle.org_rows.specs.Next.{is_ahead, is_of, is_of_row, next_rows, with_day, with_row}
+use Rattle.org_rows.specs.Next.{is_ahead, is_of, is_of_row, with_day, with_row}
 use Rattle.org_rows.specs.declared.next.Upcoming.{Upcoming}
 
 more_any : {X : Type 0} (p : X → Bool) (xs ys : List X) → list_any p xs ≡ true → list_any p (xs ++ ys) ≡ true

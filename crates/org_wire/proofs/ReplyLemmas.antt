@@ -1,5 +1,5 @@
 -- Replies, read back.
-use Rattle.std.proofs.Common.{◌≡◌, ◌≢◌, ◌∙◌, ◌⊎◌, inl, inr, ◌+◌, ◌-◌, ◌<◌, ◌≤◌, ◌^◌, ℕ, true, false, List, [], ◌∷◌, ◌++◌, All, ap, append_assoc, arith, flat_map, length, length-append, refl, sym, subst, take}
+use Rattle.std.proofs.Common.{◌≡◌, ◌≢◌, ◌∙◌, ◌⊎◌, inl, inr, ◌-◌, ◌<◌, ◌≤◌, ◌^◌, ℕ, true, false, List, [], ◌∷◌, ◌++◌, All, ap, append_assoc, arith, flat_map, length, length-append, refl, sym, subst, take}
 use Rattle.std.specs.Prelude.{◌==◌, Option, None, Some, codes, decimal, nat_le, nat_lt, slice_get}
 use Rattle.std.specs.List.{AllByRecursion, list_all, slice_split}
 use Rattle.std.specs.Option.{option_map}

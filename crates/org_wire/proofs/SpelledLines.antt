@@ -11,7 +11,7 @@ use Rattle.std.proofs.lemmas.Slice.Eq.{starts_is}
 use Rattle.std.proofs.lemmas.Str.{IsUtf8-from_is_utf8, IsUtf8-nil}
 use Rattle.org_base.specs.FileName.{is_file_name}
 use Rattle.org_wire.specs.Lines.{Cut, cut_at}
-use Rattle.org_wire.specs.Spelled.{IsFileOf, IsFrameLine, IsLineOf, IsName, IsNumber, IsSeen, IsView, IsWord, file_parts, keyword_parts, parted, profile_word, spaced}
+use Rattle.org_wire.specs.Spelled.{IsFileOf, IsFrameLine, IsLineOf, IsName, IsNumber, IsSeen, IsView, IsWord, file_parts, keyword_parts, parted, spaced}
 use Rattle.org_wire.specs.Stream.{Bad, Framed, Line, Plainly, add_line, agenda_line, are_words, at_line, clock_line, complete_at, complete_line, dated_line, drop_line, edit_at, edit_del, edit_line, file_line, first_number, inherit_line, is_name, is_one_word, is_word, line_of, list_line, list_words, match_line, moment_of, number_of, pin_line, pinned_line, profile_line, seen_name, seen_of, seen_serial, seen_session, sized, text_line, todo_line, unpin_line, view_line, view_words, words_from, words_line}
 use Rattle.org_wire.specs.declared.command.Command.TheVariants.{At, Clock, Complete, Drop, Inherit, Match, Profile, Text, Todo}
 use Rattle.org_base.specs.declared.profile.Profile.TheVariants.{One, Two}

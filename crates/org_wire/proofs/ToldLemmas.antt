@@ -1,5 +1,5 @@
 -- How a stream is cut into commands.
-use Rattle.std.proofs.Common.{◌≡◌, ◌≢◌, ◌∙◌, ◌+◌, ◌<◌, ◌≤◌, ◌^◌, ℕ, true, false, List, [], ◌∷◌, ◌++◌, ap, arith, drop, length, length-append, refl, take}
+use Rattle.std.proofs.Common.{◌≡◌, ◌≢◌, ◌∙◌, ◌<◌, ◌≤◌, ℕ, true, false, List, [], ◌∷◌, ◌++◌, ap, arith, length, length-append, refl}
 use Rattle.std.specs.Prelude.{Some, nat_lt}
 use Rattle.std.specs.List.{All}
 use Rattle.std.proofs.lemmas.Bool.Decides.{nat_tests}
@@ -10,7 +10,6 @@ use Rattle.org_wire.specs.Lines.{cut_at}
 use Rattle.org_wire.specs.Stream.{Bad, Framed, Line, Plainly, after_cut, after_line, line_of, reading_of}
 use Rattle.org_wire.specs.Told.{StreamsAreFramed}
 use Rattle.org_wire.specs.declared.command.Next.TheVariants as next
-use Rattle.org_wire.specs.declared.reply.Reply.TheVariants as reply
 use Rattle.org_wire.proofs.SpelledWords.{cut_back, no_cut}
 
 not_less : (a b : ℕ) → b ≤ a → nat_lt a b ≡ false

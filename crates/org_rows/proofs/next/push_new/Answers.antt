@@ -1,4 +1,4 @@
-use Rattle.std.proofs.Common.{◌≡◌, ◌∙◌, ℕ, Bool, true, false, ap, sym}
+use Rattle.std.proofs.Common.{◌∙◌, ap, sym}
 use Rattle.std.specs.BTreeSet.{contains}
 use Rattle.org_rows.specs.Next.{stamp_cmp}
 use Rattle.org_rows.specs.declared.next.Upcoming.{Upcoming}
