@@ -110,6 +110,14 @@ pub record AreTaken (by : FileSettings) (es : List Entry) (ids : List ℕ) (old 
   pub pressing : LeavesRest (all_ids old.profile is_pressing by ids es) old.pressing new.pressing
   pub others : LeavesRest (all_ids old.profile is_waiting by ids es) old.others new.others
 
+-- the stamps of the entries in a range were put in, and these are the first ids
+abbrev pub HavePut : List Entry → ℕ → ℕ → List ℕ → StampIndex → StampIndex → Type 0
+HavePut es start end ids old new = ArePut old.settings.value start (between start end es) ids old new
+
+-- the stamps of the entries in a range were taken out
+abbrev pub HaveTaken : List Entry → ℕ → ℕ → StampIndex → StampIndex → Type 0
+HaveTaken es start end old new = AreTaken old.settings.value (between start end es) (between start end old.firsts.items) old new
+
 -- the new number of a place, where what stands at an end and behind it begins at another place
 abbrev pub moved : ℕ → ℕ → ℕ → ℕ
 moved end behind home = if nat_lt home end then home else min (home - end + behind) (2 ^ 64 - 1)

@@ -1,20 +1,19 @@
 //! The stamps of a file's headings, found by days.
-ghost use Rattle.std.specs.Prelude.{◌≡◌, ◌≤◌, ◌<◌, ◌+◌, ◌^◌, ◌∷◌, [], true, get_or, length, map, slice_set, IfOk, OnErr, OnOk, IsOkUnless};
-ghost use Rattle.std.specs.List.{between, splice};
+ghost use Rattle.std.specs.Prelude.{◌≡◌, ◌≤◌, ◌<◌, ◌+◌, ◌^◌, ◌∷◌, [], true, get_or, length, slice_set, IfOk, OnErr, OnOk, IsOkUnless};
 ghost use Rattle.org_base.specs.Codes.{memory_fault};
-ghost use Rattle.org_base.specs.Results.{GivesItems};
 ghost use Rattle.org_index.specs.Ticks.{Examines};
-ghost use Rattle.org_dated.specs.Index.{ArePut, AreFresh, AreTaken, HasPut, HasTaken, IsCopy, IsIndexOf, IsReplaced, moved};
-ghost use Rattle.org_dated.specs.Near.{AddHomes, AddsHome, CountsNearOf, HoldNearOf, KeepPlaces};
+ghost use Rattle.org_dated.specs.Index.{AreFresh, HasPut, HasTaken, HavePut, HaveTaken, IsCopy, IsIndexOf, IsReplaced};
+ghost use Rattle.org_dated.specs.Near.{CountsNearOf, HoldNearOf};
 
 use crate::asked::{Asked, is_pressing};
+use crate::homes::{add_homes, move_homes, spliced};
 use org_agenda::{Source, write_bare};
 use org_base::{Code, Fault, Meter, Profile};
 use org_entry::Entry;
 use org_index::DayIndex;
 use org_outline::Outline;
 use org_settings::Settings;
-use std::alloc::{AllocError, Global};
+use std::alloc::Global;
 use std::collections::BTreeSet;
 use std::ops::Range;
 use std::rc::Rc;
@@ -154,7 +153,7 @@ impl StampIndex {
         requires fresh { AreFresh self.old }
         requires order { range.now.start ≤ range.now.end }
         requires within { range.now.end ≤ length outline.now }
-        ensures ok { IfOk result (λ firsts. ArePut self.old.settings.value range.now.start (between range.now.start range.now.end outline.now) firsts.items self.old self.new) }
+        ensures ok { IfOk result (λ firsts. HavePut outline.now range.now.start range.now.end firsts.items self.old self.new) }
         ensures memory { IsOkUnless result memory_fault }
     {
         let settings = self.settings.clone()?;
@@ -179,7 +178,7 @@ impl StampIndex {
         requires is { IsIndexOf self.old.settings.value outline.now self.old }
         requires order { range.now.start ≤ range.now.end }
         requires within { range.now.end ≤ length outline.now }
-        ensures ok { OnOk result (AreTaken self.old.settings.value (between range.now.start range.now.end outline.now) (between range.now.start range.now.end self.old.firsts.items) self.old self.new) }
+        ensures ok { OnOk result (HaveTaken outline.now range.now.start range.now.end self.old self.new) }
         ensures memory { IsOkUnless result memory_fault }
     {
         let settings = self.settings.clone()?;
@@ -286,64 +285,4 @@ impl StampIndex {
         add_homes(&mut places, self.homes.as_slice(), others.as_slice())?;
         Ok(places)
     }
-}
-
-// Gives places their new numbers, where what stands at an end and behind it begins at another place.
-fn move_homes(homes: &mut [usize], end: usize, behind: usize)
-    ensures value { homes.new ≡ map (moved end behind) homes.old }
-{
-    for home in homes.iter_mut() {
-        *home = moved_home(*home, end, behind);
-    }
-}
-
-// The new number of one place.
-fn moved_home(home: usize, end: usize, behind: usize) -> usize
-    ensures value { result ≡ moved end behind home }
-{
-    if home < end {
-        home
-    } else {
-        (home - end).saturating_add(behind)
-    }
-}
-
-// Ids with others in the place of those in a range.
-fn spliced(
-    alloc: Global,
-    ids: &[u32],
-    range: &Range<usize>,
-    others: &[u32],
-) -> Result<Vec<u32>, AllocError>
-    requires order { range.now.start ≤ range.now.end }
-    requires within { range.now.end ≤ length ids.now }
-    ensures value { GivesItems result (splice ids.now range.now.start range.now.end others.now) }
-{
-    let mut spliced = Vec::new(alloc);
-    spliced.extend_from_slice(&ids[..range.start])?;
-    spliced.extend_from_slice(others)?;
-    spliced.extend_from_slice(&ids[range.end..])?;
-    Ok(spliced)
-}
-
-// The places of these ids, with those that are there already.
-fn add_homes(places: &mut BTreeSet<usize>, homes: &[usize], ids: &[u32]) -> Result<(), AllocError>
-    ensures keeps { OnOk result (KeepPlaces places.old places.new) }
-    ensures adds { OnOk result (AddHomes homes.now ids.now places.new) }
-{
-    for id in ids {
-        add_home(places, homes, *id)?;
-    }
-    Ok(())
-}
-
-// The place of an id, if it has one, with those that are there already.
-fn add_home(places: &mut BTreeSet<usize>, homes: &[usize], id: u32) -> Result<(), AllocError>
-    ensures keeps { OnOk result (KeepPlaces places.old places.new) }
-    ensures adds { OnOk result (AddsHome homes.now id places.new) }
-{
-    if let Some(home) = homes.get(id as usize) {
-        places.insert(*home)?;
-    }
-    Ok(())
 }

@@ -8,6 +8,7 @@
 
 mod asked;
 mod dated;
+mod homes;
 mod index;
 mod near;
 mod outline;

@@ -1,6 +1,6 @@
 use Rattle.std.proofs.Common.{take}
 use Rattle.org_dated.specs.Near.{AddHomes, KeepPlaces}
-use Rattle.org_dated.proofs.index.add_homes.Given as goal
+use Rattle.org_dated.proofs.homes.add_homes.Given as goal
 
 abbrev pub invariant-loop-id : goal.invariant-loop-id
 invariant-loop-id l = record {

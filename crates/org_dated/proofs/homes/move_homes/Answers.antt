@@ -2,7 +2,7 @@ use Rattle.std.proofs.Common.{◌≡◌, ◌∙◌, ◌<◌, get_or, length, ap}
 use Rattle.std.specs.Prelude.{slice_set}
 use Rattle.org_dated.specs.Index.{moved}
 use Rattle.org_dated.proofs.ReplaceLemmas.{next_mapped, next_there}
-use Rattle.org_dated.proofs.index.move_homes.Goals as goal
+use Rattle.org_dated.proofs.homes.move_homes.Goals as goal
 
 pub loop-home-preserved : goal.loop-home-preserved
 loop-home-preserved c =
