@@ -1,7 +1,13 @@
 //! Laws of what every layer shares. Each is a function without parameters whose contract is the law.
+ghost use Rattle.org_base.specs.Examples.{ExamplesHold};
 ghost use Rattle.org_base.specs.Limits.{LimitsAreNamed};
 
 /// There are at most 256 files.
 pub fn limits_are_named()
     ensures { LimitsAreNamed }
+{}
+
+/// `Todo` and `TODO` are one word, names are kept in small letters, and a file's name has at most 255 bytes.
+pub fn examples_hold()
+    ensures { ExamplesHold }
 {}

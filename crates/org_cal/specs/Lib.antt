@@ -1,6 +1,7 @@
 pub mod Added
 pub mod Blocks
 pub mod Days
+pub mod Examples
 pub mod Faults
 pub mod Laws
 pub mod Limits

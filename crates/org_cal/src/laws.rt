@@ -1,4 +1,5 @@
 //! Laws of the definitions. Each is a function without parameters whose contract is the law.
+ghost use Rattle.org_cal.specs.Examples.{ExamplesHold};
 ghost use Rattle.org_cal.specs.Laws.{BlocksAreNamed, DatesHaveNumbers, FirstWeekHasFourth, FirstWeekHasThursday, NumbersHaveDates, WeeksGoOn, WeeksHaveMondays, WeeksHaveSevenDays};
 ghost use Rattle.org_cal.specs.Limits.{LimitsAreNamed};
 
@@ -47,4 +48,10 @@ pub fn blocks_are_named()
 /// The years are 1 to 9999, of 119,988 months and 3,652,059 days, and a day has 1440 minutes.
 pub fn limits_are_named()
     ensures { LimitsAreNamed }
+{}
+
+/// The last minute of a day is 23:59; 31 January 2024 and a month is 29 February; a week's piece that begins on a Wednesday
+/// ends on the Sunday.
+pub fn examples_hold()
+    ensures { ExamplesHold }
 {}

@@ -1,4 +1,5 @@
 //! Laws of clock tables. Each is a function without parameters whose contract is the law.
+ghost use Rattle.org_clocktable.specs.Examples.{ExamplesHold};
 ghost use Rattle.org_clocktable.specs.Laws.{LevelsAreSpelled, StepsMakeTheWhole, TotalsAreOfAllThatCount, TotalsAreOfFiles};
 ghost use Rattle.org_clocktable.specs.Spelled.{OptionsAreSpelled};
 
@@ -26,4 +27,9 @@ pub fn levels_are_spelled()
 /// 1 to 99, each of the others at most once, and the expression behind them with the rest of the text.
 pub fn options_are_spelled()
     ensures { OptionsAreSpelled }
+{}
+
+/// Hours of a heading that lies too deep stand in the lines above it alone, and a file without clocks has no line.
+pub fn examples_hold()
+    ensures { ExamplesHold }
 {}

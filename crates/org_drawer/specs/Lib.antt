@@ -1,5 +1,6 @@
 pub mod Clock
 pub mod Effort
+pub mod Examples
 pub mod Laws
 pub mod Node
 pub mod Planning

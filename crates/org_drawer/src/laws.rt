@@ -1,4 +1,5 @@
 //! Laws of the definitions. Each is a function without parameters whose contract is the law.
+ghost use Rattle.org_drawer.specs.Examples.{ExamplesHold};
 ghost use Rattle.org_drawer.specs.Laws.{DrawersHaveValues, EffortsAreSpelled, MinutesAreCounted, NodesAreSpelled, PiecesMakeTheWhole, PlanningIsThere, ReversedClocksHaveNone};
 
 use org_base::values_are_of_their_names;
@@ -44,4 +45,9 @@ pub fn reversed_clocks_have_none()
 /// the numbers.
 pub fn efforts_are_spelled()
     ensures { EffortsAreSpelled }
+{}
+
+/// Of a planning keyword that stands twice in a line the last one counts.
+pub fn examples_hold()
+    ensures { ExamplesHold }
 {}

@@ -1,4 +1,5 @@
 //! Laws of the definitions. Each is a function without parameters whose contract is the law.
+ghost use Rattle.org_entry.specs.Examples.{ExamplesHold};
 ghost use Rattle.org_entry.specs.Laws.{HeadsAreOfTheirLines, LinesAreRead, PlanningIsOfItsLine};
 
 /// The head of a section's entry is what its heading line says by the file's settings, the heading line being the first
@@ -19,4 +20,9 @@ pub fn planning_is_of_its_line()
 #[tactic(auto, using(crate::proofs::ReadLemmas::lines_are_read))]
 pub fn lines_are_read()
     ensures { LinesAreRead }
+{}
+
+/// An active stamp counts, and an inactive one doesn't.
+pub fn examples_hold()
+    ensures { ExamplesHold }
 {}

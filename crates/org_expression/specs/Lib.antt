@@ -2,6 +2,7 @@ pub mod Automaton
 pub mod Decimal
 pub mod Draft
 pub mod Drafted
+pub mod Examples
 pub mod Grammar
 pub mod Laws
 pub mod Refusal

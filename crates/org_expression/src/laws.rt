@@ -1,4 +1,5 @@
 //! Laws of the grammar, of numbers and of named days. Each is a function without parameters whose contract is the law.
+ghost use Rattle.org_expression.specs.Examples.{ExamplesHold};
 ghost use Rattle.org_expression.specs.Laws.{DaysAreNamed, FrontsAreDecimals, NumbersAreValues, OneLongestFront, OneTree, ReadAgain};
 
 /// No text is the spelling of two expressions.
@@ -31,4 +32,9 @@ pub fn fronts_are_decimals()
 /// the calendar's.
 pub fn days_are_named()
     ensures { DaysAreNamed }
+{}
+
+/// A negative number is less than 0, and a property has the time of the stamp at its front, whatever follows.
+pub fn examples_hold()
+    ensures { ExamplesHold }
 {}

@@ -1,4 +1,5 @@
 //! Laws of the definitions. Each is a function without parameters whose contract is the law.
+ghost use Rattle.org_file.specs.Examples.{ExamplesHold};
 ghost use Rattle.org_file.specs.Laws.{CompletionsAreApart, KeywordsAreWritten};
 ghost use Rattle.org_file.specs.Parts.{PartsAreOneChange};
 
@@ -19,4 +20,9 @@ pub fn completions_are_apart()
 #[tactic(auto, using(crate::proofs::LawLemmas::keywords_written))]
 pub fn keywords_are_written()
     ensures { KeywordsAreWritten }
+{}
+
+/// Want of a time in one stamp is refused before any date, and a keyword goes behind all white space of its line.
+pub fn examples_hold()
+    ensures { ExamplesHold }
 {}

@@ -1,4 +1,5 @@
 pub mod Cookie
+pub mod Examples
 pub mod Parts
 pub mod Tags
 pub mod Head

@@ -6,4 +6,5 @@ pub mod Hidden
 pub mod Values
 pub mod Category
 pub mod Special
+pub mod Examples
 pub mod Laws

@@ -1,4 +1,5 @@
 //! Laws of inheritance. Each is a function without parameters whose contract is the law.
+ghost use Rattle.org_inherit.specs.Examples.{ExamplesHold};
 ghost use Rattle.org_inherit.specs.Laws.{HiddenIsInherited, LaterSaysNothing, TagsAreInherited, TagsAreOnce, TagsKeepTheirOrder, TreesInheritAlone};
 
 /// What has a hidden ancestor is hidden.
@@ -30,4 +31,10 @@ pub fn trees_inherit_alone()
 /// Entries behind an entry have no say in what it inherits.
 pub fn later_says_nothing()
     ensures { LaterSaysNothing }
+{}
+
+/// Only `ARCHIVE` in capitals hides; a heading's own category comes before the file's, and the file's drawer before its setting
+/// lines.
+pub fn examples_hold()
+    ensures { ExamplesHold }
 {}

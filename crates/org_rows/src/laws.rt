@@ -1,4 +1,5 @@
 //! Laws of the definitions. Each is a function without parameters whose contract is the law.
+ghost use Rattle.org_rows.specs.Examples.{ExamplesHold};
 ghost use Rattle.org_rows.specs.Laws.{AgendasShowNext, NextLiesAhead, NoStampIsMissed, PlacesAreThere, StampsComeOnce};
 
 /// At the place of a heading its text has the heading line that rows show: from the byte on, and as the line of that
@@ -29,4 +30,9 @@ pub fn agendas_show_next()
 #[tactic(auto, using(crate::proofs::MissedLemmas::no_stamp_is_missed))]
 pub fn no_stamp_is_missed()
     ensures { NoStampIsMissed }
+{}
+
+/// A line feed in a text of JSON is written by its number.
+pub fn examples_hold()
+    ensures { ExamplesHold }
 {}

@@ -1,0 +1,46 @@
+-- Worked examples: what the definitions say of inputs at which a wrong rule says something else.
+use Rattle.std.specs.Prelude.{◌≡◌, ℕ, List, [], ◌∷◌, None, codes}
+use Rattle.std.specs.Option.{option_map}
+use Rattle.org_agenda.specs.Lists.{list_rows, Listing, Matching, Open, row_at}
+use Rattle.org_base.specs.declared.span.Span.{Span}
+use Rattle.org_cal.specs.declared.moment.Moment.{Moment}
+use Rattle.org_entry.specs.Entry.{entries_of, entry_of}
+use Rattle.org_entry.specs.declared.entry.Entry.{Entry}
+use Rattle.org_expression.specs.Grammar.{Direct, item, Tag, Tags, Unsigned}
+use Rattle.org_head.specs.declared.head.Head.{Head}
+use Rattle.org_inherit.specs.Scope.{Scope, scope_with}
+use Rattle.org_settings.specs.Settings.{settings_of}
+
+-- a file of these entries, without settings
+abbrev pub scope_of : List Entry → Scope
+scope_of entries = scope_with entries (settings_of []) (codes "notes.org") []
+
+-- a file of this text
+abbrev pub file_of : List ℕ → Scope
+file_of text = scope_of (entries_of (settings_of []) text)
+
+-- the entry of a section
+abbrev pub section : List ℕ → Entry
+section bytes = entry_of (settings_of []) bytes
+
+-- a head with these tags
+abbrev pub head_with : List Span → Head → Head
+head_with tags head = record head { tags = tags }
+
+-- an entry whose tags are these parts of its text
+abbrev pub with_tags : List Span → Entry → Entry
+with_tags tags e = record e { head = option_map (head_with tags) e.head }
+
+-- a heading with the tag `work`, one below it, and one beside it
+abbrev pub one_below : Scope
+one_below = scope_of (with_tags (record { at = 4; len = 4 } ∷ []) (section (codes "* A work\n")) ∷ section (codes "** B\n") ∷ section (codes "* C\n") ∷ [])
+
+-- the headings with the tag `work`, own or inherited
+abbrev pub of_work : Moment → Listing
+of_work moment = Matching (Tags (item Direct Unsigned (Tag (codes "work")) ∷ [])) moment
+
+-- rows of one priority stand in the order of files, and a heading has the tags of those above it (Org manual 9.6, "The Global
+-- TODO List"; "Tag Inheritance"; profile)
+pub record ExamplesHold : Type 0 where
+  pub files_in_order : list_rows Open None (file_of (codes "* TODO A\n") ∷ file_of (codes "* TODO B\n") ∷ []) ≡ row_at 0 0 ∷ row_at 1 0 ∷ []
+  pub inherited : (moment : Moment) → list_rows (of_work moment) None (one_below ∷ []) ≡ row_at 0 0 ∷ row_at 0 1 ∷ []

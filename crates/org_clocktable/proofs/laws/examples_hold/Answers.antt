@@ -1,0 +1,8 @@
+use Rattle.std.proofs.Common.{refl}
+use Rattle.org_clocktable.specs.Table.{step_rows}
+use Rattle.org_sum.specs.Measures.{clock_minutes, effort_minutes}
+use Rattle.org_clocktable.proofs.laws.examples_hold.Goals as goal
+
+pub returns : goal.returns
+unfolding clock_minutes effort_minutes step_rows
+returns c = refl
