@@ -8,3 +8,4 @@ pub mod OtherLemmas
 pub mod PlanningLemmas
 pub mod ReadLemmas
 pub mod QuietLemmas
+pub mod ActiveLemmas

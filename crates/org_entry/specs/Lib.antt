@@ -5,3 +5,5 @@ pub mod Alone
 pub mod Draft
 pub mod Examples
 pub mod Laws
+pub mod Keyword
+pub mod Active

@@ -4,11 +4,13 @@
 //! count from the section's start. Each law about it is a function in `laws`.
 #![tactic(auto)]
 
+mod active;
 mod alone;
 mod details;
 mod document;
 mod draft;
 mod entry;
+mod keyword;
 pub mod laws;
 mod own;
 mod planning;
@@ -17,8 +19,10 @@ mod sparse;
 mod stamps;
 mod text;
 
+pub use active::{EntryStamp, Role, write_active};
 pub use details::Details;
 pub use document::Document;
 pub use entry::Entry;
+pub use keyword::{is_finished, keyword_of};
 pub use read::read_entry;
 pub use text::EntryText;
