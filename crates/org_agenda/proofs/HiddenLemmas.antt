@@ -1,27 +1,22 @@
 -- No list and no agenda shows a hidden heading.
-use Rattle.std.proofs.Common.{◌≡◌, ◌∙◌, ◌+◌, ℕ, zero, suc, Bool, true, false, List, [], ◌∷◌, refl, sym, ap, arith, inl, inr}
-use Rattle.std.specs.Prelude.{if◌then◌else◌, nat_lt, Option, None, Some, slice_get}
+use Rattle.std.proofs.Common.{◌≡◌, ◌∙◌, ◌+◌, ℕ, zero, suc, false, List, [], ◌∷◌, refl, sym, ap, arith, inl, inr}
+use Rattle.std.specs.Prelude.{map, Option, None, Some, slice_get}
 use Rattle.std.specs.List.{All}
 use Rattle.std.proofs.lemmas.Bool.{cases_Bool}
-use Rattle.std.proofs.lemmas.List.Elements.{All-append, All-cons, All-head, All-map, All-nil, All-tail, All-weaker}
-use Rattle.org_base.specs.declared.span.Span.{Span}
-use Rattle.org_drawer.specs.declared.planning.Planning.{Planning}
-use Rattle.org_entry.specs.Planning.{entry_planning}
+use Rattle.std.proofs.lemmas.List.Elements.{All-append, All-cons, All-map, All-nil, All-weaker}
+use Rattle.org_entry.specs.Active.{stamps_under}
+use Rattle.org_entry.specs.declared.active.EntryStamp.{EntryStamp}
 use Rattle.org_entry.specs.declared.entry.Entry.{Entry}
 use Rattle.org_head.specs.declared.head.Head.{Head}
 use Rattle.org_inherit.specs.Hidden.{is_hidden}
 use Rattle.org_inherit.specs.Scope.{Scope}
-use Rattle.org_stamp.specs.declared.stamp.Found.{Found}
-use Rattle.org_stamp.specs.declared.stamp.Stamp.{Stamp}
 use Rattle.org_agenda.specs.Kept.{HiddenGiveNoStamps, HiddenStandNowhere, IsInSight}
 use Rattle.org_agenda.specs.Lists.{Listing, Ranked, file_rows, head_rows, is_listed, is_over, list_rows, over_rows, ranked_row, rows_from}
 use Rattle.org_agenda.specs.Order.{by_key}
-use Rattle.org_agenda.specs.Sources.{entry_sources, file_sources, head_sources, owner_of, plain_sources, put, source_at, sources_from, sources_of, with_planned, with_planning}
+use Rattle.org_agenda.specs.Sources.{entry_sources, file_sources, head_sources, owner_of, sources_from, sources_of, under}
 use Rattle.org_agenda.specs.declared.lists.TheConstants.{PRIORITIES}
 use Rattle.org_agenda.specs.declared.row.Row.{Row}
 use Rattle.org_agenda.specs.declared.source.Owner.{Owner}
-use Rattle.org_agenda.specs.declared.source.Role.{Role}
-use Rattle.org_agenda.specs.declared.source.Role.TheVariants.{Plain, Scheduled, Deadline}
 use Rattle.org_agenda.specs.declared.source.Source.{Source}
 use Rattle.org_agenda.proofs.DayLemmas.{all_by}
 
@@ -89,29 +84,9 @@ stand_nowhere listing over scopes =
 abbrev IsOwn : Owner → Source → Type 0
 IsOwn owner s = s.owner ≡ owner
 
-put_own : (owner : Owner) (s : Source) (ts : List Source) → IsOwn owner s → All (IsOwn owner) ts → All (IsOwn owner) (put s ts)
-put_own owner s [] is all = All-cons (IsOwn owner) s [] is all
-put_own owner s (t ∷ ts) is all = elim (cases_Bool (nat_lt s.stamp_at t.stamp_at)) [
-  | inl yes' ↦ rw yes' (All-cons (IsOwn owner) s (t ∷ ts) is all)
-  | inr no' ↦ rw no' (All-cons (IsOwn owner) t (put s ts) (All-head (IsOwn owner) t ts all) (put_own owner s ts is (All-tail (IsOwn owner) t ts all)))
-]
-
-kept_own : (owner : Owner) (s : Source) (ss : List Source) (active : Bool) → IsOwn owner s → All (IsOwn owner) ss → All (IsOwn owner) (if active then put s ss else ss)
-kept_own owner s ss true is all = put_own owner s ss is all
-kept_own owner s ss false is all = all
-
-planned_own : (owner : Owner) (role : Role) (o : Option (Stamp × Span)) (ss : List Source) → All (IsOwn owner) ss → All (IsOwn owner) (with_planned owner role o ss)
-planned_own owner role None ss all = all
-planned_own owner role (Some found) ss all = kept_own owner (source_at owner role found.1.at found.0) ss found.0.active refl all
-
-line_own : (owner : Owner) (o : Option Planning) (ss : List Source) → All (IsOwn owner) ss → All (IsOwn owner) (with_planning owner o ss)
-line_own owner None ss all = all
-line_own owner (Some planning) ss all =
-    planned_own owner Deadline planning.deadline (with_planned owner Scheduled planning.scheduled ss) (planned_own owner Scheduled planning.scheduled ss all)
-
-plain_own : (owner : Owner) (stamps : List Found) → All (IsOwn owner) (plain_sources owner stamps)
-plain_own owner [] = All-nil (IsOwn owner)
-plain_own owner (f ∷ fs) = All-cons (IsOwn owner) (source_at owner Plain f.at f.stamp) (plain_sources owner fs) refl (plain_own owner fs)
+all_own : (owner : Owner) (ss : List EntryStamp) → All (IsOwn owner) (map (under owner) ss)
+all_own owner [] = All-nil (IsOwn owner)
+all_own owner (s ∷ ss) = All-cons (IsOwn owner) (under owner s) (map (under owner) ss) refl (all_own owner ss)
 
 module _ (scope : Scope) (file : ℕ) where
   abbrev StampOf : Source → Type 0
@@ -126,7 +101,7 @@ module _ (scope : Scope) (file : ℕ) where
     | inl yes' ↦ rw yes' (All-nil StampOf)
     | inr no' ↦
         let owner : Owner = owner_of scope file i e head in
-        rw no' (All-weaker (IsOwn owner) StampOf (λ s is. own_stamp i e head s no' is) (entry_sources owner e) (line_own owner (entry_planning e) (plain_sources owner e.details.stamps) (plain_own owner e.details.stamps)))
+        rw no' (All-weaker (IsOwn owner) StampOf (λ s is. own_stamp i e head s no' is) (entry_sources owner e) (all_own owner (stamps_under owner.is_open e)))
   ]
 
   stamps_from : (i : ℕ) (es : List Entry) → All StampOf (sources_from scope file i es)

@@ -26,8 +26,8 @@ use Rattle.org_agenda.specs.Lists.{Ranked, in_order}
 use Rattle.org_agenda.specs.Near.{IsSound, NearGiveAll, RowsAreNear, is_near, is_planned, is_pressing}
 use Rattle.org_agenda.specs.declared.row.RowKind.{RowKind}
 use Rattle.org_agenda.specs.declared.row.RowKind.TheVariants.{OnDay, InRange, OnSchedule, LateSchedule, OnDeadline, Warning, LateDeadline}
-use Rattle.org_agenda.specs.declared.source.Role.{Role}
-use Rattle.org_agenda.specs.declared.source.Role.TheVariants.{Plain, Scheduled, Deadline}
+use Rattle.org_entry.specs.declared.active.Role.{Role}
+use Rattle.org_entry.specs.declared.active.Role.TheVariants.{Plain, Scheduled, Deadline}
 use Rattle.org_agenda.specs.declared.source.Source.{Source}
 
 le_is : (a b : ℕ) → a ≤ b → nat_le a b ≡ true

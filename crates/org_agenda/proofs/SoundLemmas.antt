@@ -1,10 +1,11 @@
 -- Stamps that are read have days of the calendar, and those of planning lines are no ranges.
 use Rattle.std.proofs.Common.{◌≡◌, ℕ, zero, suc, ◌+◌, ◌-◌, true, false, cond, List, [], ◌∷◌, ◌++◌, drop, take, length, map, sym, refl, subst, arith, inl}
-use Rattle.std.specs.Prelude.{Option, None, Some, IfSome, if◌then◌else◌, nat_lt}
+use Rattle.std.specs.Prelude.{Bool, Option, None, Some, IfSome, if◌then◌else◌}
 use Rattle.std.specs.List.{All, flat_map}
 use Rattle.std.specs.Option.{option_map, option_or}
 use Rattle.std.proofs.lemmas.Option.{option_and_then_some}
 use Rattle.std.proofs.lemmas.List.Concat.{flat_map-cons}
+use Rattle.std.proofs.lemmas.List.Elements.{All-cons, All-head, All-nil, All-tail}
 use Rattle.org_base.specs.Words.{is_space}
 use Rattle.org_base.specs.declared.span.Span.{Span}
 use Rattle.org_cal.specs.Days.{IsDay}
@@ -14,8 +15,11 @@ use Rattle.org_class.specs.declared.class.Class.{Class}
 use Rattle.org_class.specs.declared.class.Class.TheVariants as class
 use Rattle.org_drawer.specs.Planning.{last_of, planned, planning_of, stamp_if, is_same}
 use Rattle.org_drawer.specs.declared.planning.Planning.{Planning}
+use Rattle.org_entry.proofs.ActiveLemmas.{OfFound, OfPlanning, under_all}
+use Rattle.org_entry.specs.Active.{plain_stamps, stamp_at, stamps_under}
 use Rattle.org_entry.specs.Entry.{PlacedLine, active_at, entry_of, heading_line, if_active, placed, stamps_of}
 use Rattle.org_entry.specs.Planning.{entry_planning, moved, moved_stamp}
+use Rattle.org_entry.specs.declared.active.EntryStamp.{EntryStamp}
 use Rattle.org_entry.specs.declared.entry.Entry.{Entry}
 use Rattle.org_head.specs.declared.head.Head.{Head}
 use Rattle.org_inherit.specs.Hidden.{is_hidden}
@@ -33,10 +37,10 @@ use Rattle.org_stamp.proofs.CanPrintLemmas.{can_print, stamp_bounds}
 use Rattle.org_stamp.proofs.ReadLemmas.{single_found}
 use Rattle.org_stamp.proofs.SpelledLemmas.{inner_is_spelled}
 use Rattle.org_agenda.specs.Near.{IsSound, ReadStampsAreSound}
-use Rattle.org_agenda.specs.Sources.{entry_sources, file_sources, head_sources, owner_of, plain_sources, put, source_at, sources_at, sources_from, sources_of, with_planned, with_planning}
+use Rattle.org_agenda.specs.Sources.{entry_sources, file_sources, head_sources, owner_of, sources_at, sources_from, sources_of, under}
 use Rattle.org_agenda.specs.declared.source.Owner.{Owner}
-use Rattle.org_agenda.specs.declared.source.Role.{Role}
-use Rattle.org_agenda.specs.declared.source.Role.TheVariants.{Scheduled, Deadline}
+use Rattle.org_entry.specs.declared.active.Role.{Role}
+use Rattle.org_entry.specs.declared.active.Role.TheVariants.{Plain, Scheduled, Deadline}
 use Rattle.org_agenda.specs.declared.source.Source.{Source}
 
 -- it is a day's, and no range
@@ -175,28 +179,36 @@ append_sound : (ss ts : List Source) → AllSound ss → AllSound ts → AllSoun
 append_sound [] ts a b = b
 append_sound (s ∷ ss) ts a b = (a.0, append_sound ss ts a.1 b)
 
-put_sound : (s : Source) (ts : List Source) → IsSound s → AllSound ts → AllSound (put s ts)
-put_sound s [] one all = (one, tt)
-put_sound s (t ∷ ts) one all = elim (nat_lt s.stamp_at t.stamp_at) as (λ b. AllSound (if b then s ∷ t ∷ ts else t ∷ put s ts)) [ true ↦ (one, all) | false ↦ (all.0, put_sound s ts one all.1) ]
+-- what is sound of a stamp of an entry, whatever its heading
+abbrev IsSoundStamp : EntryStamp → Type 0
+IsSoundStamp s = IsDay s.stamp.day × (s.role ≡ Scheduled → s.stamp.last ≡ None)
 
-planned_sound : (owner : Owner) (role : Role) (found : Option (Stamp × Span)) (ts : List Source) → IfSingle found → AllSound ts → AllSound (with_planned owner role found ts)
-planned_sound owner role None ts one all = all
-planned_sound owner role (Some found) ts one all =
-    elim (found.0.active) as (λ b. AllSound (if b then put (source_at owner role found.1.at found.0) ts else ts))
-    [ true ↦ put_sound (source_at owner role found.1.at found.0) ts (record { day = one.0; single = λ is. one.1 }) all | false ↦ all ]
+single_sound : (opens : Bool) (role : Role) (found : Option (Stamp × Span)) → IfSingle found → OfFound IsSoundStamp opens role found
+single_sound opens role None one f is = absurd (cc)
+single_sound opens role (Some g) one f is = let same : g ≡ f = cc in subst (λ (h : Stamp × Span). IsSoundStamp (stamp_at opens role h.1.at h.0)) same (one.0, λ _. one.1)
 
-planning_sound : (owner : Owner) (o : Option Planning) (ts : List Source) → IfSome o AreSingle → AllSound ts → AllSound (with_planning owner o ts)
-planning_sound owner None ts one all = all
-planning_sound owner (Some p) ts one all = planned_sound owner Deadline p.deadline (with_planned owner Scheduled p.scheduled ts) one.deadline (planned_sound owner Scheduled p.scheduled ts one.scheduled all)
+planning_sound : (opens : Bool) (o : Option Planning) → IfSome o AreSingle → OfPlanning IsSoundStamp opens o
+planning_sound opens None one p is = absurd (cc)
+planning_sound opens (Some q) one p is =
+    let same : q ≡ p = cc in
+    subst (λ (r : Planning). OfFound IsSoundStamp opens Scheduled r.scheduled × OfFound IsSoundStamp opens Deadline r.deadline) same
+    (single_sound opens Scheduled q.scheduled one.scheduled, single_sound opens Deadline q.deadline one.deadline)
 
-plain_sound : (owner : Owner) (fs : List Found) → AllDated fs → AllSound (plain_sources owner fs)
-plain_sound owner [] h = tt
-plain_sound owner (f ∷ fs) h = (record { day = h.0; single = λ is. absurd (cc) }, plain_sound owner fs h.1)
+plain_sound : (opens : Bool) (fs : List Found) → AllDated fs → All IsSoundStamp (plain_stamps opens fs)
+plain_sound opens [] h = All-nil IsSoundStamp
+plain_sound opens (f ∷ fs) h = All-cons IsSoundStamp (stamp_at opens Plain f.at f.stamp) (plain_stamps opens fs) (h.0, λ is. absurd (cc)) (plain_sound opens fs h.1)
+
+under_sound : (owner : Owner) (ss : List EntryStamp) → All IsSoundStamp ss → AllSound (map (under owner) ss)
+under_sound owner [] all = tt
+under_sound owner (s ∷ ss) all =
+    let one = All-head IsSoundStamp s ss all in
+    (record { day = one.0; single = one.1 }, under_sound owner ss (All-tail IsSoundStamp s ss all))
 
 entry_sound : (owner : Owner) (settings : FileSettings) (section : List ℕ) → AllSound (entry_sources owner (entry_of settings section))
 entry_sound owner settings section =
-    planning_sound owner (entry_planning (entry_of settings section)) (plain_sources owner (entry_of settings section).details.stamps) (entry_single (entry_of settings section))
-    (plain_sound owner (entry_of settings section).details.stamps (lines_dated settings (placed 0 (lines section) (section_classes section))))
+    let e = entry_of settings section in
+    let plain = plain_sound owner.is_open e.details.stamps (lines_dated settings (placed 0 (lines section) (section_classes section))) in
+    under_sound owner (stamps_under owner.is_open e) (under_all IsSoundStamp owner.is_open e (planning_sound owner.is_open (entry_planning e) (entry_single e)) plain)
 
 head_sound : (scope : Scope) (file i : ℕ) (settings : FileSettings) (section : List ℕ) (h : Option Head) → AllSound (head_sources scope file i (entry_of settings section) h)
 head_sound scope file i settings section None = tt

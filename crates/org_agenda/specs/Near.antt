@@ -1,9 +1,10 @@
 -- Which stamps of headings are near some days (profile; delays and warnings as in Org manual 9.6, "Deadlines and
 -- Scheduling").
-use Rattle.std.specs.Prelude.{◌≡◌, ℕ, ◌≤◌, Bool, true, false, ◌&&◌, ◌||◌, List, [], filter, map, None}
+use Rattle.std.specs.Prelude.{◌≡◌, ℕ, ◌≤◌, Bool, false, ◌&&◌, ◌||◌, List, [], filter, map, None}
 use Rattle.std.specs.List.{All}
 use Rattle.org_base.specs.declared.profile.Profile.{Profile}
 use Rattle.org_cal.specs.Days.{IsDay}
+pub use Rattle.org_entry.specs.Active.{is_planned}
 use Rattle.org_entry.specs.Entry.{entry_of}
 use Rattle.org_index.specs.Extents.{extent_of}
 use Rattle.org_index.specs.Near.{touches, warns}
@@ -11,15 +12,8 @@ use Rattle.org_inherit.specs.Scope.{Scope}
 use Rattle.org_settings.specs.Settings.{FileSettings}
 use Rattle.org_agenda.specs.Days.{day_rows, source_rows}
 use Rattle.org_agenda.specs.Sources.{file_sources}
-use Rattle.org_agenda.specs.declared.source.Role.{Role}
-use Rattle.org_agenda.specs.declared.source.Role.TheVariants.{Plain, Scheduled, Deadline}
+use Rattle.org_entry.specs.declared.active.Role.TheVariants.{Scheduled}
 use Rattle.org_agenda.specs.declared.source.Source.{Source}
-
--- it stands in the planning line
-abbrev pub is_planned : Role → Bool
-is_planned Plain = false
-is_planned Scheduled = true
-is_planned Deadline = true
 
 -- it stands in the planning line of a heading without a done keyword
 abbrev pub is_pressing : Source → Bool

@@ -11,10 +11,11 @@ ghost use Rattle.org_repeat.specs.Decided.{occurs};
 
 use crate::buckets::Buckets;
 use crate::row::{Row, RowKind};
-use crate::source::{Role, Source};
+use crate::source::Source;
 use crate::standpoint::Standpoint;
 use org_base::Profile;
 use org_cal::{Day, TimeOfDay};
+use org_entry::Role;
 use org_index::{days_in, delay_or};
 use org_repeat::{next_after, occurs_on, range_start};
 use org_stamp::{Delay, Stamp};

@@ -7,10 +7,11 @@ ghost use Rattle.org_agenda.specs.Spread.{AreSpread, GiveMore, GivesNone, NoDayH
 ghost use Rattle.org_repeat.specs.Decided.{occurs};
 
 use crate::places::Places;
-use crate::source::{Role, Source};
+use crate::source::Source;
 use crate::standpoint::Standpoint;
 use org_base::Profile;
 use org_cal::{Day, LAST_DAY};
+use org_entry::Role;
 use org_index::days_in;
 use org_repeat::first_on;
 use org_stamp::{Delay, Stamp};

@@ -9,8 +9,8 @@ use Rattle.org_base.specs.declared.profile.Profile.{Profile}
 use Rattle.org_entry.specs.declared.entry.Entry.{Entry}
 use Rattle.org_index.specs.declared.extent.Extent.{Extent}
 use Rattle.org_settings.specs.Settings.{FileSettings}
-use Rattle.org_agenda.specs.Bare.{bare_stamps}
-use Rattle.org_agenda.specs.declared.source.Source.{Source}
+use Rattle.org_entry.specs.Active.{active_stamps}
+use Rattle.org_entry.specs.declared.active.EntryStamp.{EntryStamp}
 use Rattle.org_dated.specs.Index.{AreBelow, AreHomes, AreHoused, all_ids, ids_of}
 use Rattle.org_dated.proofs.SumLemmas.{below_append}
 
@@ -46,7 +46,7 @@ module _ (settings : FileSettings) where
   housed_more homes more i [] [] h = tt
   housed_more homes more i [] (e ∷ es) h = absurd h
   housed_more homes more i (f ∷ fs) [] h = absurd h
-  housed_more homes more i (f ∷ fs) (e ∷ es) h = (homes_more homes more f (length (bare_stamps settings e)) i h.0, housed_more homes more (i + 1) fs es h.1)
+  housed_more homes more i (f ∷ fs) (e ∷ es) h = (homes_more homes more f (length (active_stamps settings e)) i h.0, housed_more homes more (i + 1) fs es h.1)
 
   pub housed_long : (homes : List ℕ) (i : ℕ) (fs : List ℕ) (es : List Entry) → AreHoused settings homes i fs es → length fs ≡ length es
   housed_long homes i [] [] h = refl
@@ -55,36 +55,36 @@ module _ (settings : FileSettings) where
   housed_long homes i (f ∷ fs) (e ∷ es) h = let more = housed_long homes (i + 1) fs es h.1 in omega (arith, more)
 
   -- one entry more at the end
-  pub housed_push : (homes : List ℕ) (i : ℕ) (fs : List ℕ) (es : List Entry) (f : ℕ) (e : Entry) → AreHoused settings homes i fs es → AreHomes homes f (length (bare_stamps settings e)) (i + length es) →
+  pub housed_push : (homes : List ℕ) (i : ℕ) (fs : List ℕ) (es : List Entry) (f : ℕ) (e : Entry) → AreHoused settings homes i fs es → AreHomes homes f (length (active_stamps settings e)) (i + length es) →
       AreHoused settings homes i (fs ++ f ∷ []) (es ++ e ∷ [])
-  housed_push homes i [] [] f e h new = (subst (AreHomes homes f (length (bare_stamps settings e))) (let z : i + 0 ≡ i = omega arith in z) new, tt)
+  housed_push homes i [] [] f e h new = (subst (AreHomes homes f (length (active_stamps settings e))) (let z : i + 0 ≡ i = omega arith in z) new, tt)
   housed_push homes i [] (x ∷ es) f e h new = absurd h
   housed_push homes i (x ∷ fs) [] f e h new = absurd h
   housed_push homes i (x ∷ fs) (y ∷ es) f e h new =
-      (h.0, housed_push homes (i + 1) fs es f e h.1 (subst (AreHomes homes f (length (bare_stamps settings e))) (let z : i + suc (length es) ≡ i + 1 + length es = omega arith in z) new))
+      (h.0, housed_push homes (i + 1) fs es f e h.1 (subst (AreHomes homes f (length (active_stamps settings e))) (let z : i + suc (length es) ≡ i + 1 + length es = omega arith in z) new))
 
   -- another entry at a place
-  pub housed_set : (homes : List ℕ) (i : ℕ) (fs : List ℕ) (es : List Entry) (place f : ℕ) (e : Entry) → AreHoused settings homes i fs es → AreHomes homes f (length (bare_stamps settings e)) (i + place) →
+  pub housed_set : (homes : List ℕ) (i : ℕ) (fs : List ℕ) (es : List Entry) (place f : ℕ) (e : Entry) → AreHoused settings homes i fs es → AreHomes homes f (length (active_stamps settings e)) (i + place) →
       AreHoused settings homes i (slice_set fs place f) (slice_set es place e)
   housed_set homes i [] [] place f e h new = tt
   housed_set homes i [] (x ∷ es) place f e h new = absurd h
   housed_set homes i (x ∷ fs) [] place f e h new = absurd h
-  housed_set homes i (x ∷ fs) (y ∷ es) zero f e h new = (subst (AreHomes homes f (length (bare_stamps settings e))) (let z : i + 0 ≡ i = omega arith in z) new, h.1)
+  housed_set homes i (x ∷ fs) (y ∷ es) zero f e h new = (subst (AreHomes homes f (length (active_stamps settings e))) (let z : i + 0 ≡ i = omega arith in z) new, h.1)
   housed_set homes i (x ∷ fs) (y ∷ es) (suc place) f e h new =
-      (h.0, housed_set homes (i + 1) fs es place f e h.1 (subst (AreHomes homes f (length (bare_stamps settings e))) (let z : i + suc place ≡ i + 1 + place = omega arith in z) new))
+      (h.0, housed_set homes (i + 1) fs es place f e h.1 (subst (AreHomes homes f (length (active_stamps settings e))) (let z : i + suc place ≡ i + 1 + place = omega arith in z) new))
 
   -- the ids of the entry at a place
-  pub housed_at : (homes : List ℕ) (i : ℕ) (fs : List ℕ) (es : List Entry) (place : ℕ) (e : Entry) → AreHoused settings homes i fs es → slice_get es place ≡ Some e → AreHomes homes (get_or fs place 0) (length (bare_stamps settings e)) (i + place)
+  pub housed_at : (homes : List ℕ) (i : ℕ) (fs : List ℕ) (es : List Entry) (place : ℕ) (e : Entry) → AreHoused settings homes i fs es → slice_get es place ≡ Some e → AreHomes homes (get_or fs place 0) (length (active_stamps settings e)) (i + place)
   housed_at homes i fs [] place e h there = absurd (cc)
   housed_at homes i [] (y ∷ es) place e h there = absurd h
   housed_at homes i (x ∷ fs) (y ∷ es) zero e h there =
       let same : y ≡ e = cc in
-      subst (λ (z : Entry). AreHomes homes x (length (bare_stamps settings z)) (i + 0)) same (subst (AreHomes homes x (length (bare_stamps settings y))) (let z : i ≡ i + 0 = omega arith in z) h.0)
+      subst (λ (z : Entry). AreHomes homes x (length (active_stamps settings z)) (i + 0)) same (subst (AreHomes homes x (length (active_stamps settings y))) (let z : i ≡ i + 0 = omega arith in z) h.0)
   housed_at homes i (x ∷ fs) (y ∷ es) (suc place) e h there =
-      subst (AreHomes homes (get_or fs place 0) (length (bare_stamps settings e))) (let z : i + 1 + place ≡ i + suc place = omega arith in z) (housed_at homes (i + 1) fs es place e h.1 there)
+      subst (AreHomes homes (get_or fs place 0) (length (active_stamps settings e))) (let z : i + 1 + place ≡ i + suc place = omega arith in z) (housed_at homes (i + 1) fs es place e h.1 there)
 
-  module _ (q : Profile) (wanted : Source → Bool) where
-    ids_below : (n id : ℕ) (ss : List Source) → id + length ss ≤ n → AreBelow n (ids_of q wanted id ss)
+  module _ (q : Profile) (wanted : EntryStamp → Bool) where
+    ids_below : (n id : ℕ) (ss : List EntryStamp) → id + length ss ≤ n → AreBelow n (ids_of q wanted id ss)
     ids_below n id [] le = tt
     ids_below n id (s ∷ ss) le =
         let later : AreBelow n (ids_of q wanted (id + 1) ss) = ids_below n (id + 1) ss (omega (arith, le)) in
@@ -99,16 +99,16 @@ module _ (settings : FileSettings) where
     all_below homes i [] (e ∷ es) h = absurd h
     all_below homes i (f ∷ fs) [] h = absurd h
     all_below homes i (f ∷ fs) (e ∷ es) h =
-        below_append (length homes) (ids_of q wanted f (bare_stamps settings e)) (all_ids q wanted settings fs es) (ids_below (length homes) f (bare_stamps settings e) h.0.0) (all_below homes (i + 1) fs es h.1)
+        below_append (length homes) (ids_of q wanted f (active_stamps settings e)) (all_ids q wanted settings fs es) (ids_below (length homes) f (active_stamps settings e) h.0.0) (all_below homes (i + 1) fs es h.1)
 
     pub sum_push : (weight : ℕ × Extent → ℕ) (fs : List ℕ) (es : List Entry) (f : ℕ) (e : Entry) → length fs ≡ length es →
-        sum_by weight (all_ids q wanted settings (fs ++ f ∷ []) (es ++ e ∷ [])) ≡ sum_by weight (all_ids q wanted settings fs es) + sum_by weight (ids_of q wanted f (bare_stamps settings e))
-    sum_push weight [] [] f e long = let whole = sum_by-append weight (ids_of q wanted f (bare_stamps settings e)) [] in omega (arith, whole)
+        sum_by weight (all_ids q wanted settings (fs ++ f ∷ []) (es ++ e ∷ [])) ≡ sum_by weight (all_ids q wanted settings fs es) + sum_by weight (ids_of q wanted f (active_stamps settings e))
+    sum_push weight [] [] f e long = let whole = sum_by-append weight (ids_of q wanted f (active_stamps settings e)) [] in omega (arith, whole)
     sum_push weight [] (y ∷ es) f e long = absurd (omega (arith, long))
     sum_push weight (x ∷ fs) [] f e long = absurd (omega (arith, long))
     sum_push weight (x ∷ fs) (y ∷ es) f e long =
-        let one = sum_by-append weight (ids_of q wanted x (bare_stamps settings y)) (all_ids q wanted settings (fs ++ f ∷ []) (es ++ e ∷ [])) in
-        let two = sum_by-append weight (ids_of q wanted x (bare_stamps settings y)) (all_ids q wanted settings fs es) in
+        let one = sum_by-append weight (ids_of q wanted x (active_stamps settings y)) (all_ids q wanted settings (fs ++ f ∷ []) (es ++ e ∷ [])) in
+        let two = sum_by-append weight (ids_of q wanted x (active_stamps settings y)) (all_ids q wanted settings fs es) in
         omega (arith, one, two, sum_push weight fs es f e (omega (arith, long)))
 
     -- the ids of all entries but that at a place
@@ -116,29 +116,29 @@ module _ (settings : FileSettings) where
     rest_ids place [] es = []
     rest_ids place (f ∷ fs) [] = []
     rest_ids zero (f ∷ fs) (e ∷ es) = all_ids q wanted settings fs es
-    rest_ids (suc place) (f ∷ fs) (e ∷ es) = ids_of q wanted f (bare_stamps settings e) ++ rest_ids place fs es
+    rest_ids (suc place) (f ∷ fs) (e ∷ es) = ids_of q wanted f (active_stamps settings e) ++ rest_ids place fs es
 
     -- the ids at a place, and the others
     pub sum_at : (weight : ℕ × Extent → ℕ) (place : ℕ) (fs : List ℕ) (es : List Entry) (e : Entry) → length fs ≡ length es → slice_get es place ≡ Some e →
-        sum_by weight (all_ids q wanted settings fs es) ≡ sum_by weight (ids_of q wanted (get_or fs place 0) (bare_stamps settings e)) + sum_by weight (rest_ids place fs es)
+        sum_by weight (all_ids q wanted settings fs es) ≡ sum_by weight (ids_of q wanted (get_or fs place 0) (active_stamps settings e)) + sum_by weight (rest_ids place fs es)
     sum_at weight place fs [] e long there = absurd (cc)
     sum_at weight place [] (y ∷ es) e long there = absurd (omega (arith, long))
     sum_at weight zero (x ∷ fs) (y ∷ es) e long there =
         let same : y ≡ e = cc in
-        sum_by-append weight (ids_of q wanted x (bare_stamps settings y)) (all_ids q wanted settings fs es)
-        ∙ ap (λ (z : Entry). sum_by weight (ids_of q wanted x (bare_stamps settings z)) + sum_by weight (all_ids q wanted settings fs es)) same
+        sum_by-append weight (ids_of q wanted x (active_stamps settings y)) (all_ids q wanted settings fs es)
+        ∙ ap (λ (z : Entry). sum_by weight (ids_of q wanted x (active_stamps settings z)) + sum_by weight (all_ids q wanted settings fs es)) same
     sum_at weight (suc place) (x ∷ fs) (y ∷ es) e long there =
-        let one = sum_by-append weight (ids_of q wanted x (bare_stamps settings y)) (all_ids q wanted settings fs es) in
-        let two = sum_by-append weight (ids_of q wanted x (bare_stamps settings y)) (rest_ids place fs es) in
+        let one = sum_by-append weight (ids_of q wanted x (active_stamps settings y)) (all_ids q wanted settings fs es) in
+        let two = sum_by-append weight (ids_of q wanted x (active_stamps settings y)) (rest_ids place fs es) in
         omega (arith, one, two, sum_at weight place fs es e (omega (arith, long)) there)
 
     -- the same behind another entry was put there
     pub sum_set : (weight : ℕ × Extent → ℕ) (place : ℕ) (fs : List ℕ) (es : List Entry) (f : ℕ) (e : Entry) → length fs ≡ length es → place < length es →
-        sum_by weight (all_ids q wanted settings (slice_set fs place f) (slice_set es place e)) ≡ sum_by weight (ids_of q wanted f (bare_stamps settings e)) + sum_by weight (rest_ids place fs es)
+        sum_by weight (all_ids q wanted settings (slice_set fs place f) (slice_set es place e)) ≡ sum_by weight (ids_of q wanted f (active_stamps settings e)) + sum_by weight (rest_ids place fs es)
     sum_set weight place fs [] f e long lt = absurd (omega (arith, lt))
     sum_set weight place [] (y ∷ es) f e long lt = absurd (omega (arith, long))
-    sum_set weight zero (x ∷ fs) (y ∷ es) f e long lt = sum_by-append weight (ids_of q wanted f (bare_stamps settings e)) (all_ids q wanted settings fs es)
+    sum_set weight zero (x ∷ fs) (y ∷ es) f e long lt = sum_by-append weight (ids_of q wanted f (active_stamps settings e)) (all_ids q wanted settings fs es)
     sum_set weight (suc place) (x ∷ fs) (y ∷ es) f e long lt =
-        let one = sum_by-append weight (ids_of q wanted x (bare_stamps settings y)) (all_ids q wanted settings (slice_set fs place f) (slice_set es place e)) in
-        let two = sum_by-append weight (ids_of q wanted x (bare_stamps settings y)) (rest_ids place fs es) in
+        let one = sum_by-append weight (ids_of q wanted x (active_stamps settings y)) (all_ids q wanted settings (slice_set fs place f) (slice_set es place e)) in
+        let two = sum_by-append weight (ids_of q wanted x (active_stamps settings y)) (rest_ids place fs es) in
         omega (arith, one, two, sum_set weight place fs es f e (omega (arith, long)) (omega (arith, lt)))

@@ -6,5 +6,3 @@ pub mod HouseLemmas
 pub mod IndexLemmas
 pub mod NearLemmas
 pub mod PlaceLemmas
-pub mod FileLemmas
-pub mod StampLemmas

@@ -13,9 +13,9 @@ use Rattle.org_index.specs.Extents.{extent_of}
 use Rattle.org_index.specs.Near.{candidate_count, candidate_ids, meets, touches, touching_count, touching_ids, warns}
 use Rattle.org_index.specs.declared.extent.Extent.{Extent}
 use Rattle.org_settings.specs.Settings.{FileSettings}
-use Rattle.org_agenda.specs.Bare.{bare_stamps}
-use Rattle.org_agenda.specs.Near.{is_pressing}
-use Rattle.org_agenda.specs.declared.source.Source.{Source}
+use Rattle.org_entry.specs.Active.{active_stamps}
+use Rattle.org_dated.specs.Asked.{is_pressing}
+use Rattle.org_entry.specs.declared.active.EntryStamp.{EntryStamp}
 use Rattle.org_dated.specs.Asked.{asked_of, is_asked}
 use Rattle.org_dated.specs.Index.{AreHomes, AreHoused, HaveSame, IsIndexOf, all_ids, ids_of, is_waiting}
 use Rattle.org_dated.specs.Near.{AddHomes, HasPlace, HoldNear, KeepPlaces, near_in, near_of_entry}
@@ -37,7 +37,7 @@ ids_counted m [] = refl
 ids_counted m (p ∷ ps) =
     one_more (m p.1) p (filter (λ (p : ℕ × Extent). m p.1) ps) ∙ ap (λ n. cond (m p.1) 1 0 + n) (ids_counted m ps) ∙ sym (sum_by-cons (one_if m) p ps)
 
-one_longer : (b : Bool) (s : Source) (ss : List Source) → length (cond b (s ∷ ss) ss) ≡ cond b 1 0 + length ss
+one_longer : (b : Bool) (s : EntryStamp) (ss : List EntryStamp) → length (cond b (s ∷ ss) ss) ≡ cond b 1 0 + length ss
 one_longer true s ss = omega arith
 one_longer false s ss = omega arith
 
@@ -47,23 +47,23 @@ or_false false = refl
 
 module _ (a : Asked) where
   abbrev q : Profile
-  q = a.standpoint.profile
+  q = a.profile
 
   -- an extent meets the days, or touches them
   abbrev pub meets_days : Extent → Bool
-  meets_days e = meets a.from a.to a.standpoint.today e
+  meets_days e = meets a.from a.to a.today e
 
   abbrev pub touches_days : Extent → Bool
   touches_days e = touches a.from a.to e
 
-  presses_near : (s : Source) → is_pressing s ≡ true → is_asked a s ≡ meets_days (extent_of q s.stamp)
-  presses_near s presses = ap (λ b. touches a.from a.to (extent_of q s.stamp) || (b && warns a.from a.to a.standpoint.today (extent_of q s.stamp))) presses
+  presses_near : (s : EntryStamp) → is_pressing s ≡ true → is_asked a s ≡ meets_days (extent_of q s.stamp)
+  presses_near s presses = ap (λ b. touches a.from a.to (extent_of q s.stamp) || (b && warns a.from a.to a.today (extent_of q s.stamp))) presses
 
-  waits_near : (s : Source) → is_pressing s ≡ false → is_asked a s ≡ touches_days (extent_of q s.stamp)
-  waits_near s waits = ap (λ b. touches a.from a.to (extent_of q s.stamp) || (b && warns a.from a.to a.standpoint.today (extent_of q s.stamp))) waits ∙ or_false (touches a.from a.to (extent_of q s.stamp))
+  waits_near : (s : EntryStamp) → is_pressing s ≡ false → is_asked a s ≡ touches_days (extent_of q s.stamp)
+  waits_near s waits = ap (λ b. touches a.from a.to (extent_of q s.stamp) || (b && warns a.from a.to a.today (extent_of q s.stamp))) waits ∙ or_false (touches a.from a.to (extent_of q s.stamp))
 
   -- of some stamps as many are near as meet the days and press, or touch them and don't
-  pub stamps_counted : (id : ℕ) (ss : List Source) → sum_by (one_if meets_days) (ids_of q is_pressing id ss) + sum_by (one_if touches_days) (ids_of q is_waiting id ss) ≡ length (asked_of a ss)
+  pub stamps_counted : (id : ℕ) (ss : List EntryStamp) → sum_by (one_if meets_days) (ids_of q is_pressing id ss) + sum_by (one_if touches_days) (ids_of q is_waiting id ss) ≡ length (asked_of a ss)
   stamps_counted id [] = refl
   stamps_counted id (s ∷ ss) =
       let more = stamps_counted (id + 1) ss in
@@ -92,7 +92,7 @@ module _ (a : Asked) where
     entries_counted [] (e ∷ es) long = absurd (omega (arith, long))
     entries_counted (f ∷ fs) [] long = absurd (omega (arith, long))
     entries_counted (f ∷ fs) (e ∷ es) long =
-        let ss = bare_stamps settings e in
+        let ss = active_stamps settings e in
         let one = sum_by-append (one_if meets_days) (ids_of q is_pressing f ss) (all_ids q is_pressing settings fs es) in
         let two = sum_by-append (one_if touches_days) (ids_of q is_waiting f ss) (all_ids q is_waiting settings fs es) in
         let own = stamps_counted f ss in
@@ -101,14 +101,14 @@ module _ (a : Asked) where
 
     -- the two indexes have as many candidates as stamps are near
     pub near_counted : (es : List Entry) (x : StampIndex) → x.profile ≡ q → IsIndexOf settings es x →
-        candidate_count a.from a.to a.standpoint.today x.pressing + touching_count a.from a.to x.others ≡ near_in a settings es
+        candidate_count a.from a.to a.today x.pressing + touching_count a.from a.to x.others ≡ near_in a settings es
     near_counted es x same is =
         let long = housed_long settings x.homes.items 0 x.firsts.items es is.housed in
         let pressing : sum_by (one_if meets_days) (all_ids q is_pressing settings x.firsts.items es) ≡ sum_by (one_if meets_days) x.pressing =
         ap (λ p. sum_by (one_if meets_days) (all_ids p is_pressing settings x.firsts.items es)) (sym same) ∙ is.pressing (one_if meets_days) in
         let others : sum_by (one_if touches_days) (all_ids q is_waiting settings x.firsts.items es) ≡ sum_by (one_if touches_days) x.others =
         ap (λ p. sum_by (one_if touches_days) (all_ids p is_waiting settings x.firsts.items es)) (sym same) ∙ is.others (one_if touches_days) in
-        let one : candidate_count a.from a.to a.standpoint.today x.pressing ≡ sum_by (one_if meets_days) x.pressing = ids_counted meets_days x.pressing in
+        let one : candidate_count a.from a.to a.today x.pressing ≡ sum_by (one_if meets_days) x.pressing = ids_counted meets_days x.pressing in
         let two : touching_count a.from a.to x.others ≡ sum_by (one_if touches_days) x.others = ids_counted touches_days x.others in
         omega (arith, pressing, others, one, two, entries_counted x.firsts.items es long)
 
@@ -144,7 +144,7 @@ none_passing m first count (p ∷ ps) none = elim (cases_Bool (m p.1)) [
 ]
 
 -- all ids of a place lie there
-own_pass : (q : Profile) (wanted : Source → Bool) (m : Extent → Bool) (first count id : ℕ) (ss : List Source) → first ≤ id → id + length ss ≤ first + count → sum_by (passing m first count) (ids_of q wanted id ss) ≡ sum_by (one_if m) (ids_of q wanted id ss)
+own_pass : (q : Profile) (wanted : EntryStamp → Bool) (m : Extent → Bool) (first count id : ℕ) (ss : List EntryStamp) → first ≤ id → id + length ss ≤ first + count → sum_by (passing m first count) (ids_of q wanted id ss) ≡ sum_by (one_if m) (ids_of q wanted id ss)
 own_pass q wanted m first count id [] low high = refl
 own_pass q wanted m first count id (s ∷ ss) low high =
     let more = own_pass q wanted m first count (id + 1) ss (omega (arith, low)) (omega (arith, high)) in
@@ -165,11 +165,11 @@ home_there homes first count place id h l =
     ap (slice_get homes) (let z : id ≡ first + (id - first) = omega (arith, low) in z) ∙ h.1 (id - first) (omega (arith, low, high))
 
 -- a heading whose place isn't among those of the ids that pass has no stamp that does
-no_ids : (q : Profile) (wanted : Source → Bool) (settings : FileSettings) (m : Extent → Bool) (homes fs : List ℕ) (es : List Entry) (index : List (ℕ × Extent)) (places : BTreeSet ℕ) (i : ℕ) (e : Entry) →
+no_ids : (q : Profile) (wanted : EntryStamp → Bool) (settings : FileSettings) (m : Extent → Bool) (homes fs : List ℕ) (es : List Entry) (index : List (ℕ × Extent)) (places : BTreeSet ℕ) (i : ℕ) (e : Entry) →
     AreHoused settings homes 0 fs es → HaveSame (all_ids q wanted settings fs es) index → AddHomes homes (keys_of (filter (λ (p : ℕ × Extent). m p.1) index)) places → slice_get es i ≡ Some e → (HasPlace places i → ⊥) →
-    sum_by (one_if m) (ids_of q wanted (get_or fs i 0) (bare_stamps settings e)) ≡ 0
+    sum_by (one_if m) (ids_of q wanted (get_or fs i 0) (active_stamps settings e)) ≡ 0
 no_ids q wanted settings m homes fs es index places i e housed same adds there out =
-    let ss = bare_stamps settings e in
+    let ss = active_stamps settings e in
     let first = get_or fs i 0 in
     let own : AreHomes homes first (length ss) i = subst (AreHomes homes first (length ss)) (let z : 0 + i ≡ i = omega arith in z) (housed_at settings homes 0 fs es i e housed there) in
     let none = none_passing m first (length ss) index (λ id h l. out (adds id i h (home_there homes first (length ss) i id own l))) in
@@ -178,15 +178,15 @@ no_ids q wanted settings m homes fs es index places i e housed same adds there o
     let all = own_pass q wanted m first (length ss) first ss (omega arith) (omega arith) in
     omega (arith, none, whole, split, all)
 
-empty : (ss : List Source) → length ss ≡ 0 → ss ≡ []
+empty : (ss : List EntryStamp) → length ss ≡ 0 → ss ≡ []
 empty [] none = refl
 empty (s ∷ ss) none = absurd (omega (arith, none))
 
-pub hold_near : (a : Asked) (x : StampIndex) (one two : BTreeSet ℕ) → x.profile ≡ a.standpoint.profile → AddHomes x.homes.items (candidate_ids a.from a.to a.standpoint.today x.pressing) one → KeepPlaces one two → AddHomes x.homes.items (touching_ids a.from a.to x.others) two →
+pub hold_near : (a : Asked) (x : StampIndex) (one two : BTreeSet ℕ) → x.profile ≡ a.profile → AddHomes x.homes.items (candidate_ids a.from a.to a.today x.pressing) one → KeepPlaces one two → AddHomes x.homes.items (touching_ids a.from a.to x.others) two →
     (settings : FileSettings) (es : List Entry) → IsIndexOf settings es x → HoldNear a settings es two
 hold_near a x one two same first keeps second settings es is i e there out =
-    let q = a.standpoint.profile in
-    let ss = bare_stamps settings e in
+    let q = a.profile in
+    let ss = active_stamps settings e in
     let f = get_or x.firsts.items i 0 in
     let pressing : HaveSame (all_ids q is_pressing settings x.firsts.items es) x.pressing = λ w. ap (λ p. sum_by w (all_ids p is_pressing settings x.firsts.items es)) (sym same) ∙ is.pressing w in
     let others : HaveSame (all_ids q is_waiting settings x.firsts.items es) x.others = λ w. ap (λ p. sum_by w (all_ids p is_waiting settings x.firsts.items es)) (sym same) ∙ is.others w in

@@ -9,8 +9,8 @@ use Rattle.std.proofs.lemmas.List.Sums.{sum_by-cons, sum_by-append}
 use Rattle.org_base.specs.declared.profile.Profile.{Profile}
 use Rattle.org_index.specs.Extents.{extent_of}
 use Rattle.org_index.specs.declared.extent.Extent.{Extent}
-use Rattle.org_agenda.specs.Near.{is_pressing}
-use Rattle.org_agenda.specs.declared.source.Source.{Source}
+use Rattle.org_dated.specs.Asked.{is_pressing}
+use Rattle.org_entry.specs.declared.active.EntryStamp.{EntryStamp}
 use Rattle.org_dated.specs.Index.{AreBelow, AreFresh, HasPut, HaveSame, ids_of, is_waiting}
 use Rattle.org_dated.specs.declared.index.StampIndex.{StampIndex}
 use Rattle.org_dated.proofs.SumLemmas.{below_insert, below_more, sum_ids_append, sum_insert}
@@ -33,8 +33,8 @@ put_none place x fresh = record {
 }
 
 -- the ids of stamps and of one more, before what was there
-module _ (q : Profile) (wanted : Source → Bool) where
-  ids_more : (id next : ℕ) (ss : List Source) (s : Source) (old mid new : List (ℕ × Extent)) → next ≡ id + length ss →
+module _ (q : Profile) (wanted : EntryStamp → Bool) where
+  ids_more : (id next : ℕ) (ss : List EntryStamp) (s : EntryStamp) (old mid new : List (ℕ × Extent)) → next ≡ id + length ss →
       HaveSame (ids_of q wanted id ss ++ old) mid → HaveSame (ids_of q wanted next (s ∷ []) ++ mid) new → HaveSame (ids_of q wanted id (ss ++ s ∷ []) ++ old) new
   ids_more id next ss s old mid new is first second weight =
       let whole = sum_by-append weight (ids_of q wanted id (ss ++ s ∷ [])) old in
@@ -53,7 +53,7 @@ length_replicate zero place = refl
 length_replicate (suc n) place = let more = length_replicate n place in omega (arith, more)
 
 -- stamps were put in, and one more
-pub put_more : (place : ℕ) (ss : List Source) (s : Source) (a b c : StampIndex) → HasPut place ss a b → HasPut place (s ∷ []) b c → HasPut place (ss ++ s ∷ []) a c
+pub put_more : (place : ℕ) (ss : List EntryStamp) (s : EntryStamp) (a b c : StampIndex) → HasPut place ss a b → HasPut place (s ∷ []) b c → HasPut place (ss ++ s ∷ []) a c
 put_more place ss s a b c first second =
     let count : length b.homes.items ≡ length a.homes.items + length ss =
     ap length first.homes ∙ length-append a.homes.items (replicate (length ss) place) ∙ ap (λ n. length a.homes.items + n) (length_replicate (length ss) place) in
@@ -73,11 +73,11 @@ put_more place ss s a b c first second =
     }
 
 -- one of some stamps more
-pub put_taken : (place : ℕ) (all : List Source) (i : ℕ) (s : Source) (a b c : StampIndex) → i < length all → s ≡ get_or all i s → HasPut place (take i all) a b → HasPut place (s ∷ []) b c → HasPut place (take (i + 1) all) a c
+pub put_taken : (place : ℕ) (all : List EntryStamp) (i : ℕ) (s : EntryStamp) (a b c : StampIndex) → i < length all → s ≡ get_or all i s → HasPut place (take i all) a b → HasPut place (s ∷ []) b c → HasPut place (take (i + 1) all) a c
 put_taken place all i s a b c lt at first second =
     subst (λ ss. HasPut place ss a c) (sym (take_more all i s lt ∙ ap (λ y. take i all ++ y ∷ []) (sym at))) (put_more place (take i all) s a b c first second)
 
-pub put_whole : (place : ℕ) (all : List Source) (i : ℕ) (a b : StampIndex) → length all ≤ i → HasPut place (take i all) a b → HasPut place all a b
+pub put_whole : (place : ℕ) (all : List EntryStamp) (i : ℕ) (a b : StampIndex) → length all ≤ i → HasPut place (take i all) a b → HasPut place all a b
 put_whole place all i a b le put = subst (λ ss. HasPut place ss a b) (take_all i all le) put
 
 pub on_ok : {T E : Type 0} (r : Result T E) (P Q : Type 0) → (P → Q) → OnOk r P → OnOk r Q
@@ -85,7 +85,7 @@ on_ok (Ok v) P Q f p = f p
 on_ok (Err e) P Q f p = tt
 
 -- one stamp was put in, into the index of its kind
-module _ (place : ℕ) (s : Source) (x y : StampIndex) (fresh : AreFresh x)
+module _ (place : ℕ) (s : EntryStamp) (x y : StampIndex) (fresh : AreFresh x)
     (homes : y.homes.items ≡ x.homes.items ++ place ∷ []) (firsts : y.firsts.items ≡ x.firsts.items) (profile : y.profile ≡ x.profile) (settings : y.settings.value ≡ x.settings.value) (few : length x.homes.items < 2 ^ 32) where
   abbrev next : ℕ
   next = length x.homes.items
@@ -101,12 +101,12 @@ module _ (place : ℕ) (s : Source) (x y : StampIndex) (fresh : AreFresh x)
   put_below : (ps qs : List (ℕ × Extent)) → qs ≡ insert_entry nat_cmp ps next (extent_of x.profile s.stamp) → AreBelow next ps → AreBelow (length y.homes.items) qs
   put_below ps qs is below = subst (λ n. AreBelow n qs) (sym longer) (subst (AreBelow (next + 1)) (sym is) (below_insert next (extent_of x.profile s.stamp) ps below))
 
-  wanted_same : (wanted : Source → Bool) (ps qs : List (ℕ × Extent)) → wanted s ≡ true → qs ≡ insert_entry nat_cmp ps next (extent_of x.profile s.stamp) → AreBelow next ps → HaveSame (ids_of x.profile wanted next (s ∷ []) ++ ps) qs
+  wanted_same : (wanted : EntryStamp → Bool) (ps qs : List (ℕ × Extent)) → wanted s ≡ true → qs ≡ insert_entry nat_cmp ps next (extent_of x.profile s.stamp) → AreBelow next ps → HaveSame (ids_of x.profile wanted next (s ∷ []) ++ ps) qs
   wanted_same wanted ps qs wants is below weight =
       let one : ids_of x.profile wanted next (s ∷ []) ≡ (next, extent_of x.profile s.stamp) ∷ [] = rw wants refl in
       ap (λ xs. sum_by weight (xs ++ ps)) one ∙ same_put next (extent_of x.profile s.stamp) ps below weight ∙ ap (sum_by weight) (sym is)
 
-  other_same : (wanted : Source → Bool) (ps qs : List (ℕ × Extent)) → wanted s ≡ false → qs ≡ ps → HaveSame (ids_of x.profile wanted next (s ∷ []) ++ ps) qs
+  other_same : (wanted : EntryStamp → Bool) (ps qs : List (ℕ × Extent)) → wanted s ≡ false → qs ≡ ps → HaveSame (ids_of x.profile wanted next (s ∷ []) ++ ps) qs
   other_same wanted ps qs wants is weight =
       let none : ids_of x.profile wanted next (s ∷ []) ≡ [] = rw wants refl in
       ap (λ xs. sum_by weight (xs ++ ps)) none ∙ ap (sum_by weight) (sym is)

@@ -14,9 +14,9 @@ use Rattle.org_base.specs.declared.profile.Profile.{Profile}
 use Rattle.org_entry.specs.declared.entry.Entry.{Entry}
 use Rattle.org_index.specs.declared.extent.Extent.{Extent}
 use Rattle.org_settings.specs.Settings.{FileSettings}
-use Rattle.org_agenda.specs.Bare.{bare_stamps}
-use Rattle.org_agenda.specs.Near.{is_pressing}
-use Rattle.org_agenda.specs.declared.source.Source.{Source}
+use Rattle.org_entry.specs.Active.{active_stamps}
+use Rattle.org_dated.specs.Asked.{is_pressing}
+use Rattle.org_entry.specs.declared.active.EntryStamp.{EntryStamp}
 use Rattle.org_dated.specs.Index.{AreBelow, AreFresh, AreHomes, AreHoused, ArePut, AreTaken, HasPut, HasTaken, HaveSame, IsIndexOf, IsReplaced, LeavesRest, Stay, all_ids, behind_in, ids_of, is_waiting, moved}
 use Rattle.org_dated.specs.declared.index.StampIndex.{StampIndex}
 use Rattle.org_dated.proofs.SumLemmas.{below_behind, below_same}
@@ -104,7 +104,7 @@ module _ (by : FileSettings) where
   housed_led old new i k (f ∷ fs) (e ∷ es) l h =
       let here : i + 0 ≡ i = omega arith in
       let there : k + 0 ≡ k = omega arith in
-      let own : AreHomes new f (length (bare_stamps by e)) k =
+      let own : AreHomes new f (length (active_stamps by e)) k =
       (omega (arith, h.0.0, l.long), λ j lt. l.same (f + j) 0 (omega arith) (h.0.1 j lt ∙ ap Some (sym here)) ∙ ap Some there) in
       let rest : Leads old new (i + 1) (k + 1) (length es) =
       record {
@@ -134,15 +134,15 @@ module _ (by : FileSettings) where
   housed_drop homes i (suc n) (f ∷ fs) [] h = absurd h
   housed_drop homes i (suc n) (f ∷ fs) (e ∷ es) h = subst (λ m. AreHoused by homes m (drop n fs) (drop n es)) (let w : i + 1 + n ≡ i + suc n = omega arith in w) (housed_drop homes (i + 1) n fs es h.1)
 
-  module _ (q : Profile) (wanted : Source → Bool) where
+  module _ (q : Profile) (wanted : EntryStamp → Bool) where
     sum_all_append : (weight : ℕ × Extent → ℕ) (fs gs : List ℕ) (es ds : List Entry) → length fs ≡ length es →
         sum_by weight (all_ids q wanted by (fs ++ gs) (es ++ ds)) ≡ sum_by weight (all_ids q wanted by fs es) + sum_by weight (all_ids q wanted by gs ds)
     sum_all_append weight [] gs [] ds long = omega arith
     sum_all_append weight [] gs (e ∷ es) ds long = absurd (omega (arith, long))
     sum_all_append weight (f ∷ fs) gs [] ds long = absurd (omega (arith, long))
     sum_all_append weight (f ∷ fs) gs (e ∷ es) ds long =
-        let one = sum_by-append weight (ids_of q wanted f (bare_stamps by e)) (all_ids q wanted by (fs ++ gs) (es ++ ds)) in
-        let two = sum_by-append weight (ids_of q wanted f (bare_stamps by e)) (all_ids q wanted by fs es) in
+        let one = sum_by-append weight (ids_of q wanted f (active_stamps by e)) (all_ids q wanted by (fs ++ gs) (es ++ ds)) in
+        let two = sum_by-append weight (ids_of q wanted f (active_stamps by e)) (all_ids q wanted by fs es) in
         omega (arith, one, two, sum_all_append weight fs gs es ds (omega (arith, long)))
 
     -- the ids of all entries but those in a range
@@ -191,9 +191,9 @@ module _ (by : FileSettings) where
 
     -- one entry's stamps more are taken out
     taken_more : (f : ℕ) (fs : List ℕ) (e : Entry) (es : List Entry) (old mid new : List (ℕ × Extent)) → length fs ≡ length es →
-        LeavesRest (all_ids q wanted by fs es) old mid → LeavesRest (ids_of q wanted f (bare_stamps by e)) mid new → LeavesRest (all_ids q wanted by (fs ++ f ∷ []) (es ++ e ∷ [])) old new
+        LeavesRest (all_ids q wanted by fs es) old mid → LeavesRest (ids_of q wanted f (active_stamps by e)) mid new → LeavesRest (all_ids q wanted by (fs ++ f ∷ []) (es ++ e ∷ [])) old new
     taken_more f fs e es old mid new long first second rest had =
-        let own = ids_of q wanted f (bare_stamps by e) in
+        let own = ids_of q wanted f (active_stamps by e) in
         let gone = all_ids q wanted by fs es in
         second rest (first (own ++ rest) (λ w.
         let whole = sum_by-append w (all_ids q wanted by (fs ++ f ∷ []) (es ++ e ∷ [])) rest in
@@ -205,12 +205,12 @@ module _ (by : FileSettings) where
 
     -- one entry's stamps more are put in
     put_more : (f : ℕ) (fs : List ℕ) (e : Entry) (es : List Entry) (old mid new : List (ℕ × Extent)) → length fs ≡ length es →
-        HaveSame (all_ids q wanted by fs es ++ old) mid → HaveSame (ids_of q wanted f (bare_stamps by e) ++ mid) new → HaveSame (all_ids q wanted by (fs ++ f ∷ []) (es ++ e ∷ []) ++ old) new
+        HaveSame (all_ids q wanted by fs es ++ old) mid → HaveSame (ids_of q wanted f (active_stamps by e) ++ mid) new → HaveSame (all_ids q wanted by (fs ++ f ∷ []) (es ++ e ∷ []) ++ old) new
     put_more f fs e es old mid new long first second w =
         let whole = sum_by-append w (all_ids q wanted by (fs ++ f ∷ []) (es ++ e ∷ [])) old in
         let split = sum_push by q wanted w fs es f e long in
         let one : sum_by w (all_ids q wanted by fs es) + sum_by w old ≡ sum_by w mid = sym (sum_by-append w (all_ids q wanted by fs es) old) ∙ first w in
-        let two : sum_by w (ids_of q wanted f (bare_stamps by e)) + sum_by w mid ≡ sum_by w new = sym (sum_by-append w (ids_of q wanted f (bare_stamps by e)) mid) ∙ second w in
+        let two : sum_by w (ids_of q wanted f (active_stamps by e)) + sum_by w mid ≡ sum_by w new = sym (sum_by-append w (ids_of q wanted f (active_stamps by e)) mid) ∙ second w in
         omega (arith, whole, split, one, two)
 
   -- nothing was taken out
@@ -218,14 +218,14 @@ module _ (by : FileSettings) where
   taken_none x = record { homes = refl; firsts = refl; profile = refl; settings = refl; pressing = λ rest had. had; others = λ rest had. had }
 
   -- the stamps of one entry more were taken out
-  pub taken_entry : (es : List Entry) (fs : List ℕ) (e : Entry) (f : ℕ) (x a b : StampIndex) → length fs ≡ length es → AreTaken by es fs x a → HasTaken f (bare_stamps by e) a b → AreTaken by (es ++ e ∷ []) (fs ++ f ∷ []) x b
+  pub taken_entry : (es : List Entry) (fs : List ℕ) (e : Entry) (f : ℕ) (x a b : StampIndex) → length fs ≡ length es → AreTaken by es fs x a → HasTaken f (active_stamps by e) a b → AreTaken by (es ++ e ∷ []) (fs ++ f ∷ []) x b
   taken_entry es fs e f x a b long first second = record {
     homes = second.homes ∙ first.homes;
     firsts = second.firsts ∙ first.firsts;
     profile = second.profile ∙ first.profile;
     settings = second.settings ∙ first.settings;
-    pressing = taken_more x.profile is_pressing f fs e es x.pressing a.pressing b.pressing long first.pressing (subst (λ q. LeavesRest (ids_of q is_pressing f (bare_stamps by e)) a.pressing b.pressing) first.profile second.pressing);
-    others = taken_more x.profile is_waiting f fs e es x.others a.others b.others long first.others (subst (λ q. LeavesRest (ids_of q is_waiting f (bare_stamps by e)) a.others b.others) first.profile second.others);
+    pressing = taken_more x.profile is_pressing f fs e es x.pressing a.pressing b.pressing long first.pressing (subst (λ q. LeavesRest (ids_of q is_pressing f (active_stamps by e)) a.pressing b.pressing) first.profile second.pressing);
+    others = taken_more x.profile is_waiting f fs e es x.others a.others b.others long first.others (subst (λ q. LeavesRest (ids_of q is_waiting f (active_stamps by e)) a.others b.others) first.profile second.others);
   }
 
   -- nothing was put in
@@ -243,10 +243,10 @@ module _ (by : FileSettings) where
   }
 
   -- the stamps of one entry more were put in
-  pub put_entry : (place at : ℕ) (es : List Entry) (fs : List ℕ) (e : Entry) (x a b : StampIndex) → at ≡ place + length es → ArePut by place es fs x a → HasPut at (bare_stamps by e) a b →
+  pub put_entry : (place at : ℕ) (es : List Entry) (fs : List ℕ) (e : Entry) (x a b : StampIndex) → at ≡ place + length es → ArePut by place es fs x a → HasPut at (active_stamps by e) a b →
       ArePut by place (es ++ e ∷ []) (fs ++ length a.homes.items ∷ []) x b
   put_entry place at es fs e x a b is first second =
-      let count = length (bare_stamps by e) in
+      let count = length (active_stamps by e) in
       let long = housed_long by a.homes.items place fs es first.housed in
       let stay : Stay a.homes.items b.homes.items =
       record {
@@ -264,8 +264,8 @@ module _ (by : FileSettings) where
         settings = second.settings ∙ first.settings;
         few = λ le. second.few (first.few le);
         fresh = second.fresh;
-        pressing = put_more x.profile is_pressing (length a.homes.items) fs e es x.pressing a.pressing b.pressing long first.pressing (subst (λ q. HaveSame (ids_of q is_pressing (length a.homes.items) (bare_stamps by e) ++ a.pressing) b.pressing) first.profile second.pressing);
-        others = put_more x.profile is_waiting (length a.homes.items) fs e es x.others a.others b.others long first.others (subst (λ q. HaveSame (ids_of q is_waiting (length a.homes.items) (bare_stamps by e) ++ a.others) b.others) first.profile second.others);
+        pressing = put_more x.profile is_pressing (length a.homes.items) fs e es x.pressing a.pressing b.pressing long first.pressing (subst (λ q. HaveSame (ids_of q is_pressing (length a.homes.items) (active_stamps by e) ++ a.pressing) b.pressing) first.profile second.pressing);
+        others = put_more x.profile is_waiting (length a.homes.items) fs e es x.others a.others b.others long first.others (subst (λ q. HaveSame (ids_of q is_waiting (length a.homes.items) (active_stamps by e) ++ a.others) b.others) first.profile second.others);
       }
 
   -- behind some entries' stamps were taken out the next id was never given

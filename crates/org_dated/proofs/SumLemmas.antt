@@ -12,7 +12,7 @@ use Rattle.std.proofs.lemmas.List.Sums.{sum_by-cons}
 use Rattle.org_base.specs.declared.profile.Profile.{Profile}
 use Rattle.org_index.specs.Extents.{extent_of}
 use Rattle.org_index.specs.declared.extent.Extent.{Extent}
-use Rattle.org_agenda.specs.declared.source.Source.{Source}
+use Rattle.org_entry.specs.declared.active.EntryStamp.{EntryStamp}
 use Rattle.org_dated.specs.Index.{AreBelow, HaveSame, ids_of}
 
 -- a weight for what isn't less than a number
@@ -76,9 +76,9 @@ pub below_insert : (n : ℕ) (e : Extent) (ps : List (ℕ × Extent)) → AreBel
 below_insert n e [] below = (omega arith, tt)
 below_insert n e (p ∷ ps) below = subst (AreBelow (n + 1)) (sym (insert_last n e p ps below.0)) (omega (arith, below.0), below_insert n e ps below.1)
 
-module _ (q : Profile) (wanted : Source → Bool) (weight : ℕ × Extent → ℕ) where
+module _ (q : Profile) (wanted : EntryStamp → Bool) (weight : ℕ × Extent → ℕ) where
   -- the ids of stamps, and behind them those of others
-  pub sum_ids_append : (id : ℕ) (xs ys : List Source) → sum_by weight (ids_of q wanted id (xs ++ ys)) ≡ sum_by weight (ids_of q wanted id xs) + sum_by weight (ids_of q wanted (id + length xs) ys)
+  pub sum_ids_append : (id : ℕ) (xs ys : List EntryStamp) → sum_by weight (ids_of q wanted id (xs ++ ys)) ≡ sum_by weight (ids_of q wanted id xs) + sum_by weight (ids_of q wanted (id + length xs) ys)
   sum_ids_append id [] ys = let same = ap (λ n. sum_by weight (ids_of q wanted n ys)) (let e : id ≡ id + 0 = omega arith in e) in omega (arith, same)
   sum_ids_append id (x ∷ xs) ys =
       let more : sum_by weight (ids_of q wanted (id + 1) (xs ++ ys)) ≡ sum_by weight (ids_of q wanted (id + 1) xs) + sum_by weight (ids_of q wanted (id + suc (length xs)) ys) =

@@ -14,7 +14,7 @@ use Rattle.org_base.specs.declared.profile.Profile.{Profile}
 use Rattle.org_index.specs.Extents.{extent_of}
 use Rattle.org_index.specs.declared.extent.Extent.{Extent}
 use Rattle.org_index.proofs.CandidateLemmas.{Rise, rises}
-use Rattle.org_agenda.specs.declared.source.Source.{Source}
+use Rattle.org_entry.specs.declared.active.EntryStamp.{EntryStamp}
 use Rattle.org_dated.specs.Index.{HaveSame, LeavesRest, ids_of}
 
 own_id : (z : ℕ) → is_at (nat_cmp z) z ≡ true
@@ -97,24 +97,24 @@ same_taken id e rest ps up same weight =
     omega (arith, whole, alike, parts weight id ps)
 
 -- of some stamps one is taken out after the other
-module _ (q : Profile) (wanted : Source → Bool) where
+module _ (q : Profile) (wanted : EntryStamp → Bool) where
   -- so much is left to be taken out
-  abbrev pub IsLeft : ℕ → List Source → ℕ → List (ℕ × Extent) → List (ℕ × Extent) → Type 0
+  abbrev pub IsLeft : ℕ → List EntryStamp → ℕ → List (ℕ × Extent) → List (ℕ × Extent) → Type 0
   IsLeft first all i old new = (rest : List (ℕ × Extent)) → HaveSame (ids_of q wanted first all ++ rest) old → HaveSame (ids_of q wanted (first + i) (drop i all) ++ rest) new
 
-  pub left_all : (first : ℕ) (all : List Source) (old : List (ℕ × Extent)) → IsLeft first all 0 old old
+  pub left_all : (first : ℕ) (all : List EntryStamp) (old : List (ℕ × Extent)) → IsLeft first all 0 old old
   left_all first all old rest same = subst (λ n. HaveSame (ids_of q wanted n all ++ rest) old) (let e : first ≡ first + 0 = omega arith in e) same
 
-  pub left_none : (first : ℕ) (all : List Source) (i : ℕ) (old new : List (ℕ × Extent)) → length all ≤ i → IsLeft first all i old new → LeavesRest (ids_of q wanted first all) old new
+  pub left_none : (first : ℕ) (all : List EntryStamp) (i : ℕ) (old new : List (ℕ × Extent)) → length all ≤ i → IsLeft first all i old new → LeavesRest (ids_of q wanted first all) old new
   left_none first all i old new le left rest same = subst (λ ss. HaveSame (ids_of q wanted (first + i) ss ++ rest) new) (drop_all i all le) (left rest same)
 
-  next_is : (first i : ℕ) (all : List Source) (s : Source) → i < length all → s ≡ get_or all i s → drop i all ≡ s ∷ drop (i + 1) all
+  next_is : (first i : ℕ) (all : List EntryStamp) (s : EntryStamp) → i < length all → s ≡ get_or all i s → drop i all ≡ s ∷ drop (i + 1) all
   next_is first i all s lt at = drop_more all i s lt ∙ ap (λ y. y ∷ drop (i + 1) all) (sym at)
 
   after_is : (first i : ℕ) → first + i + 1 ≡ first + (i + 1)
   after_is first i = omega arith
 
-  pub left_less : (first i id : ℕ) (all : List Source) (s : Source) (old mid : List (ℕ × Extent)) → i < length all → s ≡ get_or all i s → id ≡ first + i → wanted s ≡ true → IsStrictlySortedBy nat_cmp (keys_of mid) →
+  pub left_less : (first i id : ℕ) (all : List EntryStamp) (s : EntryStamp) (old mid : List (ℕ × Extent)) → i < length all → s ≡ get_or all i s → id ≡ first + i → wanted s ≡ true → IsStrictlySortedBy nat_cmp (keys_of mid) →
       IsLeft first all i old mid → IsLeft first all (i + 1) old (remove_entry (is_at (nat_cmp id)) mid)
   left_less first i id all s old mid lt at is wants up left rest same =
       let had : HaveSame (ids_of q wanted (first + i) (s ∷ drop (i + 1) all) ++ rest) mid = subst (λ ss. HaveSame (ids_of q wanted (first + i) ss ++ rest) mid) (next_is first i all s lt at) (left rest same) in
@@ -124,7 +124,7 @@ module _ (q : Profile) (wanted : Source → Bool) where
       (subst (λ n. HaveSame (ids_of q wanted (first + i + 1) (drop (i + 1) all) ++ rest) (remove_entry (is_at (nat_cmp n)) mid)) (sym is)
       (same_taken (first + i) (extent_of q s.stamp) (ids_of q wanted (first + i + 1) (drop (i + 1) all) ++ rest) mid up one))
 
-  pub left_over : (first i : ℕ) (all : List Source) (s : Source) (old mid : List (ℕ × Extent)) → i < length all → s ≡ get_or all i s → wanted s ≡ false → IsLeft first all i old mid → IsLeft first all (i + 1) old mid
+  pub left_over : (first i : ℕ) (all : List EntryStamp) (s : EntryStamp) (old mid : List (ℕ × Extent)) → i < length all → s ≡ get_or all i s → wanted s ≡ false → IsLeft first all i old mid → IsLeft first all (i + 1) old mid
   left_over first i all s old mid lt at wants left rest same =
       let had : HaveSame (ids_of q wanted (first + i) (s ∷ drop (i + 1) all) ++ rest) mid = subst (λ ss. HaveSame (ids_of q wanted (first + i) ss ++ rest) mid) (next_is first i all s lt at) (left rest same) in
       let split : ids_of q wanted (first + i) (s ∷ drop (i + 1) all) ≡ ids_of q wanted (first + i + 1) (drop (i + 1) all) = rw wants refl in

@@ -1,13 +1,20 @@
--- Which stamps are near the days that are asked (profile).
-use Rattle.std.specs.Prelude.{Bool, List}
-use Rattle.org_agenda.specs.Near.{is_near, near_sources}
-use Rattle.org_agenda.specs.declared.source.Source.{Source}
+-- Which stamps of entries are near the days that are asked (profile; delays and warnings as in Org manual 9.6, "Deadlines
+-- and Scheduling").
+use Rattle.std.specs.Prelude.{Bool, ◌&&◌, ◌||◌, List, filter}
+use Rattle.org_entry.specs.Active.{is_planned}
+use Rattle.org_entry.specs.declared.active.EntryStamp.{EntryStamp}
+use Rattle.org_index.specs.Extents.{extent_of}
+use Rattle.org_index.specs.Near.{touches, warns}
 use Rattle.org_dated.specs.declared.asked.Asked.{Asked}
 
--- the stamp is near the days that are asked
-abbrev pub is_asked : Asked → Source → Bool
-is_asked a s = is_near a.standpoint.profile a.from a.to a.standpoint.today s
+-- it stands in the planning line of a heading without a done keyword
+abbrev pub is_pressing : EntryStamp → Bool
+is_pressing s = is_planned s.role && s.is_open
+
+-- the stamp is near the days that are asked: it touches them, or it warns or is late today, and today is one of them
+abbrev pub is_asked : Asked → EntryStamp → Bool
+is_asked a s = touches a.from a.to (extent_of a.profile s.stamp) || (is_pressing s && warns a.from a.to a.today (extent_of a.profile s.stamp))
 
 -- of some stamps those that are near
-abbrev pub asked_of : Asked → List Source → List Source
-asked_of a sources = near_sources a.standpoint.profile a.from a.to a.standpoint.today sources
+abbrev pub asked_of : Asked → List EntryStamp → List EntryStamp
+asked_of a stamps = filter (is_asked a) stamps

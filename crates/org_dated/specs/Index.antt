@@ -6,26 +6,26 @@ use Rattle.org_entry.specs.declared.entry.Entry.{Entry}
 use Rattle.org_index.specs.Extents.{extent_of}
 use Rattle.org_index.specs.declared.extent.Extent.{Extent}
 use Rattle.org_settings.specs.Settings.{FileSettings}
-use Rattle.org_agenda.specs.Bare.{bare_stamps}
-use Rattle.org_agenda.specs.Near.{is_pressing}
-use Rattle.org_agenda.specs.declared.source.Source.{Source}
+use Rattle.org_entry.specs.Active.{active_stamps}
+use Rattle.org_dated.specs.Asked.{is_pressing}
+use Rattle.org_entry.specs.declared.active.EntryStamp.{EntryStamp}
 use Rattle.org_dated.specs.declared.index.StampIndex.{StampIndex}
 
 -- a stamp that doesn't press
-abbrev pub is_waiting : Source → Bool
+abbrev pub is_waiting : EntryStamp → Bool
 is_waiting s = not (is_pressing s)
 
 -- the stamps that are wanted, by ids that go up by one with each stamp from a first one on, each as what decides to which days
 -- it may matter
-abbrev pub ids_of : Profile → (Source → Bool) → ℕ → List Source → List (ℕ × Extent)
+abbrev pub ids_of : Profile → (EntryStamp → Bool) → ℕ → List EntryStamp → List (ℕ × Extent)
 ids_of p wanted id [] = []
 ids_of p wanted id (s ∷ ss) = if wanted s then (id, extent_of p s.stamp) ∷ ids_of p wanted (id + 1) ss else ids_of p wanted (id + 1) ss
 
 -- the same of entries, with the first id of each
-abbrev pub all_ids : Profile → (Source → Bool) → FileSettings → List ℕ → List Entry → List (ℕ × Extent)
+abbrev pub all_ids : Profile → (EntryStamp → Bool) → FileSettings → List ℕ → List Entry → List (ℕ × Extent)
 all_ids p wanted settings [] es = []
 all_ids p wanted settings (first ∷ firsts) [] = []
-all_ids p wanted settings (first ∷ firsts) (e ∷ es) = ids_of p wanted first (bare_stamps settings e) ++ all_ids p wanted settings firsts es
+all_ids p wanted settings (first ∷ firsts) (e ∷ es) = ids_of p wanted first (active_stamps settings e) ++ all_ids p wanted settings firsts es
 
 -- two lists have the same items, in whatever order: any weight of them adds up to the same
 abbrev pub HaveSame : List (ℕ × Extent) → List (ℕ × Extent) → Type 0
@@ -46,7 +46,7 @@ AreHoused settings homes place [] [] = Unit {0}
 AreHoused settings homes place [] (e ∷ es) = ⊥
 AreHoused settings homes place (first ∷ firsts) [] = ⊥
 AreHoused settings homes place (first ∷ firsts) (e ∷ es) =
-    AreHomes homes first (length (bare_stamps settings e)) place × AreHoused settings homes (place + 1) firsts es
+    AreHomes homes first (length (active_stamps settings e)) place × AreHoused settings homes (place + 1) firsts es
 
 -- the indexes have the stamps of entries that a file with these settings says
 pub record IsIndexOf (settings : FileSettings) (es : List Entry) (x : StampIndex) : Type 0 where
@@ -66,7 +66,7 @@ pub record AreFresh (x : StampIndex) : Type 0 where
   pub others : AreBelow (length x.homes.items) x.others
 
 -- stamps of the heading at a place were put in, under the next ids
-pub record HasPut (place : ℕ) (stamps : List Source) (old new : StampIndex) : Type 0 where
+pub record HasPut (place : ℕ) (stamps : List EntryStamp) (old new : StampIndex) : Type 0 where
   pub homes : new.homes.items ≡ old.homes.items ++ replicate (length stamps) place
   pub firsts : new.firsts.items ≡ old.firsts.items
   pub profile : new.profile ≡ old.profile
@@ -81,7 +81,7 @@ abbrev pub LeavesRest : List (ℕ × Extent) → List (ℕ × Extent) → List (
 LeavesRest items old new = (rest : List (ℕ × Extent)) → HaveSame (items ++ rest) old → HaveSame rest new
 
 -- stamps with the ids from a first one on were taken out
-pub record HasTaken (first : ℕ) (stamps : List Source) (old new : StampIndex) : Type 0 where
+pub record HasTaken (first : ℕ) (stamps : List EntryStamp) (old new : StampIndex) : Type 0 where
   pub homes : new.homes.items ≡ old.homes.items
   pub firsts : new.firsts.items ≡ old.firsts.items
   pub profile : new.profile ≡ old.profile

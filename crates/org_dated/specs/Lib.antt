@@ -2,4 +2,3 @@ pub mod Asked
 pub mod Held
 pub mod Index
 pub mod Near
-pub mod Stamps

@@ -1,16 +1,13 @@
 -- The headings that own a stamp near the days that are asked (profile).
-use Rattle.std.specs.Prelude.{◌≡◌, ℕ, List, [], Option, None, Some, IsTrue, Contains, length, slice_get}
+use Rattle.std.specs.Prelude.{◌≡◌, ℕ, List, [], Some, IsTrue, Contains, length, slice_get}
 use Rattle.std.specs.BTreeSet.{BTreeSet, contains}
 use Rattle.std.specs.List.{sum_by}
 use Rattle.std.specs.Ordering.{nat_cmp}
 use Rattle.org_base.specs.Counts.{Counts}
 use Rattle.org_entry.specs.declared.entry.Entry.{Entry}
 use Rattle.org_index.specs.Ticks.{examined}
-use Rattle.org_inherit.specs.Scope.{Scope}
 use Rattle.org_settings.specs.Settings.{FileSettings}
-use Rattle.org_agenda.specs.Bare.{bare_stamps}
-use Rattle.org_agenda.specs.Sources.{file_sources, sources_at}
-use Rattle.org_agenda.specs.declared.source.Source.{Source}
+use Rattle.org_entry.specs.Active.{active_stamps}
 use Rattle.org_dated.specs.Asked.{asked_of}
 use Rattle.org_dated.specs.Index.{IsIndexOf}
 use Rattle.org_dated.specs.declared.asked.Asked.{Asked}
@@ -23,11 +20,11 @@ HasPlace places i = IsTrue (contains nat_cmp places i)
 -- an entry whose place isn't in the set has no stamp that is near
 abbrev pub HoldNear : Asked → FileSettings → List Entry → BTreeSet ℕ → Type 0
 HoldNear a settings es places =
-    (i : ℕ) (e : Entry) → slice_get es i ≡ Some e → (HasPlace places i → ⊥) → asked_of a (bare_stamps settings e) ≡ []
+    (i : ℕ) (e : Entry) → slice_get es i ≡ Some e → (HasPlace places i → ⊥) → asked_of a (active_stamps settings e) ≡ []
 
 -- how many stamps of an entry are near
 abbrev pub near_of_entry : Asked → FileSettings → Entry → ℕ
-near_of_entry a settings e = length (asked_of a (bare_stamps settings e))
+near_of_entry a settings e = length (asked_of a (active_stamps settings e))
 
 -- how many stamps of entries are near
 abbrev pub near_in : Asked → FileSettings → List Entry → ℕ
@@ -55,20 +52,3 @@ AddsHome homes id new = (i : ℕ) → slice_get homes id ≡ Some i → HasPlace
 -- the places of these ids are there
 abbrev pub AddHomes : List ℕ → List ℕ → BTreeSet ℕ → Type 0
 AddHomes homes ids new = (id i : ℕ) → Contains ids id → slice_get homes id ≡ Some i → HasPlace new i
-
--- the stamps of an entry of a file, if it is there
-abbrev pub sources_if : Scope → ℕ → ℕ → Option Entry → List Source
-sources_if scope file i None = []
-sources_if scope file i (Some e) = sources_at scope file i e
-
--- of the entry at a place of a file those that are near
-abbrev pub asked_in : Asked → Scope → ℕ → ℕ → List Source
-asked_in a scope file i = asked_of a (sources_if scope file i (slice_get scope.entries i))
-
--- those of a file
-abbrev pub asked_of_file : Asked → Scope → ℕ → List Source
-asked_of_file a scope file = asked_of a (file_sources scope file)
-
--- a heading whose place isn't in the set has no stamp that is near
-abbrev pub HoldAskedIn : Asked → BTreeSet ℕ → ℕ → Scope → Type 0
-HoldAskedIn a places file scope = (i : ℕ) → (HasPlace places i → ⊥) → asked_in a scope file i ≡ []

@@ -1,36 +1,26 @@
-//! The days that an agenda asks for.
+//! The days that are asked for.
 ghost use Rattle.std.specs.Prelude.{◌≡◌};
-ghost use Rattle.org_agenda.specs.Near.{is_pressing};
-ghost use Rattle.org_dated.specs.Asked.{is_asked};
+ghost use Rattle.org_dated.specs.Asked.{is_pressing};
 
-use org_agenda::{Role, Source, Standpoint};
+use org_base::Profile;
 use org_cal::Day;
-use org_index::Extent;
+use org_entry::{EntryStamp, Role};
 
-/// The days from one to another, and how stamps are looked at.
-#[derive(Clone, Copy)]
-pub(crate) struct Asked {
-    pub(crate) standpoint: Standpoint,
-    pub(crate) from: Day,
-    pub(crate) to: Day,
-}
-
-// Whether a stamp is near the days.
-pub(crate) fn is_near(source: &Source, asked: &Asked) -> bool
-    ensures { result ≡ is_asked asked.now source.now }
-{
-    let (from, to) = (asked.from.number(), asked.to.number());
-    let extent = Extent::of(&source.stamp, asked.standpoint.profile);
-    extent.touches(from, to)
-        || (is_pressing(source) && extent.warns(from, to, asked.standpoint.today.number()))
+/// The days from one to another, and by which today and profile stamps are looked at.
+#[derive(Clone, Copy, Debug)]
+pub struct Asked {
+    pub profile: Profile,
+    pub today: Day,
+    pub from: Day,
+    pub to: Day,
 }
 
 // Whether it stands in the planning line of a heading without a done keyword.
-pub(crate) fn is_pressing(source: &Source) -> bool
-    ensures { result ≡ is_pressing source.now }
+pub(crate) fn is_pressing(stamp: &EntryStamp) -> bool
+    ensures { result ≡ is_pressing stamp.now }
 {
-    match source.role {
+    match stamp.role {
         Role::Plain => false,
-        Role::Scheduled | Role::Deadline => source.owner.is_open,
+        Role::Scheduled | Role::Deadline => stamp.is_open,
     }
 }

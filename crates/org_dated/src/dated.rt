@@ -183,7 +183,7 @@ impl DatedOutline {
         ensures few { OnErr result (Examines meter.old meter.new) }
         ensures memory { IsOkUnless result memory_fault }
     {
-        let profile = asked.standpoint.profile;
+        let profile = asked.profile;
         if let Some(index) = &self.index
             && index.as_ref().is_of(settings.as_ref(), profile)
         {

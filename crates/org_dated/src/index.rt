@@ -7,9 +7,8 @@ ghost use Rattle.org_dated.specs.Near.{CountsNearOf, HoldNearOf};
 
 use crate::asked::{Asked, is_pressing};
 use crate::homes::{add_homes, move_homes, spliced};
-use org_agenda::{Source, write_bare};
 use org_base::{Code, Fault, Meter, Profile};
-use org_entry::Entry;
+use org_entry::{Entry, EntryStamp, write_active};
 use org_index::DayIndex;
 use org_outline::Outline;
 use org_settings::Settings;
@@ -86,10 +85,10 @@ impl StampIndex {
     {
         let settings = self.settings.clone()?;
         let mut own = Vec::new(alloc);
-        write_bare(&mut own, settings.as_ref(), outline.entry(place))?;
+        write_active(&mut own, settings.as_ref(), outline.entry(place))?;
         let first = self.first_id(place);
         self.take_stamps(first, own.as_slice());
-        write_bare(&mut own, settings.as_ref(), entry)?;
+        write_active(&mut own, settings.as_ref(), entry)?;
         let first = self.put_stamps(place, own.as_slice())?;
         self.firsts[place] = first;
         Ok(())
@@ -160,7 +159,7 @@ impl StampIndex {
         let mut own = Vec::new(alloc);
         let mut firsts = Vec::with_capacity(alloc, range.end - range.start)?;
         for place in range.start..range.end {
-            write_bare(&mut own, settings.as_ref(), outline.entry(place))?;
+            write_active(&mut own, settings.as_ref(), outline.entry(place))?;
             let first = self.put_stamps(place, own.as_slice())?;
             firsts.push(first)?;
         }
@@ -184,7 +183,7 @@ impl StampIndex {
         let settings = self.settings.clone()?;
         let mut own = Vec::new(alloc);
         for place in range.start..range.end {
-            write_bare(&mut own, settings.as_ref(), outline.entry(place))?;
+            write_active(&mut own, settings.as_ref(), outline.entry(place))?;
             let first = self.first_id(place);
             self.take_stamps(first, own.as_slice());
         }
@@ -193,7 +192,7 @@ impl StampIndex {
 
     // Puts stamps of the heading at a place in, under ids that were never given; the first of these ids. Want of memory is the
     // only refusal; then the index is of no use any more.
-    fn put_stamps(&mut self, place: usize, stamps: &[Source]) -> Result<u32, Fault>
+    fn put_stamps(&mut self, place: usize, stamps: &[EntryStamp]) -> Result<u32, Fault>
         requires fresh { AreFresh self.old }
         ensures first { IfOk result (λ first. first ≡ length self.old.homes.items) }
         ensures ok { OnOk result (HasPut place stamps.now self.old self.new) }
@@ -210,7 +209,7 @@ impl StampIndex {
     }
 
     // Puts a stamp of the heading at a place in, under an id that was never given.
-    fn put_stamp(&mut self, place: usize, stamp: &Source) -> Result<(), Fault>
+    fn put_stamp(&mut self, place: usize, stamp: &EntryStamp) -> Result<(), Fault>
         requires fresh { AreFresh self.old }
         ensures ok { OnOk result (HasPut place (stamp.now ∷ []) self.old self.new) }
         ensures memory { IsOkUnless result memory_fault }
@@ -229,7 +228,7 @@ impl StampIndex {
     }
 
     // Takes stamps out, whose ids count up from a first one. It takes no memory.
-    fn take_stamps(&mut self, first: usize, stamps: &[Source])
+    fn take_stamps(&mut self, first: usize, stamps: &[EntryStamp])
         requires few { first + length stamps.now ≤ 2 ^ 32 }
         ensures value { HasTaken first stamps.now self.old self.new }
     {
@@ -269,16 +268,14 @@ impl StampIndex {
         asked: &Asked,
     ) -> Result<BTreeSet<usize>, Fault>
         requires order { asked.now.from ≤ asked.now.to }
-        requires profile { asked.now.standpoint.profile ≡ self.now.profile }
+        requires profile { asked.now.profile ≡ self.now.profile }
         ensures value { IfOk result (HoldNearOf asked.now self.now) }
         ensures counts { OnOk result (CountsNearOf asked.now self.now meter.old meter.new) }
         ensures few { OnErr result (Examines meter.old meter.new) }
         ensures memory { IsOkUnless result memory_fault }
     {
         let (from, to) = (asked.from, asked.to);
-        let pressing = self
-            .pressing
-            .candidates(meter, from, to, asked.standpoint.today)?;
+        let pressing = self.pressing.candidates(meter, from, to, asked.today)?;
         let others = self.others.touching(meter, from, to)?;
         let mut places = BTreeSet::new(alloc);
         add_homes(&mut places, self.homes.as_slice(), pressing.as_slice())?;

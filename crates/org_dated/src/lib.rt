@@ -10,10 +10,8 @@ mod asked;
 mod dated;
 mod homes;
 mod index;
-mod near;
 mod outline;
-mod stamps;
 
+pub use asked::Asked;
 pub use dated::DatedOutline;
 pub use outline::FileOutline;
-pub use stamps::DatedStamps;

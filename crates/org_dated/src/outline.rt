@@ -72,9 +72,9 @@ impl FileOutline {
         Inherit::by_ancestors(alloc, outline, self.settings.as_ref(), name, inherited)
     }
 
-    // The places of the headings that own a stamp near the days; each such stamp is examined, as the meter counts. Want of memory
-    // is the only refusal, and then some may have been counted.
-    pub(crate) fn near(
+    /// The places of the headings that own a stamp near the days; each such stamp is examined, as the meter counts. Want of
+    /// memory is the only refusal, and then some may have been counted.
+    pub fn near(
         &self,
         alloc: Global,
         meter: &mut Meter,

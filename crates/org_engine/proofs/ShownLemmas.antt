@@ -8,7 +8,7 @@ use Rattle.org_agenda.specs.Headings.{AllHaveHeads}
 use Rattle.org_base.specs.declared.limits.TheConstants.{MOST_FILES}
 use Rattle.org_agenda.proofs.SoundLemmas.{AreReadOf, read_sound}
 use Rattle.org_class.specs.Sections.{sections}
-use Rattle.org_dated.specs.Stamps.{IsOf}
+use Rattle.org_near.specs.Stamps.{IsOf}
 use Rattle.org_kept.specs.Outline.{OutlineView, file_settings, outline_of, scope_of}
 use Rattle.org_inherit.specs.Scope.{Scope}
 use Rattle.org_sum.specs.Texts.{AreOfText}

@@ -3,7 +3,7 @@ ghost use Rattle.std.specs.Prelude.{◌≡◌, ◌+◌, ◌-◌, ◌≤◌, None
 ghost use Rattle.org_base.specs.Codes.{memory_fault};
 ghost use Rattle.org_base.specs.Results.{GivesText, IfRefused};
 ghost use Rattle.org_agenda.specs.Bound.{near_count};
-ghost use Rattle.org_dated.specs.Stamps.{AreDated};
+ghost use Rattle.org_near.specs.Stamps.{AreDated};
 ghost use Rattle.org_index.specs.Ticks.{Examines};
 ghost use Rattle.org_cal.specs.declared.day.TheConstants.{LAST_DAY};
 ghost use Rattle.org_engine.specs.Questions.{IsAgendaText, asked_agenda};
@@ -18,10 +18,10 @@ use crate::world::World;
 use org_agenda::{Agenda, Stamps, Standpoint};
 use org_base::{Code, Fault, Meter, Profile};
 use org_cal::{Day, LAST_DAY};
-use org_dated::DatedStamps;
 use org_inherit::Inherits;
 use org_kept::FileOutline;
 use org_layout::agenda_text;
+use org_near::DatedStamps;
 use org_text::Text;
 use std::alloc::Global;
 

@@ -5,7 +5,7 @@ ghost use Rattle.std.specs.Option.{option_copied};
 ghost use Rattle.org_base.specs.Codes.{memory_fault};
 ghost use Rattle.org_base.specs.Results.{Gives, GivesText};
 ghost use Rattle.org_dated.specs.Held.{scope_in};
-ghost use Rattle.org_dated.specs.Stamps.{IsOf};
+ghost use Rattle.org_near.specs.Stamps.{IsOf};
 ghost use Rattle.org_index.specs.Ticks.{examined};
 ghost use Rattle.org_inherit.specs.Scope.{Scope};
 ghost use Rattle.org_engine.specs.Outlines.{AreRead, outlines_of, scopes_of};

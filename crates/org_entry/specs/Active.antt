@@ -1,5 +1,5 @@
 -- The active stamps of an entry (Org manual 9.6, "Timestamps"; "Deadlines and Scheduling").
-use Rattle.std.specs.Prelude.{ℕ, Bool, nat_lt, if◌then◌else◌, List, [], ◌∷◌, Option, None, Some, map}
+use Rattle.std.specs.Prelude.{ℕ, Bool, true, false, nat_lt, if◌then◌else◌, List, [], ◌∷◌, Option, None, Some, map}
 use Rattle.org_base.specs.declared.span.Span.{Span}
 use Rattle.org_drawer.specs.declared.planning.Planning.{Planning}
 use Rattle.org_entry.specs.Keyword.{is_open}
@@ -12,6 +12,12 @@ use Rattle.org_head.specs.declared.head.Head.{Head}
 use Rattle.org_settings.specs.Settings.{FileSettings}
 use Rattle.org_stamp.specs.declared.stamp.Found.{Found}
 use Rattle.org_stamp.specs.declared.stamp.Stamp.{Stamp}
+
+-- it stands in the planning line
+abbrev pub is_planned : Role → Bool
+is_planned Plain = false
+is_planned Scheduled = true
+is_planned Deadline = true
 
 -- a stamp with its role and its place in the section, under a heading that is open or isn't
 abbrev pub stamp_at : Bool → Role → ℕ → Stamp → EntryStamp

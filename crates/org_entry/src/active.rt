@@ -53,8 +53,9 @@ pub fn write_active(
     }
 }
 
-// Writes the stamps of an entry under a heading that is open or isn't.
-fn write_under(own: &mut Vec<EntryStamp>, opens: bool, entry: &Entry) -> Result<(), AllocError>
+/// Writes the active stamps of an entry, as those of a heading that is open or isn't: as [`write_active`] does, whatever
+/// the entry's own head says.
+pub fn write_under(own: &mut Vec<EntryStamp>, opens: bool, entry: &Entry) -> Result<(), AllocError>
     ensures ok { OnOk result (own.new.items ≡ stamps_under opens entry.now) }
 {
     own.clear();

@@ -19,7 +19,7 @@ mod sparse;
 mod stamps;
 mod text;
 
-pub use active::{EntryStamp, Role, write_active};
+pub use active::{EntryStamp, Role, write_active, write_under};
 pub use details::Details;
 pub use document::Document;
 pub use entry::Entry;

@@ -1,7 +1,7 @@
 use Rattle.std.proofs.Common.{◌≡◌, ◌∙◌, ◌++◌, ◌∷◌, ◌<◌, ◌≤◌, ◌+◌, [], length, sym, ap, subst, arith}
 use Rattle.std.specs.List.{between}
 use Rattle.org_settings.specs.Settings.{FileSettings}
-use Rattle.org_agenda.specs.Bare.{bare_stamps}
+use Rattle.org_entry.specs.Active.{active_stamps}
 use Rattle.org_dated.specs.Index.{ArePut, HasPut}
 use Rattle.org_dated.proofs.ReplaceLemmas.{between_long, between_more, between_none, put_entry, put_no_entries}
 use Rattle.org_dated.proofs.index.StampIndex.put_entries.Goals as goal
@@ -26,8 +26,8 @@ loop-place-preserved c =
     let within : i < length es = omega (arith, c.loop-place-test.true, c.requires.within) in
     let ahead : s ≤ i = search in
     let long : i ≡ s + length (between s i es) = let l = between_long es s i ahead (omega (arith, within)) in omega (arith, l, ahead) in
-    let stamps = c.as_slice.ensures.value ∙ c.in_ok-write_bare.ensures.ok ∙ ap (λ (f : FileSettings). bare_stamps f e) (c.as_ref.ensures ∙ c.in_ok-settings.ensures.cases) in
-    let put : HasPut i (bare_stamps by e) c.loop-place.self c.put_stamps.new.self = subst (λ ss. HasPut i ss c.loop-place.self c.put_stamps.new.self) stamps c.in_ok-first.ensures.ok in
+    let stamps = c.as_slice.ensures.value ∙ c.in_ok-write_active.ensures.ok ∙ ap (λ (f : FileSettings). active_stamps f e) (c.as_ref.ensures ∙ c.in_ok-settings.ensures.cases) in
+    let put : HasPut i (active_stamps by e) c.loop-place.self c.put_stamps.new.self = subst (λ ss. HasPut i ss c.loop-place.self c.put_stamps.new.self) stamps c.in_ok-first.ensures.ok in
     let firsts = c.in_ok-push.ensures.items ∙ ap (λ f. c.loop-place.firsts.items ++ f ∷ []) c.in_ok-first.ensures.first in
     subst (λ xs. ArePut by s xs c.push.new.self.items x c.put_stamps.new.self) (sym (between_more es s i e ahead within c.entry.ensures.value))
     (subst (λ fs. ArePut by s (between s i es ++ e ∷ []) fs x c.put_stamps.new.self) (sym firsts)

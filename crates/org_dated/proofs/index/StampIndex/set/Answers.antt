@@ -3,7 +3,7 @@ use Rattle.std.specs.Prelude.{slice_set}
 use Rattle.std.specs.Vec.{with_item}
 use Rattle.std.proofs.lemmas.Option.{slice_get_read}
 use Rattle.org_settings.specs.Settings.{FileSettings}
-use Rattle.org_agenda.specs.Bare.{bare_stamps}
+use Rattle.org_entry.specs.Active.{active_stamps}
 use Rattle.org_dated.specs.Index.{HasPut, HasTaken}
 use Rattle.org_dated.specs.declared.index.StampIndex.{StampIndex}
 use Rattle.org_dated.proofs.IndexLemmas.{first_within, fresh_taken, ids_fit, set_there}
@@ -16,13 +16,13 @@ pub take_stamps-requires : goal.take_stamps-requires
 take_stamps-requires c =
     let there = slice_get_read c.args.outline.now (length c.args.outline.now) c.args.place c.entry.result.now refl c.requires.within c.entry.ensures.value in
     let fits = ids_fit c.args.self.now.settings.value c.args.outline.now c.args.self.now c.args.place c.entry.result.now c.requires.is there in
-    record { few = omega (arith, fits, c.first_id-first.ensures.value, ap length (c.as_slice.ensures.value ∙ c.in_ok-write_bare.ensures.ok ∙ ap (λ (s : FileSettings). bare_stamps s c.entry.result.now) (c.as_ref.ensures ∙ c.in_ok-settings.ensures.cases))) }
+    record { few = omega (arith, fits, c.first_id-first.ensures.value, ap length (c.as_slice.ensures.value ∙ c.in_ok-write_active.ensures.ok ∙ ap (λ (s : FileSettings). active_stamps s c.entry.result.now) (c.as_ref.ensures ∙ c.in_ok-settings.ensures.cases))) }
 
 pub put_stamps-requires : goal.put_stamps-requires
 put_stamps-requires c =
     let there = slice_get_read c.args.outline.now (length c.args.outline.now) c.args.place c.entry.result.now refl c.requires.within c.entry.ensures.value in
-    let taken : HasTaken (get_or c.args.self.now.firsts.items c.args.place 0) (bare_stamps c.args.self.now.settings.value c.entry.result.now) c.args.self.now c.take_stamps.new.self =
-    subst (λ ss. HasTaken (get_or c.args.self.now.firsts.items c.args.place 0) ss c.args.self.now c.take_stamps.new.self) (c.as_slice.ensures.value ∙ c.in_ok-write_bare.ensures.ok ∙ ap (λ (s : FileSettings). bare_stamps s c.entry.result.now) (c.as_ref.ensures ∙ c.in_ok-settings.ensures.cases))
+    let taken : HasTaken (get_or c.args.self.now.firsts.items c.args.place 0) (active_stamps c.args.self.now.settings.value c.entry.result.now) c.args.self.now c.take_stamps.new.self =
+    subst (λ ss. HasTaken (get_or c.args.self.now.firsts.items c.args.place 0) ss c.args.self.now c.take_stamps.new.self) (c.as_slice.ensures.value ∙ c.in_ok-write_active.ensures.ok ∙ ap (λ (s : FileSettings). active_stamps s c.entry.result.now) (c.as_ref.ensures ∙ c.in_ok-settings.ensures.cases))
     (subst (λ n. HasTaken n c.as_slice.result.now c.args.self.now c.take_stamps.new.self) c.first_id-first.ensures.value c.take_stamps.ensures.value) in
     record { fresh = fresh_taken c.args.self.now.settings.value c.args.outline.now c.args.place c.entry.result.now c.args.self.now c.take_stamps.new.self c.requires.is there taken }
 
@@ -35,11 +35,11 @@ index_mut-requires c =
 pub returns-clause-ok : goal.returns-clause-ok
 returns-clause-ok c =
     let there = slice_get_read c.args.outline.now (length c.args.outline.now) c.args.place c.entry.result.now refl c.requires.within c.entry.ensures.value in
-    let taken : HasTaken (get_or c.args.self.now.firsts.items c.args.place 0) (bare_stamps c.args.self.now.settings.value c.entry.result.now) c.args.self.now c.take_stamps.new.self =
-    subst (λ ss. HasTaken (get_or c.args.self.now.firsts.items c.args.place 0) ss c.args.self.now c.take_stamps.new.self) (c.as_slice.ensures.value ∙ c.in_ok-write_bare.ensures.ok ∙ ap (λ (s : FileSettings). bare_stamps s c.entry.result.now) (c.as_ref.ensures ∙ c.in_ok-settings.ensures.cases))
+    let taken : HasTaken (get_or c.args.self.now.firsts.items c.args.place 0) (active_stamps c.args.self.now.settings.value c.entry.result.now) c.args.self.now c.take_stamps.new.self =
+    subst (λ ss. HasTaken (get_or c.args.self.now.firsts.items c.args.place 0) ss c.args.self.now c.take_stamps.new.self) (c.as_slice.ensures.value ∙ c.in_ok-write_active.ensures.ok ∙ ap (λ (s : FileSettings). active_stamps s c.entry.result.now) (c.as_ref.ensures ∙ c.in_ok-settings.ensures.cases))
     (subst (λ n. HasTaken n c.as_slice.result.now c.args.self.now c.take_stamps.new.self) c.first_id-first.ensures.value c.take_stamps.ensures.value) in
-    let put : HasPut c.args.place (bare_stamps c.args.self.now.settings.value c.args.entry.now) c.take_stamps.new.self c.put_stamps.new.self =
-    subst (λ ss. HasPut c.args.place ss c.take_stamps.new.self c.put_stamps.new.self) (c.as_slice-2.ensures.value ∙ c.in_ok-write_bare-2.ensures.ok ∙ ap (λ (s : FileSettings). bare_stamps s c.args.entry.now) (c.as_ref-2.ensures ∙ c.in_ok-settings.ensures.cases)) c.in_ok-first.ensures.ok in
+    let put : HasPut c.args.place (active_stamps c.args.self.now.settings.value c.args.entry.now) c.take_stamps.new.self c.put_stamps.new.self =
+    subst (λ ss. HasPut c.args.place ss c.take_stamps.new.self c.put_stamps.new.self) (c.as_slice-2.ensures.value ∙ c.in_ok-write_active-2.ensures.ok ∙ ap (λ (s : FileSettings). active_stamps s c.args.entry.now) (c.as_ref-2.ensures ∙ c.in_ok-settings.ensures.cases)) c.in_ok-first.ensures.ok in
     let y = c.put_stamps.new.self in
     let z : StampIndex = record { settings = y.settings; profile = y.profile; pressing = y.pressing; others = y.others; homes = y.homes; firsts = with_item y.firsts c.args.place c.in_ok-first.first; gone = y.gone } in
     let firsts : z.firsts.items ≡ slice_set y.firsts.items c.args.place (length c.take_stamps.new.self.homes.items) = ap (slice_set y.firsts.items c.args.place) c.in_ok-first.ensures.first in

@@ -2,7 +2,7 @@ use Rattle.std.proofs.Common.{◌≡◌, ◌∙◌, ◌++◌, ◌∷◌, ◌<◌
 use Rattle.std.specs.List.{between}
 use Rattle.std.proofs.lemmas.Option.{slice_get_read}
 use Rattle.org_settings.specs.Settings.{FileSettings}
-use Rattle.org_agenda.specs.Bare.{bare_stamps}
+use Rattle.org_entry.specs.Active.{active_stamps}
 use Rattle.org_dated.specs.Index.{AreTaken, HasTaken}
 use Rattle.org_dated.proofs.IndexLemmas.{first_within, ids_fit}
 use Rattle.org_dated.proofs.ReplaceLemmas.{between_long, between_more, between_none, get_same, taken_entry, taken_none}
@@ -29,7 +29,7 @@ take_stamps-requires c =
     let there = slice_get_read es (length es) i c.entry.result.now refl (omega (arith, c.loop-place-test.true, c.requires.within)) c.entry.ensures.value in
     let fits = ids_fit x.settings.value es x i c.entry.result.now c.requires.is there in
     let first = c.first_id-first.ensures.value ∙ ap (λ fs. get_or fs i 0) c.loop-place.invariant.firsts in
-    record { few = omega (arith, fits, first, ap length (c.as_slice.ensures.value ∙ c.in_ok-write_bare.ensures.ok ∙ ap (λ (s : FileSettings). bare_stamps s c.entry.result.now) (c.as_ref.ensures ∙ c.in_ok-settings.ensures.cases))) }
+    record { few = omega (arith, fits, first, ap length (c.as_slice.ensures.value ∙ c.in_ok-write_active.ensures.ok ∙ ap (λ (s : FileSettings). active_stamps s c.entry.result.now) (c.as_ref.ensures ∙ c.in_ok-settings.ensures.cases))) }
 
 pub loop-place-preserved : goal.loop-place-preserved
 loop-place-preserved c =
@@ -45,9 +45,9 @@ loop-place-preserved c =
     let within' : i < length fs = first_within by es x i c.requires.is within in
     let ahead : s ≤ i = search in
     let long : length (between s i fs) ≡ length (between s i es) = between_long fs s i ahead (omega (arith, within')) ∙ sym (between_long es s i ahead (omega (arith, within))) in
-    let stamps = c.as_slice.ensures.value ∙ c.in_ok-write_bare.ensures.ok ∙ ap (λ (g : FileSettings). bare_stamps g e) (c.as_ref.ensures ∙ c.in_ok-settings.ensures.cases) in
+    let stamps = c.as_slice.ensures.value ∙ c.in_ok-write_active.ensures.ok ∙ ap (λ (g : FileSettings). active_stamps g e) (c.as_ref.ensures ∙ c.in_ok-settings.ensures.cases) in
     let first = c.first_id-first.ensures.value ∙ ap (λ gs. get_or gs i 0) c.loop-place.invariant.firsts in
-    let taken : HasTaken f (bare_stamps by e) c.loop-place.self c.take_stamps.new.self =
+    let taken : HasTaken f (active_stamps by e) c.loop-place.self c.take_stamps.new.self =
     subst (λ ss. HasTaken f ss c.loop-place.self c.take_stamps.new.self) stamps (subst (λ n. HasTaken n c.as_slice.result.now c.loop-place.self c.take_stamps.new.self) first c.take_stamps.ensures.value) in
     subst (λ xs. AreTaken by xs (between s (i + 1) fs) x c.take_stamps.new.self) (sym (between_more es s i e ahead within c.entry.ensures.value))
     (subst (λ gs. AreTaken by (between s i es ++ e ∷ []) gs x c.take_stamps.new.self) (sym (between_more fs s i f ahead within' (get_same fs i within')))

@@ -1,6 +1,6 @@
 use Rattle.std.proofs.Common.{◌≡◌, ◌∙◌, ◌+◌, true, false, sym, ap, refl, subst}
 use Rattle.std.specs.Prelude.{not}
-use Rattle.org_agenda.specs.Near.{is_pressing}
+use Rattle.org_dated.specs.Asked.{is_pressing}
 use Rattle.org_dated.specs.Index.{is_waiting}
 use Rattle.org_dated.specs.declared.index.StampIndex.{StampIndex}
 use Rattle.org_dated.proofs.TakeLemmas.{IsLeft, left_all, left_less, left_none, left_over}

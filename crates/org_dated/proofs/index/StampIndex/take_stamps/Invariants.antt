@@ -1,5 +1,5 @@
 use Rattle.std.proofs.Common.{◌≡◌}
-use Rattle.org_agenda.specs.Near.{is_pressing}
+use Rattle.org_dated.specs.Asked.{is_pressing}
 use Rattle.org_dated.specs.Index.{is_waiting}
 use Rattle.org_dated.proofs.TakeLemmas.{IsLeft}
 use Rattle.org_dated.proofs.index.StampIndex.take_stamps.Given as goal

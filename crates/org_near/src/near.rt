@@ -3,11 +3,13 @@ ghost use Rattle.std.specs.Prelude.{◌≡◌, [], OnOk};
 ghost use Rattle.org_base.specs.Results.{Adds};
 ghost use Rattle.org_agenda.specs.Facts.{HasOwnHead, stamps_at};
 ghost use Rattle.org_agenda.specs.Headings.{HaveHeads};
-ghost use Rattle.org_dated.specs.Asked.{asked_of, is_asked};
-ghost use Rattle.org_dated.specs.Near.{HoldAskedIn, asked_of_file};
+ghost use Rattle.org_agenda.specs.Near.{is_pressing};
+ghost use Rattle.org_near.specs.Near.{HoldAskedIn, asked_of, asked_of_file, is_asked};
 
-use crate::asked::{Asked, is_near};
 use org_agenda::{HeadingFacts, Source, heading_at, write_stamps};
+use org_dated::Asked;
+use org_entry::{EntryStamp, Role};
+use org_index::Extent;
 use org_inherit::Inherit;
 use std::alloc::{AllocError, Global};
 use std::collections::BTreeSet;
@@ -17,6 +19,7 @@ use std::collections::BTreeSet;
 pub(crate) struct NearSources {
     pub(crate) found: Vec<Source>,
     own: Vec<Source>,
+    active: Vec<EntryStamp>,
 }
 
 impl NearSources {
@@ -27,6 +30,7 @@ impl NearSources {
         NearSources {
             found: Vec::new(alloc),
             own: Vec::new(alloc),
+            active: Vec::new(alloc),
         }
     }
 
@@ -61,7 +65,7 @@ impl NearSources {
         requires head { HasOwnHead facts.now }
         ensures ok { Adds result self.old.found self.new.found (asked_of asked.now (stamps_at facts.now)) }
     {
-        write_stamps(&mut self.own, facts)?;
+        write_stamps(&mut self.own, &mut self.active, facts)?;
         push_near(&mut self.found, self.own.as_slice(), asked)
     }
 }
@@ -76,4 +80,24 @@ fn push_near(sources: &mut Vec<Source>, some: &[Source], asked: &Asked) -> Resul
         }
     }
     Ok(())
+}
+
+// Whether a stamp is near the days.
+fn is_near(source: &Source, asked: &Asked) -> bool
+    ensures { result ≡ is_asked asked.now source.now }
+{
+    let (from, to) = (asked.from.number(), asked.to.number());
+    let extent = Extent::of(&source.stamp, asked.profile);
+    extent.touches(from, to)
+        || (is_pressing(source) && extent.warns(from, to, asked.today.number()))
+}
+
+// Whether it stands in the planning line of a heading without a done keyword.
+fn is_pressing(source: &Source) -> bool
+    ensures { result ≡ is_pressing source.now }
+{
+    match source.role {
+        Role::Plain => false,
+        Role::Scheduled | Role::Deadline => source.owner.is_open,
+    }
 }

@@ -1,9 +1,9 @@
 use Rattle.std.proofs.Common.{◌≡◌, ◌++◌, drop, take}
 use Rattle.org_agenda.specs.Sources.{sources_of}
 use Rattle.org_index.specs.Ticks.{examined}
-use Rattle.org_dated.specs.Asked.{asked_of}
-use Rattle.org_dated.specs.Stamps.{near_in_all}
-use Rattle.org_dated.proofs.stamps.DatedStampsStamps.near.Given as goal
+use Rattle.org_near.specs.Near.{asked_of}
+use Rattle.org_near.specs.Stamps.{near_in_all}
+use Rattle.org_near.proofs.stamps.DatedStampsStamps.near.Given as goal
 
 abbrev pub invariant-loop-file : goal.invariant-loop-file
 invariant-loop-file l = record {

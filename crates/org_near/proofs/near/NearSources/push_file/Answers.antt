@@ -2,9 +2,9 @@ use Rattle.std.proofs.Common.{◌≡◌, ◌∙◌, ◌++◌, ℕ, List, sym, ap
 use Rattle.std.specs.List.{flat_map}
 use Rattle.org_agenda.specs.declared.source.Source.{Source}
 use Rattle.org_agenda.proofs.HeadingLemmas.{own_head}
-use Rattle.org_dated.specs.Near.{asked_in}
-use Rattle.org_dated.proofs.FileLemmas.{among_places, file_near, rise}
-use Rattle.org_dated.proofs.near.NearSources.push_file.Goals as goal
+use Rattle.org_near.specs.Near.{asked_in}
+use Rattle.org_near.proofs.FileLemmas.{among_places, file_near, rise}
+use Rattle.org_near.proofs.near.NearSources.push_file.Goals as goal
 
 pub push_heading-requires : goal.push_heading-requires
 push_heading-requires c = record { head = own_head _ _ _ c.in-Some-heading_at.facts c.in-Some-heading_at.ensures c.requires.heads }

@@ -2,14 +2,13 @@
 ghost use Rattle.std.specs.Prelude.{◌≡◌};
 ghost use Rattle.org_agenda.specs.Bound.{near_count};
 ghost use Rattle.org_agenda.specs.Sources.{sources_of};
-ghost use Rattle.org_dated.specs.Stamps.{AreDated};
+ghost use Rattle.org_near.specs.Stamps.{AreDated};
 
-use crate::asked::Asked;
 use crate::near::NearSources;
-use crate::outline::FileOutline;
 use org_agenda::{Source, Stamps, Standpoint};
 use org_base::{Fault, Meter};
 use org_cal::Day;
+use org_dated::{Asked, FileOutline};
 use org_inherit::Inherits;
 use std::alloc::Global;
 
@@ -37,7 +36,8 @@ impl<'a> Stamps for DatedStamps<'a> {
         to: Day,
     ) -> Result<Vec<Source>, Fault> {
         let asked = Asked {
-            standpoint: *standpoint,
+            profile: standpoint.profile,
+            today: standpoint.today,
             from,
             to,
         };

@@ -6,12 +6,12 @@ use Rattle.org_agenda.specs.Sources.{sources_of}
 use Rattle.org_agenda.specs.declared.source.Source.{Source}
 use Rattle.org_agenda.proofs.NearRowLemmas.{near_give_all}
 use Rattle.org_dated.specs.Near.{near_in}
-use Rattle.org_dated.specs.Stamps.{near_in_all}
+use Rattle.org_near.specs.Stamps.{near_in_all}
 use Rattle.org_dated.specs.declared.asked.Asked.{Asked}
-use Rattle.org_dated.proofs.FileLemmas.{near_file_more, near_files_whole}
+use Rattle.org_near.proofs.FileLemmas.{near_file_more, near_files_whole}
 use Rattle.org_dated.proofs.PlaceLemmas.{examines_more, on_err}
-use Rattle.org_dated.proofs.StampLemmas.{count_more, count_whole, counted, hold_there, zip_at, zip_long}
-use Rattle.org_dated.proofs.stamps.DatedStampsStamps.near.Goals as goal
+use Rattle.org_near.proofs.StampLemmas.{count_more, count_whole, counted, hold_there, zip_at, zip_long}
+use Rattle.org_near.proofs.stamps.DatedStampsStamps.near.Goals as goal
 
 pub returns-in_err-places-clause-few : goal.returns-in_err-places-clause-few
 returns-in_err-places-clause-few c =
@@ -23,13 +23,13 @@ get-requires c = omega (arith, c.loop-file-test.true, zip_long c.args.self.now.f
 
 pub push_file-requires-clause-all : goal.push_file-requires-clause-all
 push_file-requires-clause-all c =
-    let a : Asked = record { standpoint = c.args.standpoint.now; from = c.args.from; to = c.args.to } in
+    let a : Asked = record { profile = c.args.standpoint.now.profile; today = c.args.standpoint.now.today; from = c.args.from; to = c.args.to } in
     hold_there a c.in_ok-places.places c.loop-file.file c.dated-item.result c.get.result.now
     (zip_at c.args.self.now.files.now c.args.self.now.inherits.now c.loop-file.file c.dated-item.result c.get.result.now c.requires.stands.same c.loop-file-test.true c.dated-item.is c.get.ensures.value) c.in_ok-places.ensures.value
 
 pub returns-in_err-push_file-clause-few : goal.returns-in_err-push_file-clause-few
 returns-in_err-push_file-clause-few c =
-    let a : Asked = record { standpoint = c.args.standpoint.now; from = c.args.from; to = c.args.to } in
+    let a : Asked = record { profile = c.args.standpoint.now.profile; today = c.args.standpoint.now.today; from = c.args.from; to = c.args.to } in
     let d = c.dated-item.result in
     on_err c.from_residual-in_err-push_file.result _
     (examines_more (near_in_all c.args.standpoint.now c.args.from c.args.to (take c.loop-file.file c.args.self.now.files.now)) c.args.meter.now c.loop-file.meter c.near.new.meter c.loop-file.invariant.counts
@@ -37,7 +37,7 @@ returns-in_err-push_file-clause-few c =
 
 pub loop-file-preserved : goal.loop-file-preserved
 loop-file-preserved c =
-    let a : Asked = record { standpoint = c.args.standpoint.now; from = c.args.from; to = c.args.to } in
+    let a : Asked = record { profile = c.args.standpoint.now.profile; today = c.args.standpoint.now.today; from = c.args.from; to = c.args.to } in
     let files = c.args.self.now.files.now in
     let scopes : List Scope = c.args.self.now.inherits.now in
     let i = c.loop-file.file in
@@ -49,7 +49,7 @@ loop-file-preserved c =
 
 pub returns-clause-rows : goal.returns-clause-rows
 returns-clause-rows c = λ day low high.
-    let a : Asked = record { standpoint = c.args.standpoint.now; from = c.args.from; to = c.args.to } in
+    let a : Asked = record { profile = c.args.standpoint.now.profile; today = c.args.standpoint.now.today; from = c.args.from; to = c.args.to } in
     let seen = c.args.standpoint.now in
     let scopes : List Scope = c.args.self.now.inherits.now in
     let all = sources_of 0 scopes in

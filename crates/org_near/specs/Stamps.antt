@@ -21,7 +21,7 @@ pub record AreDated (files : List OutlineView) (scopes : List Scope) : Type 0 wh
 
 -- how many stamps of a file are near the days from one to another
 abbrev pub near_in_file : Standpoint → ℕ → ℕ → OutlineView → ℕ
-near_in_file seen from to d = near_in (record { standpoint = seen; from = from; to = to }) d.settings d.entries
+near_in_file seen from to d = near_in (record { profile = seen.profile; today = seen.today; from = from; to = to }) d.settings d.entries
 
 -- the same of all files
 abbrev pub near_in_all : Standpoint → ℕ → ℕ → List OutlineView → ℕ

@@ -16,8 +16,7 @@ use Rattle.org_inherit.specs.Scope.{Scope}
 use Rattle.org_agenda.specs.Sources.{file_sources, sources_at, sources_from, sources_of}
 use Rattle.org_agenda.specs.declared.source.Source.{Source}
 use Rattle.org_agenda.proofs.ListLemmas.{filter_append}
-use Rattle.org_dated.specs.Asked.{asked_of, is_asked}
-use Rattle.org_dated.specs.Near.{asked_in, sources_if}
+use Rattle.org_near.specs.Near.{asked_in, asked_of, is_asked, sources_if}
 use Rattle.org_dated.specs.declared.asked.Asked.{Asked}
 
 abbrev pub Among : ℕ → List ℕ → Type 0

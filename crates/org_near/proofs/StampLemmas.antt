@@ -10,16 +10,17 @@ use Rattle.org_entry.specs.declared.entry.Entry.{Entry}
 use Rattle.org_index.specs.Ticks.{examined}
 use Rattle.org_inherit.specs.Scope.{Scope}
 use Rattle.org_settings.specs.Settings.{FileSettings}
-use Rattle.org_agenda.specs.Bare.{bare_stamps}
+use Rattle.org_entry.specs.Active.{active_stamps}
 use Rattle.org_agenda.specs.declared.standpoint.Standpoint.{Standpoint}
 use Rattle.org_agenda.specs.Bound.{kept_from, kept_of}
 use Rattle.org_agenda.specs.Near.{is_near, near_sources}
 use Rattle.org_agenda.proofs.ListLemmas.{filter_append}
-use Rattle.org_agenda.proofs.OwnerLemmas.{kept_counted, none_there}
-use Rattle.org_dated.specs.Asked.{asked_of}
+use Rattle.org_near.proofs.OwnerLemmas.{kept_counted, none_there}
+use Rattle.org_dated.specs.Asked.{asked_of as stamps_asked}
 use Rattle.org_dated.specs.Held.{OutlineView}
-use Rattle.org_dated.specs.Near.{CountsNear, HasPlace, HoldAskedIn, HoldNear, asked_in, near_of_entry, sources_if}
-use Rattle.org_dated.specs.Stamps.{IsOf, near_in_all, near_in_file}
+use Rattle.org_dated.specs.Near.{CountsNear, HasPlace, HoldNear, near_of_entry}
+use Rattle.org_near.specs.Near.{HoldAskedIn, asked_in, asked_of, sources_if}
+use Rattle.org_near.specs.Stamps.{IsOf, near_in_all, near_in_file}
 use Rattle.org_dated.specs.declared.asked.Asked.{Asked}
 use Rattle.org_dated.proofs.PlaceLemmas.{examined_sum}
 
@@ -42,8 +43,8 @@ hold_by : (a : Asked) (places : BTreeSet ℕ) (file : ℕ) (d : OutlineView) (sc
 hold_by a places file d scope same hold i out None is = ap (λ (x : Option Entry). asked_of a (sources_if scope file i x)) is
 hold_by a places file d scope same hold i out (Some e) is =
     let there : slice_get d.entries i ≡ Some e = ap (λ es. slice_get es i) (sym same.0) ∙ is in
-    let none : asked_of a (bare_stamps scope.settings e) ≡ [] = ap (λ (s : FileSettings). asked_of a (bare_stamps s e)) same.1 ∙ hold i e there out in
-    ap (λ (x : Option Entry). asked_of a (sources_if scope file i x)) is ∙ none_there a.standpoint.profile a.from a.to a.standpoint.today scope file i e none
+    let none : stamps_asked a (active_stamps scope.settings e) ≡ [] = ap (λ (s : FileSettings). stamps_asked a (active_stamps s e)) same.1 ∙ hold i e there out in
+    ap (λ (x : Option Entry). asked_of a (sources_if scope file i x)) is ∙ none_there a scope file i e none
 
 -- what holds of a file holds of what its headings inherit
 pub hold_there : (a : Asked) (places : BTreeSet ℕ) (file : ℕ) (d : OutlineView) (scope : Scope) → IsOf d scope → HoldNear a d.settings d.entries places → HoldAskedIn a places file scope
@@ -51,7 +52,7 @@ hold_there a places file d scope same hold i out = hold_by a places file d scope
 
 -- the near stamps of one file more are counted
 pub count_more : (seen : Standpoint) (from to : ℕ) (files : List OutlineView) (i : ℕ) (d : OutlineView) (old mid new : Counts) → i < length files → d ≡ get_or files i d →
-    mid ≡ examined (near_in_all seen from to (take i files)) old → CountsNear (record { standpoint = seen; from = from; to = to }) d.settings d.entries mid new → new ≡ examined (near_in_all seen from to (take (i + 1) files)) old
+    mid ≡ examined (near_in_all seen from to (take i files)) old → CountsNear (record { profile = seen.profile; today = seen.today; from = from; to = to }) d.settings d.entries mid new → new ≡ examined (near_in_all seen from to (take (i + 1) files)) old
 count_more seen from to files i d old mid new lt at so_far more =
     let next : take (i + 1) files ≡ take i files ++ d ∷ [] = take_more files i d lt ∙ ap (λ y. take i files ++ y ∷ []) (sym at) in
     let sum : near_in_all seen from to (take (i + 1) files) ≡ near_in_all seen from to (take i files) + near_in_file seen from to d = ap (near_in_all seen from to) next ∙ sum_by_push (near_in_file seen from to) (take i files) d in
@@ -66,9 +67,9 @@ counted seen from to [] [] k z = refl
 counted seen from to [] (s ∷ ss) k z = absurd z
 counted seen from to (d ∷ ds) [] k z = absurd z
 counted seen from to (d ∷ ds) (s ∷ ss) k z =
-    let a : Asked = record { standpoint = seen; from = from; to = to } in
+    let a : Asked = record { profile = seen.profile; today = seen.today; from = from; to = to } in
     let own : near_in_file seen from to d ≡ length (near_sources seen.profile from to seen.today (kept_from s k 0 s.entries)) =
-    (λ i. sum_by (near_of_entry a (sym z.0.1 i)) (sym z.0.0 i)) ∙ sym (kept_counted seen.profile from to seen.today s k 0 s.entries) in
+    (λ i. sum_by (near_of_entry a (sym z.0.1 i)) (sym z.0.0 i)) ∙ sym (kept_counted a s k 0 s.entries) in
     sum_by-cons (near_in_file seen from to) d ds
     ∙ ap₂ (λ x y. x + y) own (counted seen from to ds ss (k + 1) z.1)
     ∙ sym (length-append (near_sources seen.profile from to seen.today (kept_from s k 0 s.entries)) (near_sources seen.profile from to seen.today (kept_of (k + 1) ss)))

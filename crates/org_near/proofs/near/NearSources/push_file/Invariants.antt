@@ -1,7 +1,7 @@
 use Rattle.std.proofs.Common.{◌≡◌, ◌++◌}
 use Rattle.std.specs.List.{flat_map}
-use Rattle.org_dated.specs.Near.{asked_in}
-use Rattle.org_dated.proofs.near.NearSources.push_file.Given as goal
+use Rattle.org_near.specs.Near.{asked_in}
+use Rattle.org_near.proofs.near.NearSources.push_file.Given as goal
 
 abbrev pub invariant-loop-heading : goal.invariant-loop-heading
 invariant-loop-heading l =

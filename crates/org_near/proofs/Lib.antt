@@ -1,0 +1,3 @@
+pub mod FileLemmas
+pub mod OwnerLemmas
+pub mod StampLemmas
