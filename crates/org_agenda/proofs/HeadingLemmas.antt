@@ -13,14 +13,14 @@ use Rattle.org_agenda.specs.Verdicts.{AreKnown}
 use Rattle.org_agenda.specs.declared.facts.HeadingFacts.{HeadingFacts}
 use Rattle.org_agenda.specs.declared.verdicts.LevelVerdicts.{LevelVerdicts}
 
-pub said : {X : Type 0} (f : Scope → ℕ → ℕ → Entry → Option Head → X) (scope : Scope) (file i : ℕ) (facts : HeadingFacts) → IsAtPlace scope file i facts →
-    f facts.inherit.now facts.file facts.place facts.entry.now (Some facts.head.now) ≡ f scope file i facts.entry.now facts.entry.now.head
-said f scope file i facts at = λ j. f (at.inherit j) (at.file j) (at.place j) facts.entry.now (sym at.head j)
+pub said : {X : Type 0} (f : Scope → ℕ → ℕ → Entry → Option Head → X) (scope : Scope) (file i : ℕ) (facts : HeadingFacts) → IsAtPlace scope file i facts.heading →
+    f facts.heading.inherit.now facts.heading.file facts.heading.place facts.heading.entry.now (Some facts.heading.head.now) ≡ f scope file i facts.heading.entry.now facts.heading.entry.now.head
+said f scope file i facts at = λ j. f (at.inherit j) (at.file j) (at.place j) facts.heading.entry.now (sym at.head j)
 
-pub own_head : (scope : Scope) (file i : ℕ) (facts : HeadingFacts) → IsAtPlace scope file i facts → HaveHeads scope.settings scope.entries → HasOwnHead facts
+pub own_head : (scope : Scope) (file i : ℕ) (facts : HeadingFacts) → IsAtPlace scope file i facts.heading → HaveHeads scope.settings scope.entries → HasOwnHead facts
 own_head scope file i facts at heads =
-    let own : facts.head.now ≡ head_of scope.settings (heading_line facts.entry.now) = rw at.head at (heads i facts.entry.now at.entry) in
-    own ∙ (λ j. head_of (sym at.inherit j).settings (heading_line facts.entry.now))
+    let own : facts.heading.head.now ≡ head_of scope.settings (heading_line facts.heading.entry.now) = rw at.head at (heads i facts.heading.entry.now at.entry) in
+    own ∙ (λ j. head_of (sym at.inherit j).settings (heading_line facts.heading.entry.now))
 
-pub known_behind : (l : Listing) (scope : Scope) (file i : ℕ) (facts : HeadingFacts) (known : List LevelVerdicts) → IsAtPlace scope file i facts → AreKnownBehind l facts known → AreKnown l scope (i + 1) known
-known_behind l scope file i facts known at is = subst (λ (k : ℕ). AreKnown l scope (k + 1) known) at.place (subst (λ (s : Scope). AreKnown l s (facts.place + 1) known) at.inherit is)
+pub known_behind : (l : Listing) (scope : Scope) (file i : ℕ) (facts : HeadingFacts) (known : List LevelVerdicts) → IsAtPlace scope file i facts.heading → AreKnownBehind l facts known → AreKnown l scope (i + 1) known
+known_behind l scope file i facts known at is = subst (λ (k : ℕ). AreKnown l scope (k + 1) known) at.place (subst (λ (s : Scope). AreKnown l s (facts.heading.place + 1) known) at.inherit is)

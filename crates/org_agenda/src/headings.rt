@@ -1,8 +1,8 @@
-//! The headings of files.
-ghost use Rattle.org_agenda.specs.Facts.{IsFoundAt};
+//! The headings of files, as expressions are asked of them.
+ghost use Rattle.org_agenda.specs.Facts.{IsFactsAt};
 
 use crate::facts::HeadingFacts;
-use org_inherit::Inherit;
+use org_inherit::{Heading, Inherit};
 
 /// The heading of the entry at a place of a file, which itself stands at one; None where there is no such entry, or one
 /// without head. It takes no memory.
@@ -11,15 +11,10 @@ pub fn heading_at<'a, 'b>(
     file: usize,
     place: usize,
 ) -> Option<HeadingFacts<'a, 'b>>
-    ensures { IsFoundAt inherit.now file place result }
+    ensures { IsFactsAt inherit.now file place result }
 {
-    let outline = inherit.outline();
-    if place >= outline.count() {
-        return None;
-    }
-    let entry = outline.entry(place);
-    match &entry.head {
-        Some(head) => Some(HeadingFacts::new(inherit, file, place, entry, head)),
+    match Heading::at(inherit, file, place) {
+        Some(heading) => Some(HeadingFacts { heading }),
         None => None,
     }
 }

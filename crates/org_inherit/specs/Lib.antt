@@ -8,3 +8,4 @@ pub mod Category
 pub mod Special
 pub mod Examples
 pub mod Laws
+pub mod Headings

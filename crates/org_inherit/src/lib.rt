@@ -7,8 +7,10 @@
 mod ancestors;
 mod categories;
 mod category;
+mod find;
 mod first_tags;
 mod heading;
+mod headings;
 mod hidden;
 mod inherit;
 mod inherits;
@@ -19,6 +21,7 @@ mod tags;
 mod values;
 
 pub use category::category_of;
+pub use headings::Heading;
 pub use inherit::Inherit;
 pub use inherits::Inherits;
 pub use tags::tags_text;

@@ -1,12 +1,11 @@
 //! Rows as fields between commas, those of Org's own batch agendas.
 
-use crate::heading::Heading;
 use crate::one_line::OneLine;
 use crate::rows::{FilesRead, ShownRow};
 use org_agenda::{Row, RowKind};
 use org_base::Fault;
 use org_cal::{Day, Unit, push_time};
-use org_inherit::tags_text;
+use org_inherit::{Heading, tags_text};
 use org_text::Text;
 use std::alloc::{AllocError, Global};
 

@@ -1,12 +1,12 @@
 //! Rows as objects of JSON, each in one line.
 
-use crate::heading::Heading;
 use crate::one_line::OneLine;
 use crate::rows::{FilesRead, ShownRow};
 use org_agenda::{Row, RowKind};
 use org_base::Fault;
 use org_cal::{Day, TimeOfDay, push_date, push_time};
 use org_clocktable::{Of, TableRow};
+use org_inherit::Heading;
 use org_text::Text;
 use std::alloc::{AllocError, Global};
 

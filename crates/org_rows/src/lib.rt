@@ -3,7 +3,6 @@
 #![tactic(auto)]
 
 mod fields;
-mod heading;
 mod json;
 pub mod laws;
 mod library;
@@ -14,7 +13,6 @@ mod read_file;
 mod rows;
 
 pub use fields::csv_line;
-pub use heading::Heading;
 pub use json::{json_line, table_line};
 pub use library::Library;
 pub use next::{Upcoming, next_rows};

@@ -14,19 +14,19 @@ shut old closed es fs place up_to is to same = subst (λ (n : ℕ). IsClosed old
 
 pub returns-then-not-asks_tags-clause-ok : goal.returns-then-not-asks_tags-clause-ok
 returns-then-not-asks_tags-clause-ok c =
-    untagged_on c.args.matcher.now c.args.facts.now.inherit.now c.args.facts.now.place c.args.self.now c.close.new.self c.requires.heading c.requires.known
+    untagged_on c.args.matcher.now c.args.facts.now.heading.inherit.now c.args.facts.now.heading.place c.args.self.now c.close.new.self c.requires.heading c.requires.known
     (shut _ _ _ _ _ _ c.close.ensures c.up_to_parent-up_to.ensures.value c.outline-outline.ensures.value) c.if-not-asks_tags.ensures.value
 
 pub returns-then-not-asks_tags-clause-own : goal.returns-then-not-asks_tags-clause-own
 returns-then-not-asks_tags-clause-own c =
-    untagged_right c.args.matcher.now c.args.facts.now.inherit.now c.args.facts.now.place c.args.self.now c.close.new.self c.requires.known
+    untagged_right c.args.matcher.now c.args.facts.now.heading.inherit.now c.args.facts.now.heading.place c.args.self.now c.close.new.self c.requires.known
     (shut _ _ _ _ _ _ c.close.ensures c.up_to_parent-up_to.ensures.value c.outline-outline.ensures.value) c.if-not-asks_tags.ensures.value
 
 pub returns-clause-ok : goal.returns-clause-ok
 returns-clause-ok c =
     let expr = c.args.matcher.now in
-    let scope = c.args.facts.now.inherit.now in
-    let place = c.args.facts.now.place in
+    let scope = c.args.facts.now.heading.inherit.now in
+    let place = c.args.facts.now.heading.place in
     let closed = shut _ _ _ _ _ _ c.close.ensures c.up_to_parent-up_to.ensures.value c.outline-outline.ensures.value in
     on_ok_weaker c.add.result
     (λ (is : c.add.new.self ≡ with_entry_at c.close.new.self c.outline-outline.result.now place expr).
@@ -38,8 +38,8 @@ returns-clause-ok c =
 pub returns-clause-own : goal.returns-clause-own
 returns-clause-own c =
     let expr = c.args.matcher.now in
-    let scope = c.args.facts.now.inherit.now in
-    let place = c.args.facts.now.place in
+    let scope = c.args.facts.now.heading.inherit.now in
+    let place = c.args.facts.now.heading.place in
     let closed = shut _ _ _ _ _ _ c.close.ensures c.up_to_parent-up_to.ensures.value c.outline-outline.ensures.value in
     on_ok_weaker c.add.result
     (λ (is : c.add.new.self ≡ with_entry_at c.close.new.self c.outline-outline.result.now place expr).

@@ -1,48 +1,31 @@
-//! What a row's heading says.
-ghost use Rattle.std.specs.Prelude.{◌≡◌, ◌<◌, length};
-ghost use Rattle.std.specs.Option.{option_copied};
-ghost use Rattle.org_agenda.specs.Headings.{keyword_in};
+//! The headings of files.
+ghost use Rattle.std.specs.Prelude.{◌≡◌, ◌<◌, length, option_copied, IsOkUnless};
+ghost use Rattle.org_base.specs.Codes.{memory_fault};
+ghost use Rattle.org_base.specs.Results.{Gives};
 ghost use Rattle.org_base.specs.Spans.{bytes_in};
+ghost use Rattle.org_entry.specs.Keyword.{is_finished, keyword_in};
 ghost use Rattle.org_inherit.specs.Category.{category};
 ghost use Rattle.org_inherit.specs.Tags.{all_tags};
-ghost use Rattle.org_base.specs.Results.{Gives};
 
+use crate::inherit::Inherit;
 use org_base::{Fault, Texts};
-use org_entry::Entry;
+use org_entry::{Entry, is_finished, keyword_of};
 use org_head::Head;
-use org_inherit::{Inherit, Inherits};
 use org_settings::{is_priority, priority_number};
 
-/// A heading of a file: what the file's outline says, the heading's place, its entry and that one's head.
+/// A heading: what its file says of headings, the places of the file and of the entry, from 0, the entry itself, and
+/// its head.
 #[derive(Debug, Drop)]
 pub struct Heading<'a, 'b> {
-    inherit: &'a Inherit<'b>,
-    place: usize,
-    entry: &'a Entry,
-    head: &'a Head,
+    pub inherit: &'a Inherit<'b>,
+    pub file: usize,
+    pub place: usize,
+    pub entry: &'a Entry,
+    pub head: &'a Head,
     ghost within: { place < length inherit.now.entries },
 }
 
 impl<'a, 'b> Heading<'a, 'b> {
-    /// The heading at a place of the file at another; none where it isn't there.
-    pub fn find(inherits: &'a Inherits<'b>, file: usize, place: usize) -> Option<Heading<'a, 'b>> {
-        if file >= inherits.count() {
-            return None;
-        }
-        let inherit = inherits.get(file);
-        if place >= inherit.outline().count() {
-            return None;
-        }
-        let entry = inherit.outline().entry(place);
-        let head = entry.head.as_ref()?;
-        Some(Heading {
-            inherit,
-            place,
-            entry,
-            head,
-        })
-    }
-
     /// The number of its stars.
     pub fn level(&self) -> u32
         ensures value { result ≡ self.now.head.now.level }
@@ -58,23 +41,17 @@ impl<'a, 'b> Heading<'a, 'b> {
     }
 
     /// Its keyword, if it has one.
-    pub fn keyword(&self) -> Option<&[u8]>
-        ensures value { let h = self.now in option_copied result ≡ keyword_in h.entry.now.text h.head.now }
+    pub fn keyword(&self) -> Option<&'a [u8]>
+        ensures value { option_copied result ≡ keyword_in self.now.entry.now.text self.now.head.now }
     {
-        let span = self.head.keyword?;
-        Some(self.entry.part(span))
+        keyword_of(self.entry, self.head)
     }
 
     /// Whether its keyword is a done one of its file.
-    pub fn is_done(&self) -> bool {
-        let settings = self.inherit.settings();
-        let Some(word) = self.keyword() else {
-            return false;
-        };
-        match settings.keyword_place(word) {
-            Some(place) => settings.is_done(place),
-            None => false,
-        }
+    pub fn is_done(&self) -> bool
+        ensures value { let h = self.now in result ≡ is_finished h.inherit.now.settings (keyword_in h.entry.now.text h.head.now) }
+    {
+        is_finished(self.inherit.settings(), self.keyword())
     }
 
     /// The X of its cookie `[#X]`, if it has one.
@@ -93,9 +70,10 @@ impl<'a, 'b> Heading<'a, 'b> {
         self.entry.part(self.head.title)
     }
 
-    /// All its tags, own and inherited.
+    /// All its tags, own and inherited. Want of memory is the only refusal.
     pub fn tags(&self) -> Result<Texts, Fault>
         ensures value { Gives result (all_tags self.now.inherit.now self.now.place) }
+        ensures memory { IsOkUnless result memory_fault }
     {
         self.inherit.all_tags(self.place)
     }
