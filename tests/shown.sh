@@ -1,12 +1,17 @@
 #!/bin/sh
 # Checks docs/definitions.md: that each file that a row names is there and holds the row's definitions, that each function
-# whose contract is named stands in its file and one of the definitions in a clause there, and that each law, must-fail edit,
-# test and worked stream by which a row is shown exists. Says which are missing and how many rows nothing shows; the last
+# whose contract is named stands in its file and one of the definitions in a clause there, and that each law, worked example,
+# must-fail edit, test and worked stream by which a row is shown exists. An example is a field of the record `ExamplesHold` in
+# its crate's specs/Examples.antt, or `ExamplesHold` itself where a crate has only one. Each example and each edit must stand
+# in some row. Says what is missing, how many rows have neither law nor example nor edit, and how many nothing shows; the last
 # line counts.
 cd "$(dirname "$0")/.." || exit 2
 page=docs/definitions.md
-named=$(mktemp) || exit 2
-trap 'rm -f "$named"' EXIT
+work=$(mktemp -d) || exit 2
+trap 'rm -rf "$work"' EXIT
+named=$work/named
+needed=$work/needed
+shown=$work/shown
 
 # One line for each name: what it is, the name, and for a definition the row's files.
 awk -F'|' '
@@ -29,6 +34,7 @@ awk -F'|' '
         defined = count = names($2, words)
         for (i = 1; i <= count; i++) print "definition", words[i] list
         if ($6 ~ /^ *- *$/) { print "nothing", words[1]; next }
+        if ($6 !~ /(^|;) *(law|example|edit) /) print "bare", words[1]
         count = split($6, kinds, ";")
         for (i = 1; i <= count; i++) {
             split(kinds[i], first, " ")
@@ -43,9 +49,35 @@ awk -F'|' '
     }
 ' "$page" > "$named"
 
+# The names of the worked examples in a file.
+examples_of() {
+    sed -n '/^pub record ExamplesHold /,$s/^  pub \([a-z_0-9]*\) : .*/\1/p; s/^abbrev pub \(ExamplesHold\) : .*/\1/p' "$1"
+}
+
+# Each example and each edit, as a row names it.
+for file in crates/*/specs/Examples.antt crates/*/must-fail/*.edit; do
+    [ -f "$file" ] || continue
+    crate=${file#crates/}
+    crate=${crate%%/*}
+    case $file in
+        *.antt) examples_of "$file" | sed "s/^/example $crate::/" ;;
+        *) echo "edit $crate/$(basename "$file" .edit)" ;;
+    esac
+done > "$needed"
+grep '^example \|^edit ' "$named" | sed 's/^\([a-z]* [^ ]*\).*/\1/' > "$shown"
+
 passed=0
 failed=0
 nothing=0
+bare=0
+while read -r kind name; do
+    if grep -q -x -F "$kind $name" "$shown"; then
+        passed=$((passed + 1))
+    else
+        echo "$page: no row names the $kind $name"
+        failed=$((failed + 1))
+    fi
+done < "$needed"
 while read -r kind name files; do
     case $kind in
         file) [ -f "$name" ] ;;
@@ -58,9 +90,11 @@ while read -r kind name files; do
             grep -q "fn $function[<(]" "$source" 2>/dev/null && for word in $files; do grep -w -- "$word" "$source"; done | grep -qv '^ghost use '
             ;;
         law) grep -q "^pub fn ${name##*::}()" "crates/${name%%::*}"/src/*.rt 2>/dev/null ;;
+        example) examples_of "crates/${name%%::*}/specs/Examples.antt" 2>/dev/null | grep -q -x -F "${name##*::}" ;;
         edit) [ -f "crates/${name%%/*}/must-fail/${name#*/}.edit" ] ;;
         test) grep -h -A1 '^#\[test\]' "crates/org_tests/src/${name%%::*}.rt" "crates/org_sequence_tests/src/${name%%::*}.rt" 2>/dev/null | grep -q "^fn ${name##*::}(" ;;
         stream) [ -f "tests/rows/$name.stdout" ] ;;
+        bare) bare=$((bare + 1)) && continue ;;
         nothing) nothing=$((nothing + 1)) ;;
         *) false ;;
     esac
@@ -71,6 +105,7 @@ while read -r kind name files; do
         failed=$((failed + 1))
     fi
 done < "$named"
+echo "shown: $bare rows by a contract, a test or a stream alone, without law, example or edit"
 echo "shown: $nothing rows that nothing shows"
 echo "shown: $passed passed, $failed failed"
 [ "$failed" -eq 0 ] && [ "$passed" -gt 0 ]
