@@ -1,8 +1,8 @@
 #!/bin/sh
 # For daily work: checks what differs from a commit (the first argument; by default origin/main). It proves the crates whose
-# code differs and those above them, over what earlier checks kept; runs their tests; tries the must-fail edits of the
-# crates that differ; and runs the worked streams over the program, and the faults. It says what it left out: only `make test`
-# is the gate.
+# code differs, with their worked examples, and those above them, over what earlier checks kept; runs their tests; tries the
+# must-fail edits of the crates that differ, but where only worked examples do, of which no edit knows; and runs the worked
+# streams over the program, and the faults. It says what it left out: only `make test` is the gate.
 cd "$(dirname "$0")/.." || exit 2
 base=$1
 if [ -z "$base" ]; then
@@ -32,16 +32,21 @@ all=$(sed 's/:.*//' "$work/crates")
 differs() {
     grep -q -E "^crates/$1/($2)/" "$work/files"
 }
+# The same, of more than its worked examples.
+differs_beyond_examples() {
+    grep -E "^crates/$1/(src|specs|proofs|must-fail)/" "$work/files" | grep -q -v -E "^crates/$1/(specs/Examples\.antt|proofs/laws/examples_hold/.*)$"
+}
 code=""
 edited=""
 for crate in $all; do
     line=$(grep "^$crate:" "$work/crates")
-    if differs "$crate" 'src|specs|proofs' || ! grep -q -x -F "$line" "$work/crates-before"; then
+    if ! grep -q -x -F "$line" "$work/crates-before"; then
         code="$code $crate"
         edited="$edited $crate"
-    elif differs "$crate" must-fail; then
-        edited="$edited $crate"
+        continue
     fi
+    differs "$crate" 'src|specs|proofs' && code="$code $crate"
+    differs_beyond_examples "$crate" && edited="$edited $crate"
 done
 # Those whose code differs, and those above them. A crate stands behind those that it names.
 affected=" $code "
@@ -82,7 +87,11 @@ left=""
 stopped=""
 for crate in $all; do
     case "$affected" in
-    *" $crate "*) [ -n "$stopped" ] || step "$crate is proved" "crates/$crate" rt check || stopped=$crate ;;
+    *" $crate "*)
+        examples=""
+        [ ! -f "crates/$crate/specs/Examples.antt" ] || examples=", its worked examples too"
+        [ -n "$stopped" ] || step "$crate is proved$examples" "crates/$crate" rt check || stopped=$crate
+        ;;
     *) left="$left $crate" ;;
     esac
 done
