@@ -4,7 +4,8 @@
 # it takes seconds: whether each must-fail edit can be applied, and each file is in the formatter's layout.
 cd "$(dirname "$0")/.." || exit 2
 work=$(mktemp -d) || exit 2
-trap 'rm -rf "$work"' EXIT
+watcher=""
+trap '[ -z "$watcher" ] || kill "$watcher" 2> /dev/null; rm -rf "$work"' EXIT
 
 # Runs a script of tests/ whose last line counts, shows what it wrote, and adds up what it counted.
 counted() {
@@ -37,6 +38,15 @@ if [ "$failed" -gt 0 ]; then
 fi
 
 echo "gate: proving every crate from nothing, its must-fail edits and tests (one and a half to two hours on four processors)"
+# By its own plan `rt ci` takes each check for two to three times the memory that it needs, so that processors stand idle. With
+# RT_JOBS it runs so many tasks side by side, one job each, and asks for no memory; a kit that doesn't know it isn't hindered.
+[ -n "$RT_JOBS" ] || RT_JOBS=$(python3 tests/spent.py lanes 2> /dev/null)
+if [ -n "$RT_JOBS" ]; then
+    export RT_JOBS
+    echo "gate: $RT_JOBS checks side by side"
+fi
+python3 tests/spent.py watch $$ "$work/spent" 2> /dev/null &
+watcher=$!
 {
     rt ci 2>&1
     echo $? > "$work/status"
@@ -52,6 +62,9 @@ if [ "$ci" -ne 0 ] && [ "$ci_failed" -eq 0 ]; then
 fi
 passed=$((passed + ci_passed))
 failed=$((failed + ci_failed))
+kill "$watcher" 2> /dev/null
+wait "$watcher"
+watcher=""
 
 echo "gate: what docs/definitions.md names"
 counted shown
@@ -73,6 +86,7 @@ proofs=$(grep -c '^rt: [a-z_0-9]* proved$' "$work/log")
 tests=$(grep -c ': its tests are proved$' "$work/log")
 edits=$(grep -c '^rt: must-fail ' "$work/log")
 echo "gate: $processor processor minutes in $((($(date +%s) - start) / 60)) minutes: $proofs crates proved, $tests with tests, $edits must-fail edits"
+[ ! -s "$work/spent" ] || python3 tests/spent.py tell "$work/spent" "$processor"
 
 echo "$passed passed, $failed failed"
 [ "$failed" -eq 0 ]
