@@ -37,7 +37,7 @@ if [ "$failed" -gt 0 ]; then
     exit 1
 fi
 
-echo "gate: proving every crate from nothing, its must-fail edits and tests (one and a half to two hours on four processors)"
+echo "gate: proving every crate from nothing, its must-fail edits and tests (one to two hours on four processors)"
 # By its own plan `rt ci` takes each check for two to three times the memory that it needs, so that processors stand idle. With
 # RT_JOBS it runs so many tasks side by side, one job each, and asks for no memory; a kit that doesn't know it isn't hindered.
 [ -n "$RT_JOBS" ] || RT_JOBS=$(python3 tests/spent.py lanes 2> /dev/null)
@@ -86,7 +86,7 @@ proofs=$(grep -c '^rt: [a-z_0-9]* proved$' "$work/log")
 tests=$(grep -c ': its tests are proved$' "$work/log")
 edits=$(grep -c '^rt: must-fail ' "$work/log")
 echo "gate: $processor processor minutes in $((($(date +%s) - start) / 60)) minutes: $proofs crates proved, $tests with tests, $edits must-fail edits"
-[ ! -s "$work/spent" ] || python3 tests/spent.py tell "$work/spent" "$processor"
+[ ! -s "$work/spent" ] || python3 tests/spent.py tell "$work/spent" "$processor" 2> /dev/null
 
 echo "$passed passed, $failed failed"
 [ "$failed" -eq 0 ]

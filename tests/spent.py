@@ -13,6 +13,7 @@ is what ends within one. The gate runs this beside `rt ci`; nothing in it depend
 import importlib.machinery
 import importlib.util
 import os
+import re
 import shutil
 import signal
 import sys
@@ -25,6 +26,7 @@ PAGE = os.sysconf("SC_PAGE_SIZE")
 # The most memory that a check has been seen to take, with a tenth more: docs/new-code.md says which, and how it was measured.
 MOST = 4_500_000_000
 KINDS = ("proofs", "edits", "tests", "builds")
+LINE = rf"\w+ ({'|'.join(KINDS)}) [0-9.]+ [0-9]+"
 
 
 def text_of(path):
@@ -114,8 +116,7 @@ def minutes_of(spent):
 
 def tell(path, whole=None):
     kinds, crates, most = dict.fromkeys(KINDS, 0), {}, (0, "", "")
-    for line in text_of(path).splitlines():
-        crate, kind, seconds, memory = line.split()
+    for crate, kind, seconds, memory in (it.split() for it in text_of(path).splitlines() if re.fullmatch(LINE, it)):
         kinds[kind] += float(seconds)
         spent = crates.setdefault(crate, dict.fromkeys(KINDS, 0))
         spent[kind] += float(seconds)
