@@ -7,7 +7,8 @@ pub fn limits_are_named()
     ensures { LimitsAreNamed }
 {}
 
-/// `Todo` and `TODO` are one word, names are kept in small letters, and a file's name has at most 255 bytes.
+/// Words stand between white space, `Todo` and `TODO` are one, names are kept in small letters, and a file's name has at most
+/// 255 bytes, none of them a space or a control character. A tick adds one to its own count.
 pub fn examples_hold()
     ensures { ExamplesHold }
 {}

@@ -19,7 +19,7 @@ use Rattle.std.specs.Bool.{beq}
 use Rattle.org_base.specs.Characters.{is_alphanumeric, is_tag_char}
 use Rattle.org_head.specs.Parts.{is_colon, is_plain_tag_char, are_tag_chars}
 
-alphanumeric : (c : ℕ) → c < 128 → is_ascii_alphanumeric c ≡ is_alphanumeric c
+pub alphanumeric : (c : ℕ) → c < 128 → is_ascii_alphanumeric c ≡ is_alphanumeric c
 unfolding ucd_category ucd_derived
 alphanumeric c below =
     let steps = zip_stepped (λ a g. a || (general_category_number g == 8)) is_alphabetic general_category is_alphabetic_stepped general_category_stepped in

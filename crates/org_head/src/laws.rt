@@ -13,7 +13,7 @@ pub fn heading_line_has_no_other_parts()
     ensures { PartsAreDetermined }
 {}
 
-/// A heading without a cookie has the default that its file names.
+/// A heading without a cookie has the default that its file names, and a minus stands in no tag.
 pub fn examples_hold()
     ensures { ExamplesHold }
 {}

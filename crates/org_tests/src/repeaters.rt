@@ -1,9 +1,7 @@
 //! On which days stamps occur, and where a completed task's stamp shifts to.
 use org_base::{Code, Fault, Profile};
 use org_cal::{Day, Moment, TimeOfDay, push_date};
-use org_repeat::{
-    Occurrences, first_on, next_after, occurrences_in, occurs_on, range_start, shifted,
-};
+use org_repeat::{Occurrences, next_after, occurrences_in, occurs_on, range_start, shifted};
 use org_stamp::{Stamp, print_stamp, read_stamp};
 use std::alloc::Global;
 use std::test::Fail;
@@ -117,29 +115,6 @@ fn wrong_window(alloc: Global) -> Result<Option<&'static str>, Fault> {
 fn windows(rt: HostRuntime) -> Result<(), Fail> {
     assert_eq!(rt; wrong_window(rt.alloc())?, None);
     Ok(())
-}
-
-fn most_left(from: &str, to: &str) -> Option<usize> {
-    window("<2024-01-31 Wed +1m>", from, to)?.size_hint().1
-}
-
-fn first_from(text: &str, from: Day) -> Option<Day> {
-    match read_stamp(text.as_bytes(), 0) {
-        Some((stamp, _)) => first_on(&stamp, Profile::One, from),
-        None => None,
-    }
-}
-
-fn first_in_march(text: &str) -> Option<(u16, u8, u8)> {
-    Some(first_from(text, Day::spelled(b"2024-03-01")?)?.parts())
-}
-
-#[test]
-fn bounds(rt: HostRuntime) {
-    assert_eq!(rt; most_left("2024-02-01", "2024-05-01"), Some(91));
-    assert_eq!(rt; most_left("2024-03-02", "2024-03-01"), Some(0));
-    assert_eq!(rt; first_in_march("<2024-01-31 Wed +1m>"), Some((2024, 3, 31)));
-    assert_eq!(rt; first_in_march("<2024-02-28 Wed>"), None);
 }
 
 // Ranges that repeat, a day, and where the copy begins that the day shows in the second profile; then stamps, a day, and where
