@@ -4,15 +4,15 @@ ghost use Rattle.org_class.specs.Blocks.{begins_with, block_name, ends_block};
 
 use org_base::words::{first_word, same_word, trimmed};
 
-// Whether the text begins with the word, but for the case of ASCII letters.
-pub(crate) fn begins_with(text: &[u8], word: &[u8]) -> bool
+/// Whether the text begins with the word, but for the case of ASCII letters.
+pub fn begins_with(text: &[u8], word: &[u8]) -> bool
     ensures value { result ≡ begins_with text.now word.now }
 {
     same_word(&text[..text.len().min(word.len())], word)
 }
 
-// The name of the block that the line would open: X of `#+BEGIN_X`. Empty where there is none.
-pub(crate) fn block_name(line: &[u8]) -> &[u8]
+/// The name of the block that the line would open: X of `#+BEGIN_X`, in letters of any case. Empty where there is none.
+pub fn block_name(line: &[u8]) -> &[u8]
     ensures value { result.now ≡ block_name line.now }
 {
     let word = first_word(line);

@@ -16,10 +16,11 @@ mod read;
 mod stamp;
 mod word;
 
-pub use line::{LineStamps, stamps_in};
+pub use line::{LineStamps, next_close, stamp_at, stamps_in};
 pub use mark::{Delay, Repeater, RepeaterKind};
 pub use pair::{Pair, PlanningKeyword};
-pub use planning::{clock_stamp, is_clock, is_planning, next_pair};
+pub use planning::{clock_stamp, is_clock, is_planning, next_pair, planning_word};
 pub use print::print_stamp;
-pub use read::{read_single, read_stamp};
+pub use read::{first_close, read_single, read_stamp};
 pub use stamp::{Found, Stamp};
+pub use word::leading_spaces;

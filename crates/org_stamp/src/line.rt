@@ -35,8 +35,9 @@ impl<'a> Model for LineStamps<'a> {
         × (s.at ≤ s.close → s.close ≡ s.at + position_or_len is_close (drop s.at s.line.now)) };
 }
 
-// The first closing bracket from the place on, or the line's length, where it is known unless that lies before.
-fn next_close(line: &[u8], at: usize, known: usize) -> usize
+/// The first closing bracket from the place on, or the line's length, where the one that is known lies before the place or
+/// is that one. So a walk over a line from the left looks at each byte once.
+pub fn next_close(line: &[u8], at: usize, known: usize) -> usize
     requires within { at ≤ length line.now }
     requires known { at ≤ known → known ≡ at + position_or_len is_close (drop at line.now) }
     ensures value { result ≡ at + position_or_len is_close (drop at line.now) }
@@ -59,7 +60,9 @@ fn digit_follows(line: &[u8], at: usize) -> bool
     }
 }
 
-fn stamp_at(line: &[u8], at: usize, close: usize) -> Option<(Stamp, usize)>
+/// The longest stamp that begins at the place, and its length in bytes, where the first closing bracket from there on is
+/// known: what `read_stamp` answers, without a search for that bracket.
+pub fn stamp_at(line: &[u8], at: usize, close: usize) -> Option<(Stamp, usize)>
     requires within { at ≤ length line.now }
     requires close { close ≡ at + position_or_len is_close (drop at line.now) }
     ensures value { result ≡ stamp_of (drop at line.now) }

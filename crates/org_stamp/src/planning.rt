@@ -9,8 +9,8 @@ use crate::read::{ranged_len, single_of, stamp_of};
 use crate::stamp::Stamp;
 use crate::word::leading_spaces;
 
-// The keyword at the front, and its length with its colon.
-fn word_at(bytes: &[u8]) -> Option<(PlanningKeyword, usize)>
+/// The planning keyword at the front, and its length in bytes with its colon. Letter case counts.
+pub fn planning_word(bytes: &[u8]) -> Option<(PlanningKeyword, usize)>
     ensures value { result ≡ word_at bytes.now }
     ensures bound { IfSome result (λ found. (0 < found.1) × (found.1 ≤ length bytes.now)) }
 {
@@ -59,7 +59,7 @@ fn pair_at(line: &[u8], at: usize) -> Option<Pair>
     ensures bound { IfSome result (EndsBehind at (length line.now)) }
 {
     let bytes = &line[at..];
-    let (word, len) = word_at(bytes)?;
+    let (word, len) = planning_word(bytes)?;
     let (gap, rest) = past_spaces(&bytes[len..]);
     pair_of(word, at + (len + gap), rest)
 }

@@ -41,8 +41,8 @@ pub fn read_single(line: &[u8], at: usize) -> Option<(Stamp, usize)>
     single_of(rest)
 }
 
-// The place of the first closing bracket, or the length.
-pub(crate) fn first_close(bytes: &[u8]) -> usize
+/// The place of the first closing bracket, or the length.
+pub fn first_close(bytes: &[u8]) -> usize
     ensures value { result ≡ position_or_len is_close bytes.now }
     ensures within { result ≤ length bytes.now }
 {

@@ -11,8 +11,8 @@ pub(crate) fn is_space(byte: u8) -> bool
     matches!(byte, b' ' | b'\t' | b'\r')
 }
 
-// How much white space stands at the front.
-pub(crate) fn leading_spaces(bytes: &[u8]) -> usize
+/// How many bytes of white space stand at the front: spaces, tabs and CRs.
+pub fn leading_spaces(bytes: &[u8]) -> usize
     ensures value { result ≡ prefix_len is_space bytes.now }
     ensures within { result ≤ length bytes.now }
 {
