@@ -1,7 +1,8 @@
 #!/bin/sh
 # The whole gate. The last line is 'N passed, M failed', over the checks of `rt ci`, what docs/definitions.md names, the
 # worked streams, what the program does where memory is refused and reads and writes fail, and what is looked at first since
-# it takes seconds: whether each must-fail edit can be applied, and each file is in the formatter's layout.
+# it takes seconds: whether each must-fail edit can be applied, each file is in the formatter's layout, and no crate of the
+# store stands on views.
 cd "$(dirname "$0")/.." || exit 2
 work=$(mktemp -d) || exit 2
 watcher=""
@@ -28,9 +29,10 @@ counted() {
 passed=0
 failed=0
 start=$(date +%s)
-echo "gate: whether each must-fail edit can be applied, and each file is in the formatter's layout"
+echo "gate: whether each must-fail edit can be applied, each file is in the formatter's layout, and no crate of the store stands on views"
 counted edits
 counted layout
+counted layers
 if [ "$failed" -gt 0 ]; then
     echo "gate: nothing else was tried"
     echo "$passed passed, $failed failed"
