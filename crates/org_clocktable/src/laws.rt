@@ -29,7 +29,8 @@ pub fn options_are_spelled()
     ensures { OptionsAreSpelled }
 {}
 
-/// Hours of a heading that lies too deep stand in the lines above it alone, and a file without clocks has no line.
+/// Hours of a heading that lies too deep stand in the lines above it alone, a file without clocks has no line, and hidden
+/// headings count.
 pub fn examples_hold()
     ensures { ExamplesHold }
 {}

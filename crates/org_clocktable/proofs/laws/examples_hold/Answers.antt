@@ -5,4 +5,4 @@ use Rattle.org_clocktable.proofs.laws.examples_hold.Goals as goal
 
 pub returns : goal.returns
 unfolding clock_minutes effort_minutes step_rows
-returns c = refl
+returns c = record { down_to_level_one = refl; hidden_counts = λ moment scope. refl }
