@@ -12,7 +12,7 @@
 # And with a `read_one` of org_kept that keeps what an empty section says where `read_entry` finds no memory, so that a
 # background step takes the mark away and loses what the section says: then the call `Work` lists no heading, and is named.
 here=$(cd "$(dirname "$0")" && pwd)
-streams="every-command lists-of-one-file-in-every-form edits-of-one-section-among-many headings-that-come-and-go-among-many"
+streams="every-command places-and-what-is-made-from-them lists-of-one-file-in-every-form edits-of-one-section-among-many headings-that-come-and-go-among-many"
 work=$(mktemp -d) || exit 2
 trap 'rm -rf "$work"' EXIT
 passed=0
@@ -31,7 +31,7 @@ shim=$(sh "$here/faults/build.sh" "$work") || give_up "the shim of tests/faults 
 
 # What the program writes with ample memory.
 ample() {
-    "$program" --at "$moment" --idle "$idle"
+    "$program" --at "$moment" --idle "$idle" --protocol 2
 }
 
 # What is to be written where the command of the given number is refused: what those before it give, that reply, and what
@@ -111,7 +111,7 @@ try_stream() {
     early=0
     without=0
     answered=0
-    while run_refused "$program" --at "$moment" --idle "$idle" < "$work/stream"; [ "$met" -gt 0 ]; do
+    while run_refused "$program" --at "$moment" --idle "$idle" --protocol 2 < "$work/stream"; [ "$met" -gt 0 ]; do
         is_right || break
         growth=$((growth + 1))
     done

@@ -1,10 +1,13 @@
 -- What a list over the files of a world shows.
-use Rattle.std.proofs.Common.{◌≡◌, ◌≢◌, ◌∙◌, ◌+◌, ℕ, List, [], ◌∷◌, Bool, Bor, ap, inl, inr, refl, sym}
+use Rattle.std.proofs.Common.{◌≡◌, ◌≢◌, ◌∙◌, ◌+◌, ℕ, List, [], ◌∷◌, Bool, Bor, ap, ap₂, inl, inr, refl, sym}
 use Rattle.org_agenda.specs.Lists.{Listing, Matching, list_rows, todo_listing}
 use Rattle.org_base.specs.Codes.{memory_fault}
 use Rattle.org_base.specs.declared.fault.Fault.{Fault}
 use Rattle.org_inherit.specs.Scope.{Scope}
 use Rattle.org_layout.specs.Lines.{list_lines}
+use Rattle.org_engine.specs.Places.{files_named, in_form, line_places, list_in, list_places, list_shown}
+use Rattle.org_engine.specs.declared.question.Form.{Form}
+use Rattle.org_engine.specs.declared.question.Form.TheVariants.{Places, Text}
 use Rattle.org_match.specs.Patterns.{regexp_fault}
 use Rattle.org_match.specs.Refusal.{AreReadable, IsRefusal, patterns}
 use Rattle.org_match.proofs.Refusable.{readable_or_refused}
@@ -33,14 +36,20 @@ pub all_named : (scopes : List Scope) → scopes_named None scopes ≡ scopes
 all_named [] = refl
 all_named (scope ∷ scopes) = ap (λ xs. scope ∷ xs) (all_named scopes)
 
-pub list_are : (listing : Listing) (over : Option ℕ) (world : WorldView) → list_lines (scopes_named None (scopes_of world)) (list_rows listing over (scopes_named None (scopes_of world))) ≡ list_view listing over world
-unfolding list_view
-list_are listing over world = ap (λ scopes. list_lines scopes (list_rows listing over scopes)) (all_named (scopes_of world))
+pub all_files : (files : List FileView) → files_named None files ≡ files
+all_files [] = refl
+all_files (file ∷ files) = ap (λ xs. file ∷ xs) (all_files files)
+
+pub list_are : (form : Form) (listing : Listing) (over : Option ℕ) (world : WorldView) →
+    in_form form None (λ scopes. list_lines scopes (list_rows listing over scopes)) (λ scopes. list_shown listing over scopes) world ≡ list_in form listing over world
+unfolding list_view list_places
+list_are Text listing over world = ap (λ scopes. list_lines scopes (list_rows listing over scopes)) (all_named (scopes_of world))
+list_are Places listing over world = ap₂ (λ files scopes. line_places files (list_shown listing over scopes)) (all_files world.files) (all_named (scopes_of world))
 
 -- the same of a match list, at the moment of the world
-pub matching_are : (expr : Expr) (moment : Moment) (over : Option ℕ) (world : WorldView) → moment ≡ world.moment →
-    list_lines (scopes_named None (scopes_of world)) (list_rows (Matching expr moment) over (scopes_named None (scopes_of world))) ≡ list_view (Matching expr world.moment) over world
-matching_are expr moment over world is = list_are (Matching expr moment) over world ∙ ap (λ m. list_view (Matching expr m) over world) is
+pub matching_are : (form : Form) (expr : Expr) (moment : Moment) (over : Option ℕ) (world : WorldView) → moment ≡ world.moment →
+    in_form form None (λ scopes. list_lines scopes (list_rows (Matching expr moment) over scopes)) (λ scopes. list_shown (Matching expr moment) over scopes) world ≡ list_in form (Matching expr world.moment) over world
+matching_are form expr moment over world is = list_are form (Matching expr moment) over world ∙ ap (λ m. list_in form (Matching expr m) over world) is
 
 -- where a file is found it is there, and where none is found it isn't
 mapped : (place : Option ℕ) → is_some (option_map (λ (n : ℕ). n + 1) place) ≡ is_some place
@@ -70,30 +79,30 @@ is_gone : (file : Option (List ℕ)) (world : WorldView) (reply : Reply) (fault 
 is_gone file world reply fault (missing, is) = ap (λ b. cond b (Refused (Plain code.Unknown)) reply) missing ∙ ap Refused (sym is)
 
 -- the answers to a TODO list
-pub todo_shown : (file : Option (Bor (List ℕ))) (words : Bor (List (List ℕ))) (world : WorldView) (over : Option ℕ) (text : List ℕ) →
-    IsPlaceOver (option_copied file) world over → text ≡ list_view (todo_listing words.now) over world → TellsOf (Todo file words) world (Shown text)
-todo_shown file words world over text (there, place) is =
-    (TodoList (option_copied file) words.now, refl, there_is (option_copied file) world _ _ there (ap Shown (sym (is ∙ ap (λ o. list_view (todo_listing words.now) o world) place))))
+pub todo_shown : (form : Form) (file : Option (Bor (List ℕ))) (words : Bor (List (List ℕ))) (world : WorldView) (over : Option ℕ) (text : List ℕ) →
+    IsPlaceOver (option_copied file) world over → text ≡ list_in form (todo_listing words.now) over world → TellsOf (Todo file words) form world (Shown text)
+todo_shown form file words world over text (there, place) is =
+    (TodoList (option_copied file) words.now, refl, there_is (option_copied file) world _ _ there (ap Shown (sym (is ∙ ap (λ o. list_in form (todo_listing words.now) o world) place))))
 
-pub todo_declined : (file : Option (Bor (List ℕ))) (words : Bor (List (List ℕ))) (world : WorldView) (fault : Fault) →
-    IsMissingFault (option_copied file) world fault → TellsOf (Todo file words) world (Refused fault)
-todo_declined file words world fault why = (TodoList (option_copied file) words.now, refl, is_gone (option_copied file) world _ fault why)
+pub todo_declined : (form : Form) (file : Option (Bor (List ℕ))) (words : Bor (List (List ℕ))) (world : WorldView) (fault : Fault) →
+    IsMissingFault (option_copied file) world fault → TellsOf (Todo file words) form world (Refused fault)
+todo_declined form file words world fault why = (TodoList (option_copied file) words.now, refl, is_gone (option_copied file) world _ fault why)
 
 -- the answers to a match list
-pub match_shown : (file : Option (Bor (List ℕ))) (asked : Bor (List ℕ)) (world : WorldView) (over : Option ℕ) (expr : Expr) (text : List ℕ) →
-    IsPlaceOver (option_copied file) world over → Reads (chars asked.now) expr → AreReadable (patterns expr) → text ≡ list_view (Matching expr world.moment) over world → TellsOf (Match file asked) world (Shown text)
-match_shown file asked world over expr text (there, place) reads readable is =
-    (MatchList (option_copied file) (Ok expr), (refl, (reads, readable)), there_is (option_copied file) world _ _ there (ap Shown (sym (is ∙ ap (λ o. list_view (Matching expr world.moment) o world) place))))
+pub match_shown : (form : Form) (file : Option (Bor (List ℕ))) (asked : Bor (List ℕ)) (world : WorldView) (over : Option ℕ) (expr : Expr) (text : List ℕ) →
+    IsPlaceOver (option_copied file) world over → Reads (chars asked.now) expr → AreReadable (patterns expr) → text ≡ list_in form (Matching expr world.moment) over world → TellsOf (Match file asked) form world (Shown text)
+match_shown form file asked world over expr text (there, place) reads readable is =
+    (MatchList (option_copied file) (Ok expr), (refl, (reads, readable)), there_is (option_copied file) world _ _ there (ap Shown (sym (is ∙ ap (λ o. list_in form (Matching expr world.moment) o world) place))))
 
-pub match_declined : (file : Option (Bor (List ℕ))) (asked : Bor (List ℕ)) (world : WorldView) (over : Option ℕ) (fault : Fault) →
-    IsPlaceOver (option_copied file) world over → IsUnread asked.now fault → TellsOf (Match file asked) world (Refused fault)
-match_declined file asked world over fault (there, place) why =
+pub match_declined : (form : Form) (file : Option (Bor (List ℕ))) (asked : Bor (List ℕ)) (world : WorldView) (over : Option ℕ) (fault : Fault) →
+    IsPlaceOver (option_copied file) world over → IsUnread asked.now fault → TellsOf (Match file asked) form world (Refused fault)
+match_declined form file asked world over fault (there, place) why =
     (MatchList (option_copied file) (Err fault), (refl, why), there_is (option_copied file) world _ _ there refl)
 
 -- a file that isn't there is told, whatever the text is read as
-gone_either : (file : Option (List ℕ)) (world : WorldView) (read : Result Expr Fault) (fault : Fault) → IsMissingFault file world fault → view_of (MatchList file read) world ≡ Refused fault
-gone_either file world (Ok expr) fault why = is_gone file world _ fault why
-gone_either file world (Err f) fault why = is_gone file world _ fault why
+gone_either : (form : Form) (file : Option (List ℕ)) (world : WorldView) (read : Result Expr Fault) (fault : Fault) → IsMissingFault file world fault → view_of form (MatchList file read) world ≡ Refused fault
+gone_either form file world (Ok expr) fault why = is_gone file world _ fault why
+gone_either form file world (Err f) fault why = is_gone file world _ fault why
 
 -- a text is read as something
 read_as : (text : List ℕ) → IsUtf8 text → (r : Result Expr Fault) → IfOk r (Reads (chars text)) → IfOk r (λ expr. AreReadable (patterns expr)) → IfErr r (IsRefusal (chars text)) →
@@ -105,8 +114,8 @@ read_as text utf8 (Err fault) reads built (inr (expr, there, refused)) = elim (r
   | inr one ↦ (Err regexp_fault, inr (refl, (expr, there, one)))
 ]
 
-pub match_gone : (file : Option (Bor (List ℕ))) (asked : Bor (List ℕ)) (world : WorldView) (r : Result Expr Fault) (fault : Fault) → IsUtf8 asked.now →
-    IfOk r (Reads (chars asked.now)) → IfOk r (λ expr. AreReadable (patterns expr)) → IfErr r (IsRefusal (chars asked.now)) → IsMissingFault (option_copied file) world fault → TellsOf (Match file asked) world (Refused fault)
-match_gone file asked world r fault utf8 reads built why gone =
+pub match_gone : (form : Form) (file : Option (Bor (List ℕ))) (asked : Bor (List ℕ)) (world : WorldView) (r : Result Expr Fault) (fault : Fault) → IsUtf8 asked.now →
+    IfOk r (Reads (chars asked.now)) → IfOk r (λ expr. AreReadable (patterns expr)) → IfErr r (IsRefusal (chars asked.now)) → IsMissingFault (option_copied file) world fault → TellsOf (Match file asked) form world (Refused fault)
+match_gone form file asked world r fault utf8 reads built why gone =
     let read = read_as asked.now utf8 r reads built why in
-    (MatchList (option_copied file) read.0, (refl, read.1), gone_either (option_copied file) world read.0 fault gone)
+    (MatchList (option_copied file) read.0, (refl, read.1), gone_either form (option_copied file) world read.0 fault gone)

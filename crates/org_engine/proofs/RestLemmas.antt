@@ -15,8 +15,11 @@ use Rattle.org_clocktable.specs.Request.{TableRequest}
 use Rattle.org_expression.specs.Grammar.{Expr}
 use Rattle.org_kept.specs.Outline.{scope_of}
 use Rattle.org_inherit.specs.Scope.{Scope}
+use Rattle.org_engine.specs.Places.{files_named, table_in, table_places}
+use Rattle.org_engine.specs.declared.question.Form.TheVariants.{Places, Text}
+use Rattle.org_engine.specs.declared.question.Form.{Form}
 use Rattle.org_engine.specs.World.{WorldView, FileView, State, PinView}
-use Rattle.org_engine.specs.Step.{Question, Shown, last_serial, Command, AddFile, DropFile, EditFile, Complete, At, Inherit, SetProfile, PinWorld, Unpin, TextOf, Ask, Serial, Refused, Outcome, step, changes, profiled, is_unused, refused, pinned_by, unpinned_by, world_of, is_session, answer, kept_world, added, dropped, put, edited, completed_at, text_seen, with_file, with_text, without, file_named, is_missing}
+use Rattle.org_engine.specs.Step.{Question, Shown, last_serial, Command, AddFile, DropFile, EditFile, Complete, At, Inherit, SetProfile, PinWorld, Unpin, TextOf, KeywordsOf, Version, Ask, Serial, Refused, Outcome, step, changes, profiled, is_unused, refused, pinned_by, unpinned_by, world_of, is_session, answer, kept_world, added, dropped, put, edited, completed_at, text_seen, with_file, with_text, without, file_named, is_missing}
 use Rattle.org_engine.specs.Views.{scopes_named, step_text, table_view}
 use Rattle.org_engine.specs.Rest.{LimitsAreNamed, PinsKeepTheWorld, CommandsLeaveTheRest, IsNoName, KeepsOrder, KeepsRest, TablesAreOverTheirFiles, TakesOut, changed_by, names_in, names_of, over_all}
 use Rattle.org_engine.proofs.LawLemmas.{next_state}
@@ -46,17 +49,17 @@ pin_there session (p ∷ pins) world h =
       | false ↦ λ k. pin_there session pins world k
     ] h
 
-abbrev IsAsked : ℕ → Question → State → Bool → Outcome → Type 0
-IsAsked session question s b o = answer question (cond b (kept_world (world_of session o.after.pins)) (Err (fault.Plain code.Session))) ≡ answer question (Ok s.world)
+abbrev IsAsked : Form → ℕ → Question → State → Bool → Outcome → Type 0
+IsAsked form session question s b o = answer form question (cond b (kept_world (world_of session o.after.pins)) (Err (fault.Plain code.Session))) ≡ answer form question (Ok s.world)
 
-pinned : (session serial : ℕ) (question : Question) (s : State) (b : Bool) (o : Option WorldView) → world_of session s.pins ≡ o →
-    (cond b (pinned_by session s o) (refused (fault.Plain code.Session) s)).reply ≡ Serial serial → IsAsked session question s b (cond b (pinned_by session s o) (refused (fault.Plain code.Session) s))
-pinned session serial question s false o h k = absurd cc
-pinned session serial question s true (Some w) h k = absurd cc
-pinned session serial question s true None h k = ap (λ (w : Option WorldView). answer question (kept_world w)) (pin_there session s.pins s.world h)
+pinned : (form : Form) (session serial : ℕ) (question : Question) (s : State) (b : Bool) (o : Option WorldView) → world_of session s.pins ≡ o →
+    (cond b (pinned_by session s o) (refused (fault.Plain code.Session) s)).reply ≡ Serial serial → IsAsked form session question s b (cond b (pinned_by session s o) (refused (fault.Plain code.Session) s))
+pinned form session serial question s false o h k = absurd cc
+pinned form session serial question s true (Some w) h k = absurd cc
+pinned form session serial question s true None h k = ap (λ (w : Option WorldView). answer form question (kept_world w)) (pin_there session s.pins s.world h)
 
 pub pins_keep : PinsKeepTheWorld
-pins_keep session serial question s k = pinned session serial question s (is_session session) (world_of session s.pins) refl k
+pins_keep session serial question form s k = pinned form session serial question s (is_session session) (world_of session s.pins) refl k
 
 -- a change of files leaves the rest
 next_rest : (s : State) (files : List FileView) (b : Bool) → KeepsRest s (next_state s files b).after
@@ -78,7 +81,9 @@ files_rest s (Inherit names) name is = absurd cc
 files_rest s (PinWorld other) name is = absurd cc
 files_rest s (Unpin other) name is = absurd cc
 files_rest s (TextOf n) name is = absurd cc
-files_rest s (Ask question by) name is = absurd cc
+files_rest s (KeywordsOf n) name is = absurd cc
+files_rest s Version name is = absurd cc
+files_rest s (Ask question form by) name is = absurd cc
 
 -- a refused command leaves all
 next_kept : (s : State) (files : List FileView) (b : Bool) (f : Fault) → (next_state s files b).reply ≡ Refused f → (next_state s files b).after ≡ s
@@ -124,7 +129,9 @@ all_kept s (Inherit names) f h = absurd cc
 all_kept s (PinWorld other) f h = pin_kept other s (is_session other) (world_of other s.pins) f h
 all_kept s (Unpin other) f h = unpin_kept other s (is_session other) (world_of other s.pins) f h
 all_kept s (TextOf n) f h = refl
-all_kept s (Ask question by) f h = refl
+all_kept s (KeywordsOf n) f h = refl
+all_kept s Version f h = refl
+all_kept s (Ask question form by) f h = refl
 
 pin_world : (session : ℕ) (s : State) (b : Bool) (o : Option WorldView) → (pin_out session s b o).after.world ≡ s.world
 pin_world session s false o = refl
@@ -229,7 +236,9 @@ module _ (other : List ℕ) where
   beside s (PinWorld session) h = ap (λ (w : WorldView). found w.files) (pin_world session s (is_session session) (world_of session s.pins))
   beside s (Unpin session) h = ap (λ (w : WorldView). found w.files) (unpin_world session s (is_session session) (world_of session s.pins))
   beside s (TextOf n) h = refl
-  beside s (Ask question by) h = refl
+  beside s (KeywordsOf n) h = refl
+  beside s Version h = refl
+  beside s (Ask question form by) h = refl
 
 -- where files stand
 same_names : (name text : List ℕ) (serial : ℕ) (fs : List FileView) → names_in (with_text name text serial fs) ≡ names_in fs
@@ -297,8 +306,10 @@ leave_the_rest s = (
     moment = λ moment. refl;
     names = λ names. refl;
     profile = λ p n h. profile_set p s (is_unused s) n h;
-    asked = λ question session. refl;
+    asked = λ question form session. refl;
     text = λ name. refl;
+    keywords = λ name. refl;
+    version = refl;
     refused = all_kept s;
     pinned = λ session. pin_world session s (is_session session) (world_of session s.pins);
     unpinned = λ session. unpin_world session s (is_session session) (world_of session s.pins);
@@ -326,6 +337,19 @@ module _ (name : List ℕ) (inherited : List (List ℕ)) where
       let P : FileView → Type 0 = λ g. name ≢ g.name in
       rw (no_name name f.name (All-head P f fs none)) (one_named file fs behind is (All-tail P f fs none) more)
 
+  none_files : (files : List FileView) → IsNoName name files → files_named (Some name) files ≡ []
+  none_files [] none = refl
+  none_files (f ∷ fs) none =
+      let P : FileView → Type 0 = λ file. name ≢ file.name in
+      rw (no_name name f.name (All-head P f fs none)) (none_files fs (All-tail P f fs none))
+
+  one_file : (file : FileView) (before behind : List FileView) → name ≡ file.name → IsNoName name before → IsNoName name behind →
+      files_named (Some name) (before ++ file ∷ behind) ≡ file ∷ []
+  one_file file [] behind is none more = rw (ap (λ (n : List ℕ). bytes_eq name n) (sym is) ∙ named name) (ap (λ (fs : List FileView). file ∷ fs) (none_files behind more))
+  one_file file (f ∷ fs) behind is none more =
+      let P : FileView → Type 0 = λ g. name ≢ g.name in
+      rw (no_name name f.name (All-head P f fs none)) (one_file file fs behind is (All-tail P f fs none) more)
+
   one_found : (file : FileView) (before behind : List FileView) → name ≡ file.name → is_some (file_named name (before ++ file ∷ behind)) ≡ true
   one_found file [] behind is = rw (ap (λ (n : List ℕ). bytes_eq name n) (sym is) ∙ named name) refl
   one_found file (f ∷ fs) behind is = elim (cases_Bool (bytes_eq name f.name)) [
@@ -339,9 +363,21 @@ unfolding table_view step_text
 same_table table file before behind world over is none more =
     rw (over, is, one_named file.name world.inherited file before behind refl none more) refl
 
+same_places : (table : TableRequest Expr) (file : FileView) (before behind : List FileView) (world : WorldView) → table.file ≡ Some file.name → world.files ≡ before ++ file ∷ behind →
+    IsNoName file.name before → IsNoName file.name behind → table_places table world ≡ table_places (over_all table) (record world { files = file ∷ [] })
+unfolding table_places
+same_places table file before behind world over is none more =
+    rw (over, is, one_file file.name world.inherited file before behind refl none more, one_named file.name world.inherited file before behind refl none more) refl
+
+-- its text, and where its lines lead
+in_either : (form : Form) (table : TableRequest Expr) (file : FileView) (before behind : List FileView) (world : WorldView) → table.file ≡ Some file.name → world.files ≡ before ++ file ∷ behind →
+    IsNoName file.name before → IsNoName file.name behind → table_in form table world ≡ table_in form (over_all table) (record world { files = file ∷ [] })
+in_either Text table file before behind world over is none more = same_table table file before behind world over is none more
+in_either Places table file before behind world over is none more = same_places table file before behind world over is none more
+
 pub tables_over : TablesAreOverTheirFiles
-tables_over table file before behind s over is none more =
+tables_over table form file before behind s over is none more =
     let there : is_some (file_named file.name s.world.files) ≡ true = ap (λ (fs : List FileView). is_some (file_named file.name fs)) is ∙ one_found file.name s.world.inherited file before behind refl in
-    let same = same_table table file before behind s.world over is none more in
+    let same = in_either form table file before behind s.world over is none more in
     let is_there : is_missing table.file s.world.files ≡ false = ap (λ (name : Option (List ℕ)). is_missing name s.world.files) over ∙ ap not there in
     rw is_there (ap Shown same)

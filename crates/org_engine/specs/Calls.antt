@@ -8,11 +8,14 @@ use Rattle.org_base.specs.declared.code.Code.TheVariants as code
 use Rattle.org_base.specs.declared.fault.Fault.{Fault}
 use Rattle.org_base.specs.declared.fault.Fault.TheVariants as fault
 use Rattle.org_engine.specs.Step.{AddFile, Answers, Command, Refused, Reply, Serial, Shown, changes, file_named, most_files, put}
+use Rattle.org_engine.specs.declared.changes.Completion.{Completion}
 use Rattle.org_engine.specs.World.{EngineView, FileView, KeptWorld, State}
 use Rattle.org_file.specs.Completion.{completed, completion_part}
+use Rattle.org_file.specs.Parts.{Part}
 use Rattle.org_file.specs.Written.{IsRevision, Revises, part_of}
 use Rattle.org_file.specs.declared.revision.Revision.{Revision}
 use Rattle.org_kept.specs.Change.{LiesIn, edited}
+use Rattle.org_kept.specs.File.{FileView as KeptFile}
 use Rattle.org_kept.specs.declared.change.Change.{Change}
 
 -- what a text says that is lent, if one is
@@ -22,6 +25,10 @@ text_in content lent = option_map (λ text. content text.now) lent
 -- the name and the text of the file at a place
 abbrev pub IsFileAt : List FileView → ℕ → List ℕ → List ℕ → Type 0
 IsFileAt files place name text = (file : FileView) → slice_get files place ≡ Some file → (name ≡ file.name) × (text ≡ file.text)
+
+-- the name of the file at a place, and what is kept of it
+abbrev pub IsKeptAt : List FileView → ℕ → List ℕ → KeptFile → Type 0
+IsKeptAt files place name kept = (file : FileView) → slice_get files place ≡ Some file → file ≡ record { name = name; text = kept.text; serial = kept.serial }
 
 -- the text, lent, and the serial of the file of that name
 abbrev pub IsVersion : {T : Type 0} → (T → List ℕ) → List ℕ → List FileView → Bor T × ℕ → Type 0
@@ -78,12 +85,22 @@ abbrev pub Completed : {T : Type 0} → (T → List ℕ) → List ℕ → ℕ �
 Completed content name line keyword kept result =
     (file : FileView) → file_named name kept.world.files ≡ Some file → Revises content result (completed file.text line keyword kept.world.moment)
 
+-- what a completion says that it replaced
+abbrev pub part_told : Completion → Part
+part_told done = record { at = done.at; del = done.del; ins = string_bytes done.ins }
+
 -- a revision is the text of the file of that name with what completing a heading replaces
 pub record IsCompletionIn {T : Type 0} (content : T → List ℕ) (name : List ℕ) (line : ℕ) (keyword : List ℕ) (kept : KeptWorld) (r : Revision T) : Type 0 where
   pub file : FileView
   pub found : file_named name kept.world.files ≡ Some file
   pub revision : IsRevision content file.text r
   pub part : completion_part file.text line keyword kept.world.moment ≡ Ok (part_of r)
+
+-- what a completion answers that it replaced is what completing the heading replaces in the text of the file of that name
+pub record Replaces (name : List ℕ) (line : ℕ) (keyword : List ℕ) (s : State) (done : Completion) : Type 0 where
+  pub file : FileView
+  pub found : file_named name s.world.files ≡ Some file
+  pub part : completion_part file.text line keyword s.world.moment ≡ Ok (part_told done)
 
 -- why no file of this name can be added, whatever its text
 abbrev pub name_fault : List ℕ → List FileView → Option Fault

@@ -6,8 +6,9 @@ use Rattle.org_base.specs.declared.profile.Profile.{Profile}
 use Rattle.org_cal.specs.declared.moment.Moment.{Moment}
 use Rattle.org_clocktable.specs.Request.{TableRequest}
 use Rattle.org_expression.specs.Grammar.{Expr}
-use Rattle.org_engine.specs.Step.{Command, AddFile, DropFile, EditFile, Complete, At, Inherit, SetProfile, PinWorld, Unpin, TextOf, Ask, Question, ClockTable, Serial, Refused, file_named, step}
+use Rattle.org_engine.specs.Step.{Command, AddFile, DropFile, EditFile, Complete, At, Inherit, SetProfile, PinWorld, Unpin, TextOf, KeywordsOf, Version, Ask, Question, ClockTable, Serial, Refused, file_named, step}
 use Rattle.org_engine.specs.World.{FileView, State}
+use Rattle.org_engine.specs.declared.question.Form.{Form}
 use Rattle.org_engine.specs.declared.limits.TheConstants.{LAST_SERIAL, MOST_DAYS, MOST_SESSIONS}
 
 -- serials end at 10^18, sessions are 1 to 64, and an agenda has at most 366 days
@@ -47,8 +48,10 @@ pub record LeavesTheRest (s : State) : Type 0 where
   pub moment : (moment : Moment) → (step (At moment) s).after ≡ record s { world = record s.world { moment = moment } }
   pub names : (names : List (List ℕ)) → (step (Inherit names) s).after ≡ record s { world = record s.world { inherited = names } }
   pub profile : (p : Profile) (serial : ℕ) → (step (SetProfile p) s).reply ≡ Serial serial → (step (SetProfile p) s).after ≡ record s { world = record s.world { profile = p } }
-  pub asked : (question : Question) (session : Option ℕ) → (step (Ask question session) s).after ≡ s
+  pub asked : (question : Question) (form : Form) (session : Option ℕ) → (step (Ask question form session) s).after ≡ s
   pub text : (name : List ℕ) → (step (TextOf name) s).after ≡ s
+  pub keywords : (name : List ℕ) → (step (KeywordsOf name) s).after ≡ s
+  pub version : (step Version s).after ≡ s
   pub refused : (c : Command) (fault : Fault) → (step c s).reply ≡ Refused fault → (step c s).after ≡ s
   pub pinned : (session : ℕ) → (step (PinWorld session) s).after.world ≡ s.world
   pub unpinned : (session : ℕ) → (step (Unpin session) s).after.world ≡ s.world
@@ -68,8 +71,8 @@ CommandsLeaveTheRest = (s : State) → LeavesTheRest s × KeepsOrder s
 
 -- right behind a pin, its session is answered as the current world is
 abbrev pub PinsKeepTheWorld : Type 0
-PinsKeepTheWorld = (session serial : ℕ) (question : Question) (s : State) → (step (PinWorld session) s).reply ≡ Serial serial →
-    (step (Ask question (Some session)) (step (PinWorld session) s).after).reply ≡ (step (Ask question None) s).reply
+PinsKeepTheWorld = (session serial : ℕ) (question : Question) (form : Form) (s : State) → (step (PinWorld session) s).reply ≡ Serial serial →
+    (step (Ask question form (Some session)) (step (PinWorld session) s).after).reply ≡ (step (Ask question form None) s).reply
 
 -- the state with these files alone
 abbrev pub with_files : List FileView → State → State
@@ -85,6 +88,6 @@ IsNoName name files = All (λ (file : FileView). name ≢ file.name) files
 
 -- a table over one file is the table over all files of a world that has that file alone
 abbrev pub TablesAreOverTheirFiles : Type 0
-TablesAreOverTheirFiles = (table : TableRequest Expr) (file : FileView) (before behind : List FileView) (s : State) → table.file ≡ Some file.name →
+TablesAreOverTheirFiles = (table : TableRequest Expr) (form : Form) (file : FileView) (before behind : List FileView) (s : State) → table.file ≡ Some file.name →
     s.world.files ≡ before ++ file ∷ behind → IsNoName file.name before → IsNoName file.name behind →
-    (step (Ask (ClockTable table) None) s).reply ≡ (step (Ask (ClockTable (over_all table)) None) (with_files (file ∷ []) s)).reply
+    (step (Ask (ClockTable table) form None) s).reply ≡ (step (Ask (ClockTable (over_all table)) form None) (with_files (file ∷ []) s)).reply

@@ -1,11 +1,9 @@
 -- Views of a world (Org manual 9.6, "Weekly/daily agenda"; "The Global TODO List"; "Matching tags and properties"; "The
 -- clock table").
-use Rattle.std.specs.Prelude.{◌≡◌, ℕ, List, Bool, true, if◌then◌else◌, [], ◌∷◌, map, Option, None, Some, filter, bytes_eq}
+use Rattle.std.specs.Prelude.{ℕ, List, Bool, true, if◌then◌else◌, [], ◌∷◌, map, Option, None, Some, filter, bytes_eq}
 use Rattle.org_base.specs.declared.profile.Profile.{Profile}
-use Rattle.org_agenda.specs.Days.{AgendaView}
 use Rattle.org_agenda.specs.Sources.{sources_of}
 use Rattle.org_agenda.specs.Lists.{Listing, list_rows}
-use Rattle.org_agenda.specs.declared.standpoint.Standpoint.{Standpoint}
 use Rattle.org_inherit.specs.Scope.{Scope}
 use Rattle.org_layout.specs.Days.{agenda_lines}
 use Rattle.std.specs.List.{concat}
@@ -27,10 +25,6 @@ list_view listing over world = list_lines (scopes_of world) (list_rows listing o
 -- the text of so many days from a first one on, over all stamps
 abbrev pub days_over : Profile → List Scope → ℕ → ℕ → ℕ → List ℕ
 days_over p scopes today first count = agenda_lines scopes (record { profile = p; sources = sources_of 0 scopes; today = today; first = first; count = count })
-
--- an agenda shows so many days from a first one on, over all stamps
-abbrev pub ShowsDays : Standpoint → List Scope → ℕ → ℕ → AgendaView → Type 0
-ShowsDays seen scopes first count agenda = agenda_lines scopes agenda ≡ days_over seen.profile scopes seen.today first count
 
 -- the text of an agenda at the world's moment and in its profile
 unfoldable pub agenda_view : ℕ → ℕ → WorldView → List ℕ

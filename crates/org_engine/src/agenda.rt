@@ -10,9 +10,11 @@ ghost use Rattle.org_engine.specs.Questions.{IsAgendaText, asked_agenda};
 ghost use Rattle.org_engine.specs.Examined.{ExaminesNear, examined_for, near_in_world};
 ghost use Rattle.org_engine.specs.Marks.{AnyStamps, ReadsAll, ReadsNone, ReadsSome};
 ghost use Rattle.org_engine.specs.Step.{DayAgenda, Unread};
-ghost use Rattle.org_engine.specs.Views.{agenda_view, days_over, ShowsDays};
+ghost use Rattle.org_engine.specs.Places.{IsDays, agenda_in, days_shown};
+ghost use Rattle.org_engine.specs.Views.{days_over};
 
 use crate::limits::MOST_DAYS;
+use crate::question::Form;
 use crate::shows::{Shows, view_of};
 use crate::world::World;
 use org_agenda::{Agenda, Stamps, Standpoint};
@@ -20,7 +22,7 @@ use org_base::{Code, Fault, Meter, Profile};
 use org_cal::{Day, LAST_DAY};
 use org_inherit::Inherits;
 use org_kept::FileOutline;
-use org_layout::agenda_text;
+use org_layout::{Line, agenda_lines, agenda_text};
 use org_near::DatedStamps;
 use org_text::Text;
 use std::alloc::Global;
@@ -35,15 +37,16 @@ pub(crate) fn dated_text<T: Text>(
     world: &mut World<T>,
     date: &str,
     days: u64,
+    form: Form,
 ) -> Result<String, Fault>
-    ensures value { IfOk result (λ text. IsAgendaText date.now days world.old.world (string_bytes text)) }
+    ensures value { IfOk result (λ text. IsAgendaText form date.now days world.old.world (string_bytes text)) }
     ensures refused { IfRefused result (λ fault. asked_agenda date.now days ≡ Unread fault) }
     ensures read { OnOk result (ReadsAll (examined_for (asked_agenda date.now days) world.old.world) world.old world.new meter.old meter.new) }
     ensures few { OnErr result (ReadsSome AnyStamps world.old world.new meter.old meter.new) }
     ensures quiet { IfRefused result (λ _. ReadsNone world.old world.new meter.old meter.new) }
 {
     let (first, count) = read_days(date, days)?;
-    days_text(alloc, meter, world, first, count)
+    days_text(alloc, meter, world, first, count, form)
 }
 
 // The first day and how many there are.
@@ -79,6 +82,8 @@ impl Shows for Days {
 
     ghost shown = { λ d scopes. days_over d.standpoint.profile scopes d.standpoint.today d.first d.count };
 
+    ghost lines = { λ d scopes. days_shown d.standpoint.profile scopes d.standpoint.today d.first d.count };
+
     ghost examines = { λ d scopes. near_count d.standpoint.profile d.first (d.first + d.count - 1) d.standpoint.today scopes };
 
     ghost may = { λ d. AnyStamps };
@@ -103,6 +108,17 @@ impl Shows for Days {
         agenda_text(alloc, &mut text, inherits, &agenda)?;
         Ok(text)
     }
+
+    fn lines(
+        &self,
+        alloc: Global,
+        meter: &mut Meter,
+        inherits: &Inherits<'_>,
+        files: &[FileOutline],
+    ) -> Result<Vec<Line>, Fault> {
+        let agenda = agenda_of(alloc, meter, inherits, files, self)?;
+        agenda_lines(alloc, &agenda)
+    }
 }
 
 fn days_text<T: Text>(
@@ -111,9 +127,10 @@ fn days_text<T: Text>(
     world: &mut World<T>,
     first: Day,
     count: u32,
+    form: Form,
 ) -> Result<String, Fault>
     requires within { (1 ≤ count) × (first + count ≤ LAST_DAY + 1) }
-    ensures value { GivesText result (agenda_view first count world.old.world) }
+    ensures value { GivesText result (agenda_in form first count world.old.world) }
     ensures read { OnOk result (ReadsAll (near_in_world first count world.old.world) world.old world.new meter.old meter.new) }
     ensures few { OnErr result (ReadsSome AnyStamps world.old world.new meter.old meter.new) }
     ensures memory { IsOkUnless result memory_fault }
@@ -127,7 +144,7 @@ fn days_text<T: Text>(
         first,
         count,
     };
-    view_of(alloc, meter, world, &view)
+    view_of(alloc, meter, world, &view, form)
 }
 
 // The agenda of these days over the stamps that are near them, each of which is examined once, as the meter counts. Want of
@@ -140,7 +157,7 @@ fn agenda_of(
     days: &Days,
 ) -> Result<Agenda, Fault>
     requires dated { AreDated files.now inherits.now }
-    ensures value { IfOk result (ShowsDays days.now.standpoint inherits.now days.now.first days.now.count) }
+    ensures value { IfOk result (IsDays days.now.standpoint inherits.now days.now.first days.now.count) }
     ensures counts { OnOk result (ExaminesNear days.now.standpoint inherits.now days.now.first days.now.count meter.old meter.new) }
     ensures few { OnErr result (Examines meter.old meter.new) }
     ensures memory { IsOkUnless result memory_fault }

@@ -2,10 +2,10 @@
 ghost use Rattle.std.specs.Prelude.{◌≡◌, IfOk, IfErr, IfSome, OnOk, OnErr, None, Some, false, string_bytes, nat_le};
 ghost use Rattle.std.specs.Str.{is_utf8};
 ghost use Rattle.org_base.specs.Results.{Gives, IfRefused};
-ghost use Rattle.org_engine.specs.Calls.{IsChangeIn, IsNewFile, Puts, Refuses, RefusesSurely, RefusesSurelyBy, RefusesName, Tells, name_fault};
+ghost use Rattle.org_engine.specs.Calls.{IsChangeIn, IsNewFile, Puts, Refuses, RefusesSurely, RefusesSurelyBy, RefusesName, Replaces, Tells, name_fault};
 ghost use Rattle.org_engine.specs.Computed.{FailsSurely};
 ghost use Rattle.org_engine.specs.Marks.{AddsMarks, AddsNoMarks, CompletesMarks, CompletesNone, DropsMarks, EditsMarks, EditsNoMarks, IsQuiet, PutsMarks, PutsNoMarks, ReadsAtMostOne};
-ghost use Rattle.org_engine.specs.Step.{last_serial, AddFile, Complete, DropFile, EditFile, Refused, Serial, text_seen};
+ghost use Rattle.org_engine.specs.Step.{last_serial, AddFile, Answers, Complete, DropFile, EditFile, Refused, Serial, text_seen};
 
 use crate::engine::Engine;
 use crate::limits::LAST_SERIAL;
@@ -14,6 +14,20 @@ use org_base::{Bytes, Code, Fault, MOST_FILES, is_file_name};
 use org_file::Revision;
 use org_kept::Change;
 use org_text::Text;
+
+/// What an accepted completion did: the serial of the file's new text, and the change of the former one that it is. The `del`
+/// bytes at `at` were replaced by `ins`.
+#[derive(Debug, Drop)]
+pub struct Completion {
+    /// The file's new serial.
+    pub serial: u64,
+    /// The place of the first replaced byte, from 0.
+    pub at: u32,
+    /// How many bytes were replaced.
+    pub del: u32,
+    /// The bytes that stand there now.
+    pub ins: String,
+}
 
 impl<T: Text> Engine<T> {
     // Whether the last serial was given, so that no change is made any more.
@@ -167,6 +181,28 @@ impl<T: Text> Engine<T> {
         ensures few { OnErr result (CompletesNone name.now line keyword.now self.old self.new) }
         ensures quiet { IfRefused result (λ _. ReadsAtMostOne name.now self.old self.new) }
     {
+        let done = self.complete_and_tell(session, name, serial, line, keyword)?;
+        Ok(done.serial)
+    }
+
+    /// The same, and answers besides what it replaced, so that who keeps the text of that version needs not ask for the new
+    /// one. All else is as `complete` has it.
+    pub fn complete_and_tell(
+        &mut self,
+        session: u64,
+        name: &str,
+        serial: u64,
+        line: u64,
+        keyword: &str,
+    ) -> Result<Completion, Fault>
+        ensures ok { IfOk result (λ done. Answers (Complete session name.now serial line keyword.now) self.old.state (Serial done.serial) self.new.state) }
+        ensures part { IfOk result (Replaces name.now line keyword.now self.old.state) }
+        ensures err { Refuses (Complete session name.now serial line keyword.now) self.old result self.new }
+        ensures sure { FailsSurely result (text_seen session name.now serial self.old.state.world.files) }
+        ensures marks { OnOk result (CompletesMarks name.now line keyword.now self.old self.new) }
+        ensures few { OnErr result (CompletesNone name.now line keyword.now self.old self.new) }
+        ensures quiet { IfRefused result (λ _. ReadsAtMostOne name.now self.old self.new) }
+    {
         text_seen(&self.world, session, name, serial)?;
         let world = &mut self.world;
         let Revision { text, at, del, ins } = world.completed(
@@ -176,8 +212,14 @@ impl<T: Text> Engine<T> {
             line,
             keyword,
         )?;
-        let ins = ins.as_str();
-        self.put(name, text, Change { at, del, ins })
+        let part = ins.as_str();
+        let serial = self.put(name, text, Change { at, del, ins: part })?;
+        Ok(Completion {
+            serial,
+            at,
+            del,
+            ins,
+        })
     }
 
     // Gives the file of a name this text, which is its own with a change, and the next serial, and answers it. `Spent`; want

@@ -3,20 +3,25 @@ ghost use Rattle.std.specs.Prelude.{◌≡◌, ℕ, List, None, Option, IfOk, On
 ghost use Rattle.std.specs.List.{AllZip};
 ghost use Rattle.std.specs.Option.{option_copied};
 ghost use Rattle.org_base.specs.Codes.{memory_fault};
-ghost use Rattle.org_base.specs.Results.{Gives, GivesText};
+ghost use Rattle.org_base.specs.Results.{Gives, GivesItems, GivesText};
 ghost use Rattle.org_dated.specs.Held.{scope_in};
 ghost use Rattle.org_near.specs.Stamps.{IsOf};
 ghost use Rattle.org_index.specs.Ticks.{examined};
 ghost use Rattle.org_inherit.specs.Scope.{Scope};
 ghost use Rattle.org_engine.specs.Outlines.{AreRead, outlines_of, scopes_of};
 ghost use Rattle.org_engine.specs.Marks.{ExaminesSome, ReadsAll, ReadsSome};
+ghost use Rattle.org_layout.specs.declared.shown.Line.{Line};
+ghost use Rattle.org_engine.specs.Places.{in_form};
 ghost use Rattle.org_engine.specs.Views.{is_wanted, scopes_named, scopes_over};
 
 use crate::outlines::read_world;
+use crate::places::places_text;
+use crate::question::Form;
 use crate::world::World;
 use org_base::{Fault, Meter, Profile, Texts};
 use org_inherit::{Inherit, Inherits};
 use org_kept::FileOutline;
+use org_layout::Line;
 use org_text::Text;
 use std::alloc::Global;
 
@@ -28,7 +33,10 @@ pub(crate) trait Shows {
     // The text, by what inheritance looks at in each of these files.
     ghost shown: { Self → List Scope → List ℕ };
 
-    // How many stamps it examines for that.
+    // What the lines of that text stand for.
+    ghost lines: { Self → List Scope → List Line };
+
+    // How many stamps it examines for either.
     ghost examines: { Self → List Scope → ℕ };
 
     // What holds where it may examine stamps at all.
@@ -56,6 +64,22 @@ pub(crate) trait Shows {
         ensures counts { OnOk result (meter.new ≡ examined (examines self.now inherits.now) meter.old) }
         ensures few { OnErr result (ExaminesSome (may self.now) meter.old meter.new) }
         ensures memory { IsOkUnless result memory_fault };
+
+    // What the lines of that text stand for, over the same files. It counts and is refused as the text; some stamps may have
+    // been examined either way.
+    fn lines(
+        &self,
+        alloc: Global,
+        meter: &mut Meter,
+        inherits: &Inherits<'_>,
+        files: &[FileOutline],
+    ) -> Result<Vec<Line>, Fault>
+        requires read { AreRead inherits.now }
+        requires same { named self.now ≡ None → AllZip IsOf files.now inherits.now }
+        ensures value { GivesItems result (lines self.now inherits.now) }
+        ensures counts { OnOk result (meter.new ≡ examined (examines self.now inherits.now) meter.old) }
+        ensures few { ExaminesSome (may self.now) meter.old meter.new }
+        ensures memory { IsOkUnless result memory_fault };
 }
 
 // What a view shows of a world. All sections that are still to be read are read first, each once as the meter counts; then
@@ -65,14 +89,15 @@ pub(crate) fn view_of<T: Text, V: Shows>(
     meter: &mut Meter,
     world: &mut World<T>,
     view: &V,
+    form: Form,
 ) -> Result<String, Fault>
-    ensures value { GivesText result (V.shown view.now (scopes_over (V.named view.now) world.old.world)) }
+    ensures value { GivesText result (in_form form (V.named view.now) (V.shown view.now) (V.lines view.now) world.old.world) }
     ensures read { OnOk result (ReadsAll (V.examines view.now (scopes_over (V.named view.now) world.old.world)) world.old world.new meter.old meter.new) }
     ensures few { OnErr result (ReadsSome (V.may view.now) world.old world.new meter.old meter.new) }
     ensures memory { IsOkUnless result memory_fault }
 {
     let outlines = read_world(alloc, meter, world, view.profile())?;
-    view_over(alloc, meter, world, outlines.as_slice(), view)
+    view_over(alloc, meter, world, outlines.as_slice(), view, form)
 }
 
 // The same, where it is known what the files say.
@@ -82,16 +107,23 @@ fn view_over<T: Text, V: Shows>(
     world: &World<T>,
     outlines: &[FileOutline],
     view: &V,
+    form: Form,
 ) -> Result<String, Fault>
     requires read { outlines.now ≡ outlines_of world.now.world }
-    ensures value { GivesText result (V.shown view.now (scopes_over (V.named view.now) world.now.world)) }
+    ensures value { GivesText result (in_form form (V.named view.now) (V.shown view.now) (V.lines view.now) world.now.world) }
     ensures counts { OnOk result (meter.new ≡ examined (V.examines view.now (scopes_over (V.named view.now) world.now.world)) meter.old) }
     ensures few { OnErr result (ExaminesSome (V.may view.now) meter.old meter.new) }
     ensures memory { IsOkUnless result memory_fault }
 {
     let by_days = view.profile().is_some();
     let inherits = inherits_named(alloc, world, outlines, view.file(), by_days)?;
-    view.text(alloc, meter, &inherits, outlines)
+    match form {
+        Form::Text => view.text(alloc, meter, &inherits, outlines),
+        Form::Places => {
+            let lines = view.lines(alloc, meter, &inherits, outlines)?;
+            Ok(places_text(alloc, world, view.file(), lines.as_slice())?)
+        }
+    }
 }
 
 // What the headings of the files that a view is over inherit, in the files' order: along their ancestors, or by tables.
@@ -143,7 +175,7 @@ fn inherit_of<'a>(
 }
 
 // Whether a view is over the file of a name.
-fn is_wanted(file: Option<&[u8]>, name: &str) -> bool
+pub(crate) fn is_wanted(file: Option<&[u8]>, name: &str) -> bool
     ensures value { result ≡ is_wanted (option_copied file.entry) name.now }
 {
     match file {

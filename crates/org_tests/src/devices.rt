@@ -3,7 +3,7 @@ use org_base::Fault;
 use org_cal::Moment;
 use org_engine::Engine;
 use org_text::Whole;
-use org_wire::{Counted, End, run};
+use org_wire::{Counted, End, Options, Protocol, run};
 use std::alloc::Global;
 use std::io;
 use std::io::{Read, Write};
@@ -129,7 +129,11 @@ fn run_over(alloc: Global, engine: &mut Engine<Whole>, failure: Failure) -> Outc
         flushes: 0,
         failure,
     });
-    let end = run(alloc, &mut reader, &mut writer, engine, 0);
+    let options = Options {
+        idle: 0,
+        protocol: Protocol::First,
+    };
+    let end = run(alloc, &mut reader, &mut writer, engine, options);
     outcome_of(end, reader.calls(), &writer.into_inner())
 }
 

@@ -3,7 +3,7 @@ use org_base::Fault;
 use org_cal::Moment;
 use org_engine::Engine;
 use org_text::{Text, Whole};
-use org_wire::{Counted, End, run};
+use org_wire::{Counted, End, Options, Protocol, run};
 use std::alloc::Global;
 use std::test::Fail;
 
@@ -20,7 +20,11 @@ pub(crate) fn replies<T: Text>(
 ) -> Option<Vec<u8>> {
     let mut reader = Counted::new(commands.as_bytes());
     let mut writer = Counted::new(Vec::new(alloc));
-    match run(alloc, &mut reader, &mut writer, engine, 0) {
+    let options = Options {
+        idle: 0,
+        protocol: Protocol::First,
+    };
+    match run(alloc, &mut reader, &mut writer, engine, options) {
         End::Done => Some(writer.into_inner()),
         End::Stopped(_) => None,
     }

@@ -15,11 +15,12 @@ use Rattle.org_base.specs.declared.code.Code.{Code}
 use Rattle.org_base.specs.declared.code.Code.TheVariants as code
 use Rattle.org_base.specs.declared.fault.Fault.{Fault}
 use Rattle.org_base.specs.declared.fault.Fault.TheVariants as fault
-use Rattle.org_wire.specs.ReadBack.{Got, HasNumbers, RepliesAreReadBack, all_codes, fault_of, first_reply, reply_behind, reply_of, view_of}
+use Rattle.org_wire.specs.ReadBack.{Got, HasNumbers, RepliesAreReadBack, all_codes, fault_of, first_reply, part_of, reply_behind, reply_of, view_of}
 use Rattle.org_wire.specs.Replies.{reply_bytes}
 use Rattle.org_wire.specs.Spelled.{parted}
+use Rattle.org_wire.specs.declared.reply.Replaced.{Replaced}
 use Rattle.org_wire.specs.declared.reply.Reply.{Reply}
-use Rattle.org_wire.specs.declared.reply.Reply.TheVariants.{Serial, Shown, Refused}
+use Rattle.org_wire.specs.declared.reply.Reply.TheVariants.{Changed, Serial, Shown, Refused}
 use Rattle.org_wire.proofs.NumberLemmas.{numerals}
 use Rattle.org_wire.proofs.SpelledWords.{cut_back, no_cut}
 
@@ -171,11 +172,13 @@ extra_words (fault.MatchAt at) = decimal at ∷ []
 
 abbrev words_of : Reply → List (List ℕ)
 words_of (Serial serial) = codes "ok" ∷ (decimal serial ∷ [])
+words_of (Changed serial part) = codes "ok" ∷ (decimal serial ∷ (decimal part.at ∷ (decimal part.del ∷ (decimal (length part.ins) ∷ []))))
 words_of (Shown text) = codes "view" ∷ (decimal (length text) ∷ [])
 words_of (Refused f) = codes "err" ∷ (decimal (number_of (code_of f)) ∷ (name_of (code_of f) ∷ extra_words f))
 
 abbrev tail_of : Reply → List ℕ
 tail_of (Serial serial) = []
+tail_of (Changed serial part) = part.ins
 tail_of (Shown text) = text
 tail_of (Refused f) = []
 
@@ -190,8 +193,24 @@ fault_so (fault.MatchAt at) =
     let n = decimal (number_of code.Match) in
     ap (λ t. codes "err " ++ t) (append_assoc n (codes " ") (codes "match" ++ ((codes " " ++ decimal at) ++ codes "\n")) ∙ sym (append_assoc n (32 ∷ (codes "match" ++ (32 ∷ decimal at))) (10 ∷ [])))
 
+change_so : (serial : ℕ) (part : Replaced) → reply_bytes (Changed serial part) ≡ parted 32 (words_of (Changed serial part)) ++ (10 ∷ part.ins)
+change_so serial part =
+    let s = decimal serial in
+    let a = decimal part.at in
+    let d = decimal part.del in
+    let n = decimal (length part.ins) in
+    ap (λ t. codes "ok " ++ t) (
+    append_assoc (s ++ (32 ∷ a) ++ (32 ∷ d) ++ (32 ∷ n)) (10 ∷ []) part.ins
+    ∙ append_assoc (s ++ (32 ∷ a) ++ (32 ∷ d)) (32 ∷ n) (10 ∷ part.ins)
+    ∙ append_assoc (s ++ (32 ∷ a)) (32 ∷ d) (32 ∷ (n ++ (10 ∷ part.ins)))
+    ∙ append_assoc s (32 ∷ a) (32 ∷ (d ++ (32 ∷ (n ++ (10 ∷ part.ins)))))
+    ∙ sym (append_assoc s (32 ∷ (a ++ (32 ∷ (d ++ (32 ∷ n))))) (10 ∷ part.ins)
+    ∙ ap (λ t. s ++ (32 ∷ t)) (append_assoc a (32 ∷ (d ++ (32 ∷ n))) (10 ∷ part.ins) ∙ ap (λ t. a ++ (32 ∷ t)) (append_assoc d (32 ∷ n) (10 ∷ part.ins))))
+    )
+
 written_so : (r : Reply) → reply_bytes r ≡ parted 32 (words_of r) ++ (10 ∷ tail_of r)
 written_so (Serial serial) = refl
+written_so (Changed serial part) = change_so serial part
 written_so (Shown text) = ap (λ t. codes "view " ++ t) (append_assoc (decimal (length text)) (codes "\n") text)
 written_so (Refused f) = fault_so f
 
@@ -203,11 +222,13 @@ extra_ink (fault.MatchAt at) small = (ink_decimal at small, tt)
 
 words_ink : (r : Reply) → HasNumbers r → AllByRecursion Ink (words_of r)
 words_ink (Serial serial) small = (ink_tested (codes "ok") refl, (ink_decimal serial small, tt))
+words_ink (Changed serial part) small = (ink_tested (codes "ok") refl, (ink_decimal serial small.0, (ink_decimal part.at small.1, (ink_decimal part.del small.2, (ink_decimal (length part.ins) small.3, tt)))))
 words_ink (Shown text) small = (ink_tested (codes "view") refl, (ink_decimal (length text) small, tt))
 words_ink (Refused f) small = (ink_tested (codes "err") refl, (ink_decimal (number_of (code_of f)) (small_number (code_of f)), (ink_name (code_of f), extra_ink f small)))
 
 some_words : (r : Reply) → 0 < length (words_of r)
 some_words (Serial serial) = omega arith
+some_words (Changed serial part) = omega arith
 some_words (Shown text) = omega arith
 some_words (Refused f) = omega arith
 
@@ -263,8 +284,22 @@ fault_got (fault.MatchAt at) rest small = coded code.Match (decimal at ∷ []) r
 view_so : (text rest : List ℕ) → view_of (length text) (text ++ rest) ≡ got (Shown text) rest
 view_so text rest = rw (le_yes (length text) (length (text ++ rest)) (omega (arith, length-append text rest)), take-append_seam text rest, drop-append_seam text rest) refl
 
+part_so : (serial : ℕ) (part : Replaced) (rest : List ℕ) → part_of serial part.at part.del (length part.ins) (part.ins ++ rest) ≡ got (Changed serial part) rest
+part_so serial part rest =
+    let text = part.ins in
+    rw (le_yes (length text) (length (text ++ rest)) (omega (arith, length-append text rest)), take-append_seam text rest, drop-append_seam text rest) refl
+
+-- a change by its numbers
+read_so : (serial : ℕ) (part : Replaced) (rest : List ℕ) → HasNumbers (Changed serial part) → reply_of (words_of (Changed serial part)) rest ≡ part_of serial part.at part.del (length part.ins) rest
+read_so serial part rest small =
+    ap (λ n. part_of n (digits_value 10 (decimal part.at)) (digits_value 10 (decimal part.del)) (digits_value 10 (decimal (length part.ins))) rest) (digits_value-decimal numerals serial small.0)
+    ∙ ap (λ n. part_of serial n (digits_value 10 (decimal part.del)) (digits_value 10 (decimal (length part.ins))) rest) (digits_value-decimal numerals part.at small.1)
+    ∙ ap (λ n. part_of serial part.at n (digits_value 10 (decimal (length part.ins))) rest) (digits_value-decimal numerals part.del small.2)
+    ∙ ap (λ n. part_of serial part.at part.del n rest) (digits_value-decimal numerals (length part.ins) small.3)
+
 got_so : (r : Reply) (rest : List ℕ) → HasNumbers r → reply_of (words_of r) (tail_of r ++ rest) ≡ got r rest
 got_so (Serial serial) rest small = ap (λ n. got (Serial n) rest) (digits_value-decimal numerals serial small)
+got_so (Changed serial part) rest small = read_so serial part (part.ins ++ rest) small ∙ part_so serial part rest
 got_so (Shown text) rest small = ap (λ n. view_of n (text ++ rest)) (digits_value-decimal numerals (length text) small) ∙ view_so text rest
 got_so (Refused f) rest small = fault_got f rest small
 
@@ -307,6 +342,9 @@ front_of part more all =
 -- what is left of a view is too short, and nothing is left of the others
 too_short : (r : Reply) (mid lost : List ℕ) → HasNumbers r → tail_of r ≡ mid ++ lost → 0 < length lost → reply_of (words_of r) mid ≡ None
 too_short (Serial serial) mid lost small e some = absurd (omega (arith, ap length e, length-append mid lost, some))
+too_short (Changed serial part) mid lost small e some =
+    let short : length mid < length part.ins = omega (arith, ap length e, length-append mid lost, some) in
+    read_so serial part mid small ∙ rw (le_no (length part.ins) (length mid) short) refl
 too_short (Shown text) mid lost small e some =
     let short : length mid < length text = omega (arith, ap length e, length-append mid lost, some) in
     ap (λ n. view_of n mid) (digits_value-decimal numerals (length text) small) ∙ rw (le_no (length text) (length mid) short) refl

@@ -1,5 +1,5 @@
 -- How a stream is cut into commands.
-use Rattle.std.proofs.Common.{◌≡◌, ◌≢◌, ◌∙◌, ◌<◌, ◌≤◌, ℕ, true, false, List, [], ◌∷◌, ◌++◌, ap, arith, length, length-append, refl}
+use Rattle.std.proofs.Common.{◌≡◌, ◌≢◌, ◌∙◌, ◌<◌, ◌≤◌, ℕ, Bool, true, false, List, [], ◌∷◌, ◌++◌, ap, arith, length, length-append, refl}
 use Rattle.std.specs.Prelude.{Some, nat_lt}
 use Rattle.std.specs.List.{All}
 use Rattle.std.proofs.lemmas.Bool.Decides.{nat_tests}
@@ -19,32 +19,32 @@ less : (a b : ℕ) → a < b → nat_lt a b ≡ true
 less a b h = grind (arith, nat_tests)
 
 -- a stream that has a byte is cut at its first line feed
-cut_first : (bytes : List ℕ) → 0 < length bytes → reading_of bytes ≡ after_cut (cut_at 10 bytes)
-cut_first [] some = absurd (omega (arith, some))
-cut_first (b ∷ bytes) some = refl
+cut_first : (second : Bool) (bytes : List ℕ) → 0 < length bytes → reading_of second bytes ≡ after_cut second (cut_at 10 bytes)
+cut_first second [] some = absurd (omega (arith, some))
+cut_first second (b ∷ bytes) some = refl
 
-module _ (line rest : List ℕ) (whole : All (λ b. b ≢ 10) line) where
-  cut_here : reading_of (line ++ 10 ∷ rest) ≡ after_cut (Some (record { before = line; after = rest }))
-  cut_here = cut_first (line ++ 10 ∷ rest) (omega (arith, length-append line (10 ∷ rest))) ∙ ap after_cut (cut_back 10 line rest whole)
+module _ (second : Bool) (line rest : List ℕ) (whole : All (λ b. b ≢ 10) line) where
+  cut_here : reading_of second (line ++ 10 ∷ rest) ≡ after_cut second (Some (record { before = line; after = rest }))
+  cut_here = cut_first second (line ++ 10 ∷ rest) (omega (arith, length-append line (10 ∷ rest))) ∙ ap (after_cut second) (cut_back 10 line rest whole)
 
-  pub too_long : 4096 < length line → reading_of (line ++ 10 ∷ rest) ≡ record { next = next.Refused (Plain code.Long); rest = rest }
+  pub too_long : 4096 < length line → reading_of second (line ++ 10 ∷ rest) ≡ record { next = next.Refused (Plain code.Long); rest = rest }
   too_long long = cut_here ∙ rw (less 4096 (length line) long) refl
 
-  pub said : (l : Line) → length line ≤ 4096 → line_of line ≡ l → reading_of (line ++ 10 ∷ rest) ≡ after_line l rest
+  pub said : (l : Line) → length line ≤ 4096 → line_of second line ≡ l → reading_of second (line ++ 10 ∷ rest) ≡ after_line l rest
   said l short is = cut_here ∙ rw (not_less 4096 (length line) short) (ap (λ (m : Line). after_line m rest) is)
 
 pub framed_streams : StreamsAreFramed
-framed_streams = (
+framed_streams second = (
   refl,
   λ line rest whole. record {
-    long = too_long line rest whole;
-    bad = λ short is. said line rest whole Bad short is;
-    plain = λ command short is. said line rest whole (Plainly command) short is;
+    long = too_long second line rest whole;
+    bad = λ short is. said second line rest whole Bad short is;
+    plain = λ command short is. said second line rest whole (Plainly command) short is;
     payload = λ frame bytes short is small.
-        said line (bytes ++ rest) whole (Framed frame (length bytes)) short is
+        said second line (bytes ++ rest) whole (Framed frame (length bytes)) short is
         ∙ rw (not_less 67_108_864 (length bytes) small, not_less (length (bytes ++ rest)) (length bytes) (omega (arith, length-append bytes rest)), take-append_seam bytes rest, drop-append_seam bytes rest) refl;
-    size = λ frame n short is large. said line rest whole (Framed frame n) short is ∙ rw (less 67_108_864 n large) refl;
-    short = λ frame n short is small early. said line rest whole (Framed frame n) short is ∙ rw (not_less 67_108_864 n small, less (length rest) n early) refl;
-    unended = λ some. cut_first line some ∙ ap after_cut (no_cut 10 line whole);
+    size = λ frame n short is large. said second line rest whole (Framed frame n) short is ∙ rw (less 67_108_864 n large) refl;
+    short = λ frame n short is small early. said second line rest whole (Framed frame n) short is ∙ rw (not_less 67_108_864 n small, less (length rest) n early) refl;
+    unended = λ some. cut_first second line some ∙ ap (after_cut second) (no_cut 10 line whole);
   },
 )

@@ -1,5 +1,5 @@
 -- What a run counts (profile).
-use Rattle.std.specs.Prelude.{◌≡◌, ℕ, List, [], ◌∷◌, Option, Some, IfSome}
+use Rattle.std.specs.Prelude.{◌≡◌, ℕ, Bool, List, [], ◌∷◌, Option, Some, IfSome}
 use Rattle.org_engine.specs.Marks.{Reads}
 use Rattle.org_engine.specs.World.{EngineView}
 use Rattle.org_wire.specs.Run.{Turn}
@@ -17,32 +17,32 @@ CountsSo (Last fault) old new = new.counts ≡ old.counts
 CountsSo Ended old new = new.counts ≡ old.counts
 
 -- one turn of an engine, and behind it at most so many background steps, which leave the state and count one section each
-pub record CountedTurn (idle : ℕ) (bytes : List ℕ) (old : EngineView) (answer : Reply) (new : EngineView) : Type 0 where
+pub record CountedTurn (idle : ℕ) (second : Bool) (bytes : List ℕ) (old : EngineView) (answer : Reply) (new : EngineView) : Type 0 where
   pub mid : EngineView
-  pub turn : Turn bytes old.state answer mid.state
-  pub counts : CountsSo (reading_of bytes).next old mid
+  pub turn : Turn second bytes old.state answer mid.state
+  pub counts : CountsSo (reading_of second bytes).next old mid
   pub state : new.state ≡ mid.state
   pub steps : Reads idle mid new
 
 -- such turns, one after another
-abbrev pub CountedRuns : ℕ → List ℕ → EngineView → List Reply → List ℕ → EngineView → Type 0
-CountedRuns idle bytes old [] rest new = (rest ≡ bytes) × (new ≡ old)
-CountedRuns idle bytes old (answer ∷ answers) rest new =
-    (mid : EngineView) × CountedTurn idle bytes old answer mid × CountedRuns idle (reading_of bytes).rest mid answers rest new
+abbrev pub CountedRuns : ℕ → Bool → List ℕ → EngineView → List Reply → List ℕ → EngineView → Type 0
+CountedRuns idle second bytes old [] rest new = (rest ≡ bytes) × (new ≡ old)
+CountedRuns idle second bytes old (answer ∷ answers) rest new =
+    (mid : EngineView) × CountedTurn idle second bytes old answer mid × CountedRuns idle second (reading_of second bytes).rest mid answers rest new
 
 -- an engine became what it is by such turns over a stream, or over a front of it, and by nothing else
-pub record IsCounted (idle : ℕ) (bytes : List ℕ) (old new : EngineView) : Type 0 where
+pub record IsCounted (idle : ℕ) (second : Bool) (bytes : List ℕ) (old new : EngineView) : Type 0 where
   pub answers : List Reply
   pub rest : List ℕ
-  pub runs : CountedRuns idle bytes old answers rest new
+  pub runs : CountedRuns idle second bytes old answers rest new
 
 -- the same of a stream whose bytes are known
-abbrev pub CountsAlong : ℕ → Option (List ℕ) → EngineView → EngineView → Type 0
-CountsAlong idle stream old new = IfSome stream (λ bytes. IsCounted idle bytes old new)
+abbrev pub CountsAlong : ℕ → Bool → Option (List ℕ) → EngineView → EngineView → Type 0
+CountsAlong idle second stream old new = IfSome stream (λ bytes. IsCounted idle second bytes old new)
 
 -- so far, with what is left of the stream
-pub record IsCountedSoFar (idle : ℕ) (bytes : List ℕ) (old new : EngineView) (now : Option (List ℕ)) : Type 0 where
+pub record IsCountedSoFar (idle : ℕ) (second : Bool) (bytes : List ℕ) (old new : EngineView) (now : Option (List ℕ)) : Type 0 where
   pub answers : List Reply
   pub rest : List ℕ
   pub left : now ≡ Some rest
-  pub runs : CountedRuns idle bytes old answers rest new
+  pub runs : CountedRuns idle second bytes old answers rest new

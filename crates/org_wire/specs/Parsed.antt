@@ -38,14 +38,15 @@ seen_and_rest seen = (seen_in seen.0, seen.1.now)
 
 -- the command of the words of a line
 abbrev pub worded : Worded → Command
-worded (words.Todo session file keywords) = command.Todo session (option_copied file) (words_in 124 (option_copied keywords))
-worded (words.Match session file text) = command.Match session (option_copied file) text.now
-worded (words.Clock session text) = command.Clock session text.now
-worded (words.Agenda session date days) = command.Agenda session date.now days
+worded (words.Todo request file keywords) = command.Todo request (option_copied file) (words_in 124 (option_copied keywords))
+worded (words.Match request file text) = command.Match request (option_copied file) text.now
+worded (words.Clock request text) = command.Clock request text.now
+worded (words.Agenda request date days) = command.Agenda request date.now days
 worded (words.Drop name) = command.Drop name.now
 worded (words.Complete seen line keyword) = command.Complete (seen_in seen) line keyword.now
 worded (words.Inherit names) = command.Inherit (words_in 32 (option_copied names))
 worded (words.Text name) = command.Text name.now
+worded (words.Keywords name) = command.Keywords name.now
 
 -- what a parsed line says
 abbrev pub said : Parsed → Line
@@ -57,14 +58,15 @@ said (parsed.Edit seen at del size) = Framed (frame.Edit (seen_in seen) at del) 
 
 -- an expression, and the options of a table, are no longer than so many bytes
 abbrev pub AreWithin : ℕ → Worded → Type 0
-AreWithin most (words.Match session file text) = length text.now ≤ most
-AreWithin most (words.Clock session text) = length text.now ≤ most
-AreWithin most (words.Todo session file keywords) = Unit {0}
-AreWithin most (words.Agenda session date days) = Unit {0}
+AreWithin most (words.Match request file text) = length text.now ≤ most
+AreWithin most (words.Clock request text) = length text.now ≤ most
+AreWithin most (words.Todo request file keywords) = Unit {0}
+AreWithin most (words.Agenda request date days) = Unit {0}
 AreWithin most (words.Drop name) = Unit {0}
 AreWithin most (words.Complete seen line keyword) = Unit {0}
 AreWithin most (words.Inherit names) = Unit {0}
 AreWithin most (words.Text name) = Unit {0}
+AreWithin most (words.Keywords name) = Unit {0}
 
 -- the same of a parsed line
 abbrev pub IsWithin : ℕ → Parsed → Type 0

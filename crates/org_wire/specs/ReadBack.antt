@@ -12,7 +12,7 @@ use Rattle.org_base.specs.declared.fault.Fault.TheVariants as fault
 use Rattle.org_wire.specs.Lines.{Cut, cut_at}
 use Rattle.org_wire.specs.Replies.{reply_bytes}
 use Rattle.org_wire.specs.declared.reply.Reply.{Reply}
-use Rattle.org_wire.specs.declared.reply.Reply.TheVariants.{Serial, Shown, Refused}
+use Rattle.org_wire.specs.declared.reply.Reply.TheVariants.{Changed, Serial, Shown, Refused}
 
 -- a reply, and the bytes behind it
 pub record Got : Type 0 where
@@ -35,13 +35,25 @@ fault_of c words = fault.Plain c
 abbrev pub view_of : ℕ → List ℕ → Option Got
 view_of n rest = if nat_le n (length rest) then Some (record { reply = Shown (take n rest); rest = drop n rest }) else None
 
+-- a change whose new bytes are so many, if they are there
+abbrev pub part_of : ℕ → ℕ → ℕ → ℕ → List ℕ → Option Got
+part_of serial at del n rest =
+    if nat_le n (length rest) then Some (record { reply = Changed serial (record { at = at; del = del; ins = take n rest }); rest = drop n rest }) else None
+
+-- the same by its words: a serial, a place, and how many bytes went and came
+abbrev pub change_of : List ℕ → List ℕ → List (List ℕ) → List ℕ → Option Got
+change_of serial at (del ∷ (len ∷ [])) rest = part_of (digits_value 10 serial) (digits_value 10 at) (digits_value 10 del) (digits_value 10 len) rest
+change_of serial at words rest = None
+
 -- the reply whose line has these words
 abbrev pub reply_of : List (List ℕ) → List ℕ → Option Got
 reply_of (word ∷ (number ∷ [])) rest = if bytes_eq word (codes "ok") then Some (record { reply = Serial (digits_value 10 number); rest = rest })
     else if bytes_eq word (codes "view") then view_of (digits_value 10 number) rest
     else None
 reply_of (word ∷ (number ∷ (name ∷ words))) rest =
-    if bytes_eq word (codes "err") then option_map (λ c. record { reply = Refused (fault_of c words); rest = rest }) (slice_get all_codes (digits_value 10 number - 1)) else None
+    if bytes_eq word (codes "err") then option_map (λ c. record { reply = Refused (fault_of c words); rest = rest }) (slice_get all_codes (digits_value 10 number - 1))
+    else if bytes_eq word (codes "ok") then change_of number name words rest
+    else None
 reply_of words rest = None
 
 -- the same of a stream that is cut behind its first line
@@ -56,6 +68,7 @@ first_reply bytes = reply_behind (cut_at 10 bytes)
 -- its numbers are of 64 bits
 abbrev pub HasNumbers : Reply → Type 0
 HasNumbers (Serial serial) = serial < 2 ^ 64
+HasNumbers (Changed serial part) = (serial < 2 ^ 64) × (part.at < 2 ^ 64) × (part.del < 2 ^ 64) × (length part.ins < 2 ^ 64)
 HasNumbers (Shown text) = length text < 2 ^ 64
 HasNumbers (Refused (fault.Plain c)) = Unit {0}
 HasNumbers (Refused (fault.Stale serial)) = serial < 2 ^ 64

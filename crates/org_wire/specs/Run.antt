@@ -1,18 +1,23 @@
 -- A run: the replies to the commands of a stream, and the state after them (profile).
-use Rattle.std.specs.Prelude.{◌≡◌, List, [], ◌∷◌, ◌++◌, ℕ, Option, None, Some, IfSome, flat_map}
+use Rattle.std.specs.Prelude.{◌≡◌, Bool, Result, Ok, Err, if◌then◌else◌, List, [], ◌∷◌, ◌++◌, ℕ, Option, None, Some, IfSome, flat_map}
 use Rattle.std.specs.Option.{option_to_list}
 use Rattle.std.specs.Io.KnownBytes.{Appends, Consumes}
 use Rattle.org_base.specs.Codes.{code_of, memory_fault}
 use Rattle.org_base.specs.declared.code.Code.TheVariants.{Device, Memory}
 use Rattle.org_cal.specs.Faults.{date_fault}
 use Rattle.org_cal.specs.declared.moment.Moment.{Moment}
-use Rattle.org_engine.specs.World.{EngineView, State}
+use Rattle.org_base.specs.declared.fault.Fault.{Fault}
+use Rattle.org_engine.specs.World.{EngineView, FileView, State}
+use Rattle.org_file.specs.Completion.{completion_part}
+use Rattle.org_file.specs.Parts.{Part}
 use Rattle.org_engine.specs.Questions.{AsksMatch, AsksOf, AsksTable, asked_agenda}
 use Rattle.org_engine.specs.Step as step
+use Rattle.org_engine.specs.declared.question.Form.TheVariants as form
 use Rattle.org_wire.specs.Replies.{reply_bytes, fault_bytes}
 use Rattle.org_wire.specs.Stream.{reading_of, IsReplaceable, IsUnfinished}
 use Rattle.org_wire.specs.declared.command.Command.{Command}
-use Rattle.org_wire.specs.declared.command.Command.TheVariants.{Add, Agenda, At, Clock, Complete, Drop, Edit, Inherit, Match, Pin, Profile, Text, Todo, Unpin}
+use Rattle.org_wire.specs.declared.command.Request.{Request}
+use Rattle.org_wire.specs.declared.command.Command.TheVariants.{Add, Agenda, At, Clock, Complete, Drop, Edit, Inherit, Keywords, Match, Pin, Profile, Text, Todo, Unpin, Version}
 use Rattle.org_wire.specs.Views.{CountedView}
 use Rattle.org_wire.specs.declared.command.Next.{Next}
 use Rattle.org_wire.specs.declared.command.Next.TheVariants.{Given, Refused, Last, Ended}
@@ -23,13 +28,13 @@ use Rattle.org_wire.specs.declared.whole.End.TheVariants.{Done, Stopped}
 
 -- the command of another moment; where none is spelled, one that is refused
 abbrev pub moment_command : Option Moment → step.Command
-moment_command None = step.Ask (step.Unread date_fault) None
+moment_command None = step.Ask (step.Unread date_fault) form.Text None
 moment_command (Some moment) = step.At moment
 
 -- the question for which a view stands, asked of the current world or of the one that a session keeps, on that one's day
-abbrev pub MeansView : (ℕ → step.Question → Type 0) → Option ℕ → State → step.Command → Type 0
-MeansView asks session s said =
-    (question : step.Question) × AsksOf asks (step.world_for session s) question × (said ≡ step.Ask question session)
+abbrev pub MeansView : (ℕ → step.Question → Type 0) → Request → State → step.Command → Type 0
+MeansView asks request s said =
+    (question : step.Question) × AsksOf asks (step.world_for request.session s) question × (said ≡ step.Ask question request.form request.session)
 
 -- the engine's command
 abbrev pub Means : Command → State → step.Command → Type 0
@@ -43,10 +48,12 @@ Means (Profile profile) s said = said ≡ step.SetProfile profile
 Means (Pin session) s said = said ≡ step.PinWorld session
 Means (Unpin session) s said = said ≡ step.Unpin session
 Means (Text name) s said = said ≡ step.TextOf name
-Means (Todo session file words) s said = MeansView (λ today question. question ≡ step.TodoList file words) session s said
-Means (Match session file text) s said = MeansView (λ today question. AsksMatch file text question) session s said
-Means (Agenda session date days) s said = MeansView (λ today question. question ≡ asked_agenda date days) session s said
-Means (Clock session text) s said = MeansView (λ today question. AsksTable text today question) session s said
+Means (Keywords name) s said = said ≡ step.KeywordsOf name
+Means Version s said = said ≡ step.Version
+Means (Todo request file words) s said = MeansView (λ today question. question ≡ step.TodoList file words) request s said
+Means (Match request file text) s said = MeansView (λ today question. AsksMatch file text question) request s said
+Means (Agenda request date days) s said = MeansView (λ today question. question ≡ asked_agenda date days) request s said
+Means (Clock request text) s said = MeansView (λ today question. AsksTable text today question) request s said
 
 -- the engine's reply, as it is written
 abbrev pub shown : step.Reply → Reply
@@ -54,26 +61,54 @@ shown (step.Serial serial) = reply.Serial serial
 shown (step.Shown text) = reply.Shown text
 shown (step.Refused fault) = reply.Refused fault
 
+-- what completing a heading replaces in a file's text, if it does
+abbrev pub part_if : Result Part Fault → Option Part
+part_if (Ok part) = Some part
+part_if (Err fault) = None
+
+-- the same of a file
+abbrev pub part_in : ℕ → List ℕ → Moment → Option FileView → Option Part
+part_in line keyword moment None = None
+part_in line keyword moment (Some file) = part_if (completion_part file.text line keyword moment)
+
+-- the reply to an accepted completion that replaced a part
+abbrev pub changed_by : ℕ → Option Part → Reply
+changed_by serial None = reply.Serial serial
+changed_by serial (Some part) = reply.Changed serial (record { at = part.at; del = part.del; ins = part.ins })
+
+-- the reply to a completion, with what it replaced
+abbrev pub changed : Option Part → step.Reply → Reply
+changed part (step.Serial serial) = changed_by serial part
+changed part (step.Shown text) = reply.Shown text
+changed part (step.Refused fault) = reply.Refused fault
+
+-- the engine's reply to a command in a state, as it is written: in the second protocol a completion says what it replaced
+abbrev pub told_to : Bool → Command → State → step.Reply → Reply
+told_to second (Complete seen line keyword) s answer =
+    if second then changed (part_in line keyword s.world.moment (step.file_named seen.name s.world.files)) answer else shown answer
+told_to second command s answer = shown answer
+
 -- the reply that stands for want of memory
 abbrev pub out_of_memory : Reply
 out_of_memory = reply.Refused memory_fault
 
 -- what is read is answered so, and leaves this state
-abbrev pub AnswersSo : Next → State → Reply → State → Type 0
-AnswersSo (Given command) old answer new = (said : step.Command) × Means command old said × (answer ≡ shown (step.step said old).reply) × (new ≡ (step.step said old).after)
-AnswersSo (Refused fault) old answer new = (answer ≡ reply.Refused fault) × (new ≡ old)
-AnswersSo (Last fault) old answer new = ⊥
-AnswersSo Ended old answer new = ⊥
+abbrev pub AnswersSo : Bool → Next → State → Reply → State → Type 0
+AnswersSo second (Given command) old answer new =
+    (said : step.Command) × Means command old said × (answer ≡ told_to second command old (step.step said old).reply) × (new ≡ (step.step said old).after)
+AnswersSo second (Refused fault) old answer new = (answer ≡ reply.Refused fault) × (new ≡ old)
+AnswersSo second (Last fault) old answer new = ⊥
+AnswersSo second Ended old answer new = ⊥
 
 -- one turn: the reply to what stands first on the stream, or want of memory with the state unchanged
-pub record Turn (bytes : List ℕ) (old : State) (answer : Reply) (new : State) : Type 0 where
-  pub done : (answer ≡ out_of_memory → ⊥) → AnswersSo (reading_of bytes).next old answer new
-  pub memory : answer ≡ out_of_memory → (new ≡ old) × IsReplaceable (reading_of bytes).next
+pub record Turn (second : Bool) (bytes : List ℕ) (old : State) (answer : Reply) (new : State) : Type 0 where
+  pub done : (answer ≡ out_of_memory → ⊥) → AnswersSo second (reading_of second bytes).next old answer new
+  pub memory : answer ≡ out_of_memory → (new ≡ old) × IsReplaceable (reading_of second bytes).next
 
 -- these are the replies to what stands first on the stream; then these bytes and this state are left
-abbrev pub Runs : List ℕ → State → List Reply → List ℕ → State → Type 0
-Runs bytes old [] rest new = (rest ≡ bytes) × (new ≡ old)
-Runs bytes old (answer ∷ answers) rest new = (mid : State) × Turn bytes old answer mid × Runs (reading_of bytes).rest mid answers rest new
+abbrev pub Runs : Bool → List ℕ → State → List Reply → List ℕ → State → Type 0
+Runs second bytes old [] rest new = (rest ≡ bytes) × (new ≡ old)
+Runs second bytes old (answer ∷ answers) rest new = (mid : State) × Turn second bytes old answer mid × Runs second (reading_of second bytes).rest mid answers rest new
 
 -- what is written of replies
 abbrev pub written : List Reply → List ℕ
@@ -94,12 +129,12 @@ EndsSo (Given command) end = ⊥
 EndsSo (Refused fault) end = ⊥
 
 -- the whole stream was answered
-pub record IsWhole (bytes : List ℕ) (old : State) (end : End) (new : State) (had has : Option (List ℕ)) : Type 0 where
+pub record IsWhole (second : Bool) (bytes : List ℕ) (old : State) (end : End) (new : State) (had has : Option (List ℕ)) : Type 0 where
   pub answers : List Reply
   pub rest : List ℕ
-  pub runs : Runs bytes old answers rest new
-  pub ends : EndsSo (reading_of rest).next end
-  pub wrote : Appends had has (written answers ++ last_bytes (reading_of rest).next)
+  pub runs : Runs second bytes old answers rest new
+  pub ends : EndsSo (reading_of second rest).next end
+  pub wrote : Appends had has (written answers ++ last_bytes (reading_of second rest).next)
 
 -- what a failed write was to write: a reply, or else what stands for the fault at which the stream stops
 abbrev pub cut_bytes : Option Reply → Next → List ℕ
@@ -107,14 +142,14 @@ cut_bytes (Some answer) next = reply_bytes answer
 cut_bytes None next = last_bytes next
 
 -- a front of the stream was answered; all replies but the last were written, and of the last a front
-pub record IsFront (bytes : List ℕ) (old new : State) (had has : Option (List ℕ)) : Type 0 where
+pub record IsFront (second : Bool) (bytes : List ℕ) (old new : State) (had has : Option (List ℕ)) : Type 0 where
   pub answers : List Reply
   pub cut : Option Reply
   pub rest : List ℕ
-  pub runs : Runs bytes old (answers ++ option_to_list cut) rest new
+  pub runs : Runs second bytes old (answers ++ option_to_list cut) rest new
   pub part : List ℕ
   pub lost : List ℕ
-  pub is : cut_bytes cut (reading_of rest).next ≡ part ++ lost
+  pub is : cut_bytes cut (reading_of second rest).next ≡ part ++ lost
   pub wrote : Appends had has (written answers ++ part)
 
 -- the end after a failed call
@@ -126,26 +161,26 @@ abbrev pub unbegun : End
 unbegun = Stopped Memory
 
 -- a run over a stream: the whole of it, or up to the first failed call
-pub record IsRun (bytes : List ℕ) (old : State) (end : End) (new : State) (had has : Option (List ℕ)) : Type 0 where
-  pub whole : (end ≡ broken → ⊥) → IsWhole bytes old end new had has
-  pub front : end ≡ broken → IsFront bytes old new had has
+pub record IsRun (second : Bool) (bytes : List ℕ) (old : State) (end : End) (new : State) (had has : Option (List ℕ)) : Type 0 where
+  pub whole : (end ≡ broken → ⊥) → IsWhole second bytes old end new had has
+  pub front : end ≡ broken → IsFront second bytes old new had has
 
 -- the same of the known bytes of a stream, of a writer and of an engine
-abbrev pub IsRunOver : {W : Type 0} → (W → Option (List ℕ)) → Option (List ℕ) → CountedView W → EngineView → End → CountedView W → EngineView → Type 0
-IsRunOver contents stream had old end has new =
-    IfSome stream (λ bytes. IsRun bytes old.state end new.state (contents had.inner) (contents has.inner))
+abbrev pub IsRunOver : {W : Type 0} → Bool → (W → Option (List ℕ)) → Option (List ℕ) → CountedView W → EngineView → End → CountedView W → EngineView → Type 0
+IsRunOver second contents stream had old end has new =
+    IfSome stream (λ bytes. IsRun second bytes old.state end new.state (contents had.inner) (contents has.inner))
 
 -- all commands that are whole in the bytes taken were answered, and these are the bytes that the reader still holds
-pub record AnswersTaken (bytes : List ℕ) (old new : State) (had has held : Option (List ℕ)) : Type 0 where
+pub record AnswersTaken (second : Bool) (bytes : List ℕ) (old new : State) (had has held : Option (List ℕ)) : Type 0 where
   pub answers : List Reply
   pub rest : List ℕ
   pub part : List ℕ
-  pub runs : Runs bytes old answers rest new
+  pub runs : Runs second bytes old answers rest new
   pub wrote : Appends had has (written answers)
   pub taken : Consumes (Some rest) held part
-  pub ends : IsUnfinished (reading_of part).next
+  pub ends : IsUnfinished (reading_of second part).next
 
 -- the same of the known bytes of a stream, of those that its reader still holds, of a writer and of an engine
-abbrev pub AnswersAllTaken : {W : Type 0} → (W → Option (List ℕ)) → Option (List ℕ) → CountedView W → EngineView → Option (List ℕ) → CountedView W → EngineView → Type 0
-AnswersAllTaken contents stream had old held has new =
-    IfSome stream (λ bytes. AnswersTaken bytes old.state new.state (contents had.inner) (contents has.inner) held)
+abbrev pub AnswersAllTaken : {W : Type 0} → Bool → (W → Option (List ℕ)) → Option (List ℕ) → CountedView W → EngineView → Option (List ℕ) → CountedView W → EngineView → Type 0
+AnswersAllTaken second contents stream had old held has new =
+    IfSome stream (λ bytes. AnswersTaken second bytes old.state new.state (contents had.inner) (contents has.inner) held)

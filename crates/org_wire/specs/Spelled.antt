@@ -1,6 +1,6 @@
 -- How the stream's lines are spelled, without the reader's steps (profile).
 -- Characters by their codes: 32 space, 124 |.
-use Rattle.std.specs.Prelude.{◌≡◌, ◌≢◌, ◌⊎◌, ℕ, ◌<◌, ◌≤◌, true, List, [], ◌∷◌, ◌++◌, Option, None, Some, codes, decimal, length}
+use Rattle.std.specs.Prelude.{◌≡◌, Bool, ◌≢◌, ◌⊎◌, ℕ, ◌<◌, ◌≤◌, true, List, [], ◌∷◌, ◌++◌, Option, None, Some, codes, decimal, length}
 use Rattle.std.specs.List.{All}
 use Rattle.std.specs.Str.{IsUtf8}
 use Rattle.org_base.specs.FileName.{is_file_name}
@@ -8,11 +8,14 @@ use Rattle.org_base.specs.declared.profile.Profile.{Profile as AnyProfile}
 use Rattle.org_base.specs.declared.profile.Profile.TheVariants.{One, Two}
 use Rattle.org_cal.specs.Texts.{date_of, time_of}
 use Rattle.org_cal.specs.declared.moment.Moment.{Moment}
+use Rattle.org_engine.specs.declared.question.Form.{Form}
+use Rattle.org_engine.specs.declared.question.Form.TheVariants as form
 use Rattle.org_wire.specs.Stream.{moment_of, most_number}
 use Rattle.org_wire.specs.declared.command.Command.{Command}
-use Rattle.org_wire.specs.declared.command.Command.TheVariants.{Add, Agenda, At, Clock, Complete, Drop, Edit, Inherit, Match, Pin, Profile, Text, Todo, Unpin}
+use Rattle.org_wire.specs.declared.command.Command.TheVariants.{Add, Agenda, At, Clock, Complete, Drop, Edit, Inherit, Keywords, Match, Pin, Profile, Text, Todo, Unpin, Version}
 use Rattle.org_wire.specs.declared.command.Frame.{Frame}
 use Rattle.org_wire.specs.declared.command.Frame.TheVariants as frame
+use Rattle.org_wire.specs.declared.command.Request.{Request}
 use Rattle.org_wire.specs.declared.command.Seen.{Seen}
 
 -- parts with one byte between
@@ -49,15 +52,29 @@ seen_parts seen = decimal seen.session ∷ (seen.name ∷ (decimal seen.serial �
 abbrev pub IsSeen : Seen → Type 0
 IsSeen seen = IsNumber seen.session × IsName seen.name × IsNumber seen.serial
 
--- the parts of a view, with `pinned S` in front where it is asked of what a session keeps
-abbrev pub IsView : Option ℕ → List (List ℕ) → List ℕ → Type 0
-IsView None parts line = line ≡ spaced parts
-IsView (Some session) parts line = (line ≡ spaced (codes "pinned" ∷ (decimal session ∷ parts))) × IsNumber session
+-- `places` in front of the parts of a view whose places are asked for
+abbrev pub form_parts : Form → List (List ℕ)
+form_parts form.Text = []
+form_parts form.Places = codes "places" ∷ []
+
+-- that is known, if it stands there
+abbrev pub IsKnown : Bool → Form → Type 0
+IsKnown second form.Text = Unit {0}
+IsKnown second form.Places = second ≡ true
+
+-- the parts of a question, with `pinned S` in front where it is asked of what a session keeps
+abbrev pub IsQuestion : Option ℕ → List (List ℕ) → List ℕ → Type 0
+IsQuestion None parts line = line ≡ spaced parts
+IsQuestion (Some session) parts line = (line ≡ spaced (codes "pinned" ∷ (decimal session ∷ parts))) × IsNumber session
+
+-- the same of a request, with `places` in front of the view's parts where they are asked for
+abbrev pub IsView : Bool → Request → List (List ℕ) → List ℕ → Type 0
+IsView second request parts line = IsQuestion request.session (form_parts request.form ++ parts) line × IsKnown second request.form
 
 -- a view whose text is the rest of its line; an empty one may stand there or not
-abbrev pub IsViewWith : Option ℕ → List (List ℕ) → List ℕ → List ℕ → List ℕ → Type 0
-IsViewWith session front word text line =
-    (IsView session (front ++ (word ∷ (text ∷ []))) line × IsUtf8 text) ⊎ (IsView session (front ++ (word ∷ [])) line × (text ≡ []))
+abbrev pub IsViewWith : Bool → Request → List (List ℕ) → List ℕ → List ℕ → List ℕ → Type 0
+IsViewWith second request front word text line =
+    (IsView second request (front ++ (word ∷ (text ∷ []))) line × IsUtf8 text) ⊎ (IsView second request (front ++ (word ∷ [])) line × (text ≡ []))
 
 -- the part that names the file that a list is over, if it is over one
 abbrev pub file_parts : Option (List ℕ) → List (List ℕ)
@@ -92,22 +109,24 @@ abbrev pub IsAt : Option Moment → List ℕ → Type 0
 IsAt moment line = (date : List ℕ) × (time : List ℕ) × (line ≡ spaced (codes "at" ∷ (date ∷ (time ∷ [])))) × IsWord date × IsWord time × (moment ≡ moment_of (date_of date) (time_of time))
 
 -- the line of a command without a payload
-abbrev pub IsLineOf : Command → List ℕ → Type 0
-IsLineOf (Add name bytes) line = ⊥
-IsLineOf (Drop name) line = (line ≡ spaced (codes "drop" ∷ (name ∷ []))) × IsName name
-IsLineOf (Edit seen at del bytes) line = ⊥
-IsLineOf (Complete seen place keyword) line =
+abbrev pub IsLineOf : Bool → Command → List ℕ → Type 0
+IsLineOf second (Add name bytes) line = ⊥
+IsLineOf second (Drop name) line = (line ≡ spaced (codes "drop" ∷ (name ∷ []))) × IsName name
+IsLineOf second (Edit seen at del bytes) line = ⊥
+IsLineOf second (Complete seen place keyword) line =
     (line ≡ spaced (codes "complete" ∷ (seen_parts seen ++ (decimal place ∷ (keyword ∷ []))))) × IsSeen seen × IsNumber place × IsWord keyword
-IsLineOf (Inherit names) line = (line ≡ spaced (codes "inherit" ∷ names)) × AreNames names
-IsLineOf (At moment) line = IsAt moment line
-IsLineOf (Profile profile) line = line ≡ spaced (codes "profile" ∷ (profile_word profile ∷ []))
-IsLineOf (Pin session) line = (line ≡ spaced (codes "pin" ∷ (decimal session ∷ []))) × IsNumber session
-IsLineOf (Unpin session) line = (line ≡ spaced (codes "unpin" ∷ (decimal session ∷ []))) × IsNumber session
-IsLineOf (Text name) line = (line ≡ spaced (codes "text" ∷ (name ∷ []))) × IsName name
-IsLineOf (Todo session file keywords) line = IsView session (file_parts file ++ (codes "todo" ∷ keyword_parts keywords)) line × AreKeywords keywords × IsFileOf file
-IsLineOf (Match session file text) line = IsViewWith session (file_parts file) (codes "match") text line × IsFileOf file
-IsLineOf (Agenda session date days) line = IsView session (codes "agenda" ∷ (date ∷ (decimal days ∷ []))) line × IsWord date × IsNumber days
-IsLineOf (Clock session text) line = IsViewWith session [] (codes "clock") text line
+IsLineOf second (Inherit names) line = (line ≡ spaced (codes "inherit" ∷ names)) × AreNames names
+IsLineOf second (At moment) line = IsAt moment line
+IsLineOf second (Profile profile) line = line ≡ spaced (codes "profile" ∷ (profile_word profile ∷ []))
+IsLineOf second (Pin session) line = (line ≡ spaced (codes "pin" ∷ (decimal session ∷ []))) × IsNumber session
+IsLineOf second (Unpin session) line = (line ≡ spaced (codes "unpin" ∷ (decimal session ∷ []))) × IsNumber session
+IsLineOf second (Text name) line = (line ≡ spaced (codes "text" ∷ (name ∷ []))) × IsName name
+IsLineOf second (Keywords name) line = (line ≡ spaced (codes "keywords" ∷ (name ∷ []))) × IsName name × (second ≡ true)
+IsLineOf second Version line = (line ≡ codes "version") × (second ≡ true)
+IsLineOf second (Todo request file keywords) line = IsView second request (file_parts file ++ (codes "todo" ∷ keyword_parts keywords)) line × AreKeywords keywords × IsFileOf file
+IsLineOf second (Match request file text) line = IsViewWith second request (file_parts file) (codes "match") text line × IsFileOf file
+IsLineOf second (Agenda request date days) line = IsView second request (codes "agenda" ∷ (date ∷ (decimal days ∷ []))) line × IsWord date × IsNumber days
+IsLineOf second (Clock request text) line = IsViewWith second request [] (codes "clock") text line
 
 -- the line of a command before its payload of so many bytes
 abbrev pub IsFrameLine : Frame → ℕ → List ℕ → Type 0

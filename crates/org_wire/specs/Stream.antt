@@ -11,17 +11,26 @@ use Rattle.org_base.specs.declared.fault.Fault.TheVariants.{Plain}
 use Rattle.org_base.specs.declared.profile.Profile.TheVariants.{One, Two}
 use Rattle.org_cal.specs.Texts.{date_of, time_of}
 use Rattle.org_cal.specs.declared.moment.Moment.{Moment}
+use Rattle.org_engine.specs.declared.question.Form.TheVariants as form
 use Rattle.org_text.specs.Replace.{max_bytes}
 use Rattle.org_wire.specs.Lines.{cut_at, longest}
 use Rattle.org_wire.specs.Lines as lines
 use Rattle.org_wire.specs.declared.words.TheConstants.{MOST_NUMBER}
 use Rattle.org_wire.specs.declared.command.Command.{Command}
-use Rattle.org_wire.specs.declared.command.Command.TheVariants.{Add, Agenda, At, Clock, Complete, Drop, Edit, Inherit, Match, Pin, Profile, Text, Todo, Unpin}
+use Rattle.org_wire.specs.declared.command.Command.TheVariants.{Add, Agenda, At, Clock, Complete, Drop, Edit, Inherit, Keywords, Match, Pin, Profile, Text, Todo, Unpin, Version}
 use Rattle.org_wire.specs.declared.command.Frame.{Frame}
 use Rattle.org_wire.specs.declared.command.Frame.TheVariants as frame
+use Rattle.org_wire.specs.declared.command.Request.{Request}
+use Rattle.org_wire.specs.declared.protocol.Protocol.{Protocol}
+use Rattle.org_wire.specs.declared.protocol.Protocol.TheVariants.{First, Second}
 use Rattle.org_wire.specs.declared.command.Seen.{Seen}
 use Rattle.org_wire.specs.declared.command.Next.{Next}
 use Rattle.org_wire.specs.declared.command.Next.TheVariants.{Given, Refused, Last, Ended}
+
+-- whether the second protocol is spoken
+abbrev pub is_second : Protocol → Bool
+is_second First = false
+is_second Second = true
 
 -- what a line says: nothing, a whole command, or one whose payload of so many bytes follows
 pub data Line : Type 0 where
@@ -56,6 +65,10 @@ drop_line name = if is_name name then Plainly (Drop name) else Bad
 abbrev pub text_line : List ℕ → Line
 text_line name = if is_name name then Plainly (Text name) else Bad
 
+-- `keywords NAME`
+abbrev pub keywords_line : List ℕ → Line
+keywords_line name = if is_name name then Plainly (Keywords name) else Bad
+
 -- single bytes of a kind separate words, none of them empty; at true one begins here
 abbrev pub are_words : ℕ → Bool → List ℕ → Bool
 are_words gap begins [] = not begins
@@ -71,16 +84,16 @@ abbrev pub is_word : List ℕ → Bool
 is_word text = list_all (λ b. not (b == 32)) text
 
 -- `todo KW|KW`, from its first keyword on: one word, of keywords between bars
-abbrev pub todo_line : Option ℕ → Option (List ℕ) → List ℕ → Line
-todo_line session file words = if is_utf8 words && is_word words && are_words 124 true words then Plainly (Todo session file (words_from 124 [] words)) else Bad
+abbrev pub todo_line : Request → Option (List ℕ) → List ℕ → Line
+todo_line request file words = if is_utf8 words && is_word words && are_words 124 true words then Plainly (Todo request file (words_from 124 [] words)) else Bad
 
 -- `match EXPR`, whose expression is the rest of the line
-abbrev pub match_line : Option ℕ → Option (List ℕ) → List ℕ → Line
-match_line session file text = if is_utf8 text then Plainly (Match session file text) else Bad
+abbrev pub match_line : Request → Option (List ℕ) → List ℕ → Line
+match_line request file text = if is_utf8 text then Plainly (Match request file text) else Bad
 
 -- `clock OPTIONS`, whose options are the rest of the line
-abbrev pub clock_line : Option ℕ → List ℕ → Line
-clock_line session text = if is_utf8 text then Plainly (Clock session text) else Bad
+abbrev pub clock_line : Request → List ℕ → Line
+clock_line request text = if is_utf8 text then Plainly (Clock request text) else Bad
 
 -- `inherit NAME ..`, from its first name on
 abbrev pub inherit_line : List ℕ → Line
@@ -101,14 +114,14 @@ abbrev pub is_one_word : List ℕ → Bool
 is_one_word text = not (length text == 0) && is_word text && is_utf8 text
 
 -- a date, and days where they are a number
-abbrev pub dated_line : Option ℕ → List ℕ → Option ℕ → Line
-dated_line session date None = Bad
-dated_line session date (Some days) = Plainly (Agenda session date days)
+abbrev pub dated_line : Request → List ℕ → Option ℕ → Line
+dated_line request date None = Bad
+dated_line request date (Some days) = Plainly (Agenda request date days)
 
 -- `agenda DATE DAYS`, from its date on
-abbrev pub agenda_line : Option ℕ → Option lines.Cut → Line
-agenda_line session None = Bad
-agenda_line session (Some cut) = if is_one_word cut.before then dated_line session cut.before (number_of cut.after) else Bad
+abbrev pub agenda_line : Request → Option lines.Cut → Line
+agenda_line request None = Bad
+agenda_line request (Some cut) = if is_one_word cut.before then dated_line request cut.before (number_of cut.after) else Bad
 
 -- the moment of a day and a time, where both are read
 abbrev pub moment_of : Option ℕ → Option ℕ → Option Moment
@@ -193,67 +206,76 @@ unpin_line None = Bad
 unpin_line (Some session) = Plainly (Unpin session)
 
 -- a list with words behind it, over all files or over the one of a name
-abbrev pub list_words : Option ℕ → Option (List ℕ) → Option lines.Cut → Line
-list_words session file None = Bad
-list_words session file (Some cut) = if bytes_eq cut.before (codes "todo") then todo_line session file cut.after
-    else if bytes_eq cut.before (codes "match") then match_line session file cut.after
+abbrev pub list_words : Request → Option (List ℕ) → Option lines.Cut → Line
+list_words request file None = Bad
+list_words request file (Some cut) = if bytes_eq cut.before (codes "todo") then todo_line request file cut.after
+    else if bytes_eq cut.before (codes "match") then match_line request file cut.after
     else Bad
 
 -- a list that is a word alone, or has words behind it
-abbrev pub list_line : Option ℕ → Option (List ℕ) → List ℕ → Line
-list_line session file line = if bytes_eq line (codes "todo") then Plainly (Todo session file [])
-    else if bytes_eq line (codes "match") then Plainly (Match session file [])
-    else list_words session file (cut_at 32 line)
+abbrev pub list_line : Request → Option (List ℕ) → List ℕ → Line
+list_line request file line = if bytes_eq line (codes "todo") then Plainly (Todo request file [])
+    else if bytes_eq line (codes "match") then Plainly (Match request file [])
+    else list_words request file (cut_at 32 line)
 
 -- `file=NAME` and a list
-abbrev pub file_line : Option ℕ → List ℕ → List ℕ → Line
-file_line session name line = if is_name name then list_line session (Some name) line else Bad
+abbrev pub file_line : Request → List ℕ → List ℕ → Line
+file_line request name line = if is_name name then list_line request (Some name) line else Bad
 
 -- a view, of the current world or of one that a session keeps
-abbrev pub view_words : Option ℕ → Option lines.Cut → Line
-view_words session None = Bad
-view_words session (Some cut) = if bytes_eq cut.before (codes "todo") then todo_line session None cut.after
-    else if bytes_eq cut.before (codes "match") then match_line session None cut.after
-    else if starts_with nat_eq cut.before (codes "file=") then file_line session (drop 5 cut.before) cut.after
-    else if bytes_eq cut.before (codes "clock") then clock_line session cut.after
-    else if bytes_eq cut.before (codes "agenda") then agenda_line session (cut_at 32 cut.after)
+abbrev pub view_words : Request → Option lines.Cut → Line
+view_words request None = Bad
+view_words request (Some cut) = if bytes_eq cut.before (codes "todo") then todo_line request None cut.after
+    else if bytes_eq cut.before (codes "match") then match_line request None cut.after
+    else if starts_with nat_eq cut.before (codes "file=") then file_line request (drop 5 cut.before) cut.after
+    else if bytes_eq cut.before (codes "clock") then clock_line request cut.after
+    else if bytes_eq cut.before (codes "agenda") then agenda_line request (cut_at 32 cut.after)
     else Bad
 
 -- a view that is a word alone, or has words behind it
-abbrev pub view_line : Option ℕ → List ℕ → Line
-view_line session line = if bytes_eq line (codes "todo") then Plainly (Todo session None [])
-    else if bytes_eq line (codes "match") then Plainly (Match session None [])
-    else if bytes_eq line (codes "clock") then Plainly (Clock session [])
-    else view_words session (cut_at 32 line)
+abbrev pub view_line : Request → List ℕ → Line
+view_line request line = if bytes_eq line (codes "todo") then Plainly (Todo request None [])
+    else if bytes_eq line (codes "match") then Plainly (Match request None [])
+    else if bytes_eq line (codes "clock") then Plainly (Clock request [])
+    else view_words request (cut_at 32 line)
 
--- `pinned S` and a view
-abbrev pub pinned_line : Option (ℕ × List ℕ) → Line
-pinned_line None = Bad
-pinned_line (Some session) = view_line (Some session.0) session.1
+-- a question of a world: for the text of a view, or in the second protocol for where its lines lead
+abbrev pub question_line : Bool → Option ℕ → List ℕ → Line
+question_line second session line = if second && starts_with nat_eq line (codes "places ")
+    then view_line (record { session = session; form = form.Places }) (drop 7 line)
+    else view_line (record { session = session; form = form.Text }) line
+
+-- `pinned S` and a question
+abbrev pub pinned_line : Bool → Option (ℕ × List ℕ) → Line
+pinned_line second None = Bad
+pinned_line second (Some session) = question_line second (Some session.0) session.1
 
 -- a line of a profile or a pin, cut behind its first word; any other asks the current world for a view
-abbrev pub others_line : List ℕ → lines.Cut → Line
-others_line line cut = if bytes_eq cut.before (codes "profile") then profile_line cut.after
+abbrev pub others_line : Bool → List ℕ → lines.Cut → Line
+others_line second line cut = if bytes_eq cut.before (codes "profile") then profile_line cut.after
     else if bytes_eq cut.before (codes "pin") then pin_line (number_of cut.after)
     else if bytes_eq cut.before (codes "unpin") then unpin_line (number_of cut.after)
-    else if bytes_eq cut.before (codes "pinned") then pinned_line (first_number (cut_at 32 cut.after))
-    else view_line None line
+    else if bytes_eq cut.before (codes "pinned") then pinned_line second (first_number (cut_at 32 cut.after))
+    else if bytes_eq cut.before (codes "keywords") && second then keywords_line cut.after
+    else question_line second None line
 
 -- a line of several words, cut behind its first; without one the current world is asked for a view
-abbrev pub words_line : List ℕ → Option lines.Cut → Line
-words_line line None = view_line None line
-words_line line (Some cut) = if bytes_eq cut.before (codes "edit") then edit_line (seen_of cut.after)
+abbrev pub words_line : Bool → List ℕ → Option lines.Cut → Line
+words_line second line None = question_line second None line
+words_line second line (Some cut) = if bytes_eq cut.before (codes "edit") then edit_line (seen_of cut.after)
     else if bytes_eq cut.before (codes "complete") then complete_line (seen_of cut.after)
     else if bytes_eq cut.before (codes "text") then text_line cut.after
     else if bytes_eq cut.before (codes "drop") then drop_line cut.after
     else if bytes_eq cut.before (codes "inherit") then inherit_line cut.after
     else if bytes_eq cut.before (codes "at") then at_line (cut_at 32 cut.after)
     else if bytes_eq cut.before (codes "add") then add_line (cut_at 32 cut.after)
-    else others_line line cut
+    else others_line second line cut
 
--- what a line says
-unfoldable pub line_of : List ℕ → Line
-line_of line = if bytes_eq line (codes "inherit") then Plainly (Inherit []) else words_line line (cut_at 32 line)
+-- what a line says, in the second protocol or in the first
+unfoldable pub line_of : Bool → List ℕ → Line
+line_of second line = if bytes_eq line (codes "inherit") then Plainly (Inherit [])
+    else if bytes_eq line (codes "version") && second then Plainly Version
+    else words_line second line (cut_at 32 line)
 
 -- what comes next on a stream, and what follows it
 pub record Reading : Type 0 where
@@ -274,19 +296,19 @@ after_line (Framed frame size) rest = if nat_lt max_bytes size then record { nex
     else record { next = Given (framed frame (take size rest)); rest = drop size rest }
 
 -- what comes next, behind the bytes of a line
-abbrev pub behind : List ℕ → List ℕ → Reading
-behind line = after_line (line_of line)
+abbrev pub behind : Bool → List ℕ → List ℕ → Reading
+behind second line = after_line (line_of second line)
 
 -- what comes next on a stream that is cut at its first LF
-abbrev pub after_cut : Option lines.Cut → Reading
-after_cut None = record { next = Last (Plain Cut); rest = [] }
-after_cut (Some cut) = if nat_lt longest (length cut.before) then record { next = Refused (Plain Long); rest = cut.after }
-    else behind cut.before cut.after
+abbrev pub after_cut : Bool → Option lines.Cut → Reading
+after_cut second None = record { next = Last (Plain Cut); rest = [] }
+after_cut second (Some cut) = if nat_lt longest (length cut.before) then record { next = Refused (Plain Long); rest = cut.after }
+    else behind second cut.before cut.after
 
 -- what comes next on a stream
-abbrev pub reading_of : List ℕ → Reading
-reading_of [] = record { next = Ended; rest = [] }
-reading_of (b ∷ bytes) = after_cut (cut_at 10 (b ∷ bytes))
+abbrev pub reading_of : Bool → List ℕ → Reading
+reading_of second [] = record { next = Ended; rest = [] }
+reading_of second (b ∷ bytes) = after_cut second (cut_at 10 (b ∷ bytes))
 
 -- a command that may take memory: all but those of another moment, of a profile, and of letting go of a world
 abbrev pub MayTakeMemory : Command → Type 0
@@ -300,10 +322,12 @@ MayTakeMemory (Complete seen line keyword) = Unit {0}
 MayTakeMemory (Inherit names) = Unit {0}
 MayTakeMemory (Pin session) = Unit {0}
 MayTakeMemory (Text name) = Unit {0}
-MayTakeMemory (Todo session file words) = Unit {0}
-MayTakeMemory (Match session file text) = Unit {0}
-MayTakeMemory (Agenda session date days) = Unit {0}
-MayTakeMemory (Clock session text) = Unit {0}
+MayTakeMemory (Keywords name) = Unit {0}
+MayTakeMemory Version = Unit {0}
+MayTakeMemory (Todo request file words) = Unit {0}
+MayTakeMemory (Match request file text) = Unit {0}
+MayTakeMemory (Agenda request date days) = Unit {0}
+MayTakeMemory (Clock request text) = Unit {0}
 
 -- where want of memory may be answered instead: a whole command that may take memory, and not a bad line or a frame's own
 -- checks

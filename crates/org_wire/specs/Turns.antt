@@ -1,5 +1,5 @@
 -- What holds between the turns of a run.
-use Rattle.std.specs.Prelude.{◌≡◌, List, ℕ, Option, Some, Result, Ok, Err, String, string_bytes}
+use Rattle.std.specs.Prelude.{◌≡◌, Bool, List, ℕ, Option, Some, Result, Ok, Err, String, string_bytes}
 use Rattle.org_base.specs.declared.fault.Fault.{Fault}
 use Rattle.std.specs.Io.KnownBytes.{Appends}
 use Rattle.org_base.specs.Codes.{code_of}
@@ -8,14 +8,16 @@ use Rattle.org_engine.specs.Marks.{AnyStamps, Classifies, Completes, Looks, NoSt
 use Rattle.org_engine.specs.Step.{file_named}
 use Rattle.org_engine.specs.Step as step
 use Rattle.org_engine.specs.World.{EngineView, State}
+use Rattle.org_engine.specs.declared.changes.Completion.{Completion}
 use Rattle.org_engine.specs.declared.question.View.{View}
 use Rattle.org_wire.specs.Devices.{AppendsTo}
 use Rattle.org_wire.specs.Replies.{fault_bytes}
 use Rattle.org_wire.specs.Run.{AnswersSo, Runs, out_of_memory, shown, written}
 use Rattle.org_wire.specs.Stream.{MayTakeMemory}
 use Rattle.org_wire.specs.declared.command.Command.{Command}
-use Rattle.org_wire.specs.declared.command.Command.TheVariants.{Add, Agenda, At, Clock, Complete, Drop, Edit, Inherit, Match, Pin, Profile, Text, Todo, Unpin}
+use Rattle.org_wire.specs.declared.command.Command.TheVariants.{Add, Agenda, At, Clock, Complete, Drop, Edit, Inherit, Keywords, Match, Pin, Profile, Text, Todo, Unpin, Version}
 use Rattle.org_wire.specs.declared.command.Next.{Next}
+use Rattle.org_wire.specs.declared.command.Request.{Request}
 use Rattle.org_wire.specs.declared.command.Next.TheVariants.{Given, Refused, Last, Ended}
 use Rattle.org_wire.specs.declared.reply.Reply.{Reply}
 use Rattle.org_wire.specs.Views.{CountedView}
@@ -24,21 +26,21 @@ use Rattle.org_wire.specs.declared.whole.End.{End}
 use Rattle.org_wire.specs.declared.whole.End.TheVariants.{Stopped}
 
 -- the stream was answered so far, and these bytes are left
-pub record IsSoFar (bytes : List ℕ) (old new : State) (had has now : Option (List ℕ)) : Type 0 where
+pub record IsSoFar (second : Bool) (bytes : List ℕ) (old new : State) (had has now : Option (List ℕ)) : Type 0 where
   pub answers : List Reply
   pub rest : List ℕ
   pub left : now ≡ Some rest
-  pub runs : Runs bytes old answers rest new
+  pub runs : Runs second bytes old answers rest new
   pub wrote : Appends had has (written answers)
 
 -- the answer to a command, or want of memory with nothing changed
-pub record IsServed (command : Command) (old : State) (answer : Reply) (new : State) : Type 0 where
-  pub done : (answer ≡ out_of_memory → ⊥) → AnswersSo (Given command) old answer new
+pub record IsServed (second : Bool) (command : Command) (old : State) (answer : Reply) (new : State) : Type 0 where
+  pub done : (answer ≡ out_of_memory → ⊥) → AnswersSo second (Given command) old answer new
   pub memory : answer ≡ out_of_memory → (new ≡ old) × MayTakeMemory command
 
 -- the same of an engine
-abbrev pub Serves : Command → EngineView → Reply → EngineView → Type 0
-Serves command old answer new = IsServed command old.state answer new.state
+abbrev pub Serves : Bool → Command → EngineView → Reply → EngineView → Type 0
+Serves second command old answer new = IsServed second command old.state answer new.state
 
 -- the engine's answer to a step that needs no memory
 abbrev pub ServesSurely : step.Command → EngineView → Reply → EngineView → Type 0
@@ -50,30 +52,40 @@ abbrev pub told : Result ℕ Fault → Reply
 told (Ok serial) = reply.Serial serial
 told (Err fault) = reply.Refused fault
 
+-- the reply to a completion, with what it replaced
+abbrev pub told_change : Result Completion Fault → Reply
+told_change (Ok done) = reply.Changed done.serial (record { at = done.at; del = done.del; ins = string_bytes done.ins })
+told_change (Err fault) = reply.Refused fault
+
+-- the reply to a question for lines
+abbrev pub told_lines : Result (List ℕ) Fault → Reply
+told_lines (Ok lines) = reply.Shown lines
+told_lines (Err fault) = reply.Refused fault
+
 -- the reply to a question for a text
 abbrev pub told_text : {Y : Type 0} → Result (String Y) Fault → Reply
 told_text (Ok text) = reply.Shown (string_bytes text)
 told_text (Err fault) = reply.Refused fault
 
 -- the answer to a view, or want of memory with nothing changed
-pub record IsViewServed (view : View) (session : Option ℕ) (old : State) (answer : Reply) (new : State) : Type 0 where
-  pub done : (answer ≡ out_of_memory → ⊥) → (question : step.Question) × AsksOf (Asks view) (step.world_for session old) question
-      × (answer ≡ shown (step.step (step.Ask question session) old).reply) × (new ≡ (step.step (step.Ask question session) old).after)
+pub record IsViewServed (view : View) (request : Request) (old : State) (answer : Reply) (new : State) : Type 0 where
+  pub done : (answer ≡ out_of_memory → ⊥) → (question : step.Question) × AsksOf (Asks view) (step.world_for request.session old) question
+      × (answer ≡ shown (step.step (step.Ask question request.form request.session) old).reply) × (new ≡ (step.step (step.Ask question request.form request.session) old).after)
   pub memory : answer ≡ out_of_memory → new ≡ old
 
 -- the same of an engine
-abbrev pub ServesView : View → Option ℕ → EngineView → Reply → EngineView → Type 0
-ServesView view session old answer new = IsViewServed view session old.state answer new.state
+abbrev pub ServesView : View → Request → EngineView → Reply → EngineView → Type 0
+ServesView view request old answer new = IsViewServed view request old.state answer new.state
 
 -- what a command may count: a view the sections of the world that it is asked of which are still to be read, as read, and an
 -- agenda stamps that are examined besides; a file
 -- that is added its sections, and a change of one the new ones, as classified; completing a heading one as read besides; all
 -- others nothing
 abbrev pub CountsFor : Command → EngineView → EngineView → Type 0
-CountsFor (Todo session file words) old new = Looks (pending_asked session old) NoStamps old new
-CountsFor (Match session file text) old new = Looks (pending_asked session old) NoStamps old new
-CountsFor (Agenda session date days) old new = Looks (pending_asked session old) AnyStamps old new
-CountsFor (Clock session text) old new = Looks (pending_asked session old) NoStamps old new
+CountsFor (Todo request file words) old new = Looks (pending_asked request.session old) NoStamps old new
+CountsFor (Match request file text) old new = Looks (pending_asked request.session old) NoStamps old new
+CountsFor (Agenda request date days) old new = Looks (pending_asked request.session old) AnyStamps old new
+CountsFor (Clock request text) old new = Looks (pending_asked request.session old) NoStamps old new
 CountsFor (Complete seen line keyword) old new = Completes seen.name line keyword old new
 CountsFor (Add name text) old new = Classifies (added_count text) old new
 CountsFor (Edit seen at del ins) old new = Classifies (new_count at del ins (file_named seen.name old.state.world.files)) old new
@@ -84,13 +96,15 @@ CountsFor (Profile profile) old new = new.counts ≡ old.counts
 CountsFor (Pin session) old new = new.counts ≡ old.counts
 CountsFor (Unpin session) old new = new.counts ≡ old.counts
 CountsFor (Text name) old new = new.counts ≡ old.counts
+CountsFor (Keywords name) old new = new.counts ≡ old.counts
+CountsFor Version old new = new.counts ≡ old.counts
 
 -- what was read is answered so
-abbrev pub Answered : Next → State → Reply → State → Type 0
-Answered (Given command) old answer new = IsServed command old answer new
-Answered (Refused fault) old answer new = (answer ≡ reply.Refused fault) × (new ≡ old)
-Answered (Last fault) old answer new = ⊥
-Answered Ended old answer new = ⊥
+abbrev pub Answered : Bool → Next → State → Reply → State → Type 0
+Answered second (Given command) old answer new = IsServed second command old answer new
+Answered second (Refused fault) old answer new = (answer ≡ reply.Refused fault) × (new ≡ old)
+Answered second (Last fault) old answer new = ⊥
+Answered second Ended old answer new = ⊥
 
 -- a writer got the line of a fault whole, no call failed, and the run ends with the fault's code
 abbrev pub EndsAt : {W : Type 0} → (W → Option (List ℕ)) → Fault → CountedView W → End → CountedView W → Type 0

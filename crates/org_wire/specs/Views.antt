@@ -9,8 +9,10 @@ pub record CountedView (D : Type 0) : Type 0 where
   pub failed : ℕ
   pub is_flushed : Bool
 
--- the reader that an input lends, what was read ahead of it and not yet taken, and the line that was read last
+-- the reader that an input lends, what was read ahead of it and not yet taken, the line that was read last, and whether
+-- whether the second protocol is spoken
 pub record InputView (R : Type 0) : Type 0 where
   pub reader : MutBor (CountedView R)
   pub room : List ℕ
   pub line : List ℕ
+  pub second : Bool

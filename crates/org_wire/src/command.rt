@@ -5,6 +5,7 @@ ghost use Rattle.org_wire.specs.Stream.{framed};
 use crate::line_text::LineText;
 use org_base::{Bytes, Fault, Name, Profile, Texts};
 use org_cal::Moment;
+use org_engine::Form;
 
 /// What a session saw of a file before it changes it: the file's name, and the serial of its text.
 #[derive(Debug, Drop)]
@@ -17,7 +18,16 @@ pub struct Seen {
     pub serial: u64,
 }
 
-/// A command, one variant for each line that is one. A view has a session where it is asked of what that one keeps.
+/// How a view is asked for.
+#[derive(Clone, Copy, Debug, PartialEq, Eq)]
+pub struct Request {
+    /// The session whose world is asked, where it is one that a session keeps: `pinned S` in front.
+    pub session: Option<u64>,
+    /// Its text, or by `places` in front where each line of that leads.
+    pub form: Form,
+}
+
+/// A command, one variant for each line that is one.
 #[derive(Debug, Drop)]
 pub enum Command {
     /// `add NAME LEN`, with its payload: adds a file.
@@ -40,15 +50,19 @@ pub enum Command {
     Unpin(u64),
     /// `text NAME`: asks for a file's text.
     Text(Name),
+    /// `keywords NAME`, of the second protocol: asks for a file's keywords.
+    Keywords(Name),
+    /// `version`, of the second protocol: asks for the program's name, version and protocol.
+    Version,
     /// `todo` or `todo KW|KW`, perhaps with `file=NAME` in front: asks for the TODO list of these keywords; of none, of those
     /// that aren't done.
-    Todo(Option<u64>, Option<Name>, Texts),
+    Todo(Request, Option<Name>, Texts),
     /// `match EXPR`: asks for the match list of an expression, which is the rest of the line and may be empty.
-    Match(Option<u64>, Option<Name>, LineText),
+    Match(Request, Option<Name>, LineText),
     /// `agenda DATE DAYS`: asks for the agenda of so many days from a date on.
-    Agenda(Option<u64>, Name, u64),
+    Agenda(Request, Name, u64),
     /// `clock OPTIONS`: asks for the clock table of options, which are the rest of the line and may be empty.
-    Clock(Option<u64>, LineText),
+    Clock(Request, LineText),
 }
 
 // What the line of a command with a payload says.

@@ -8,6 +8,7 @@ use crate::frames::{add_frame, command_of, edit_frame};
 use crate::line::LineBuffer;
 use crate::parse::parse_line;
 use crate::parsed::Parsed;
+use crate::protocol::Protocol;
 use crate::room::{MOST_ROOM, Room};
 use org_base::{Bytes, Code, Fault};
 use org_text::MAX_BYTES;
@@ -42,6 +43,7 @@ pub struct Input<'a, R> {
     reader: &'a mut Counted<R>,
     room: Room,
     line: LineBuffer,
+    second: bool,
     alloc: Global,
 }
 
@@ -50,7 +52,7 @@ impl<'a, R> Model for Input<'a, R> {
 
     ghost Value = { InputView R };
 
-    ghost view = { λ i. record { reader = i.reader; room = i.room; line = i.line } };
+    ghost view = { λ i. record { reader = i.reader; room = i.room; line = i.line; second = i.second } };
 }
 
 // Puts the bytes at the end, unless memory was refused before, and answers whether it never was.
@@ -64,13 +66,18 @@ impl<'a, R: Read> Input<'a, R> {
     ghost use Rattle.org_wire.specs.Input.{ahead, CountsNext, NeverStopsForMemory, Reads, StopsShort};
     ghost use Rattle.org_wire.specs.Steps.{CountsCall, StaysAhead, HasStopped, HoldsAll, IsReady, ReadsFrame, StopsInFrame, Takes, TakesFewer, TakesLine, TakesPayload};
     ghost use Rattle.org_wire.specs.Devices.{StaysBounded};
-    ghost use Rattle.org_wire.specs.Stream.{broken, reading_of, behind};
+    ghost use Rattle.org_wire.specs.Stream.{broken, is_second, reading_of, behind};
 
     /// A stream over a reader. Want of memory for a line or for what is read ahead is its only refusal. The reader
     /// isn't called: a call would have to know that none has failed.
-    pub fn new(alloc: Global, reader: &'a mut Counted<R>) -> Result<Input<'a, R>, Fault>
+    pub fn new(
+        alloc: Global,
+        reader: &'a mut Counted<R>,
+        protocol: Protocol,
+    ) -> Result<Input<'a, R>, Fault>
         ensures reader { IfOk result (λ input. input.reader.now ≡ reader.old) }
         ensures room { IfOk result (λ input. input.room ≡ []) }
+        ensures spoken { IfOk result (λ input. input.second ≡ is_second protocol) }
         ensures same_reference { IfOk result (λ input. input.reader.ghost_name ≡ reader.entry.ghost_name) }
         ensures memory { IsOkUnless result memory_fault }
     {
@@ -80,6 +87,7 @@ impl<'a, R: Read> Input<'a, R> {
             reader,
             room,
             line,
+            second: protocol.is_second(),
             alloc,
         })
     }
@@ -90,18 +98,28 @@ impl<'a, R: Read> Input<'a, R> {
         reader: &'a mut Counted<R>,
         line: LineBuffer,
         room: Room,
+        protocol: Protocol,
     ) -> Input<'a, R>
         requires { room ≡ [] }
         ensures reader { result.reader.now ≡ reader.old }
         ensures room { result.room ≡ [] }
+        ensures spoken { result.second ≡ is_second protocol }
         ensures same_reference { result.reader.ghost_name ≡ reader.entry.ghost_name }
     {
         Input {
             reader,
             room,
             line,
+            second: protocol.is_second(),
             alloc,
         }
+    }
+
+    // Whether the second protocol is spoken.
+    pub(crate) fn is_second(&self) -> bool
+        ensures value { result ≡ self.now.second }
+    {
+        self.second
     }
 
     // The reader, given back.
@@ -121,6 +139,7 @@ impl<'a, R: Read> Input<'a, R> {
         ensures counted { CountsCall result self.old.reader.now self.new.reader.now }
         ensures falls { OnOk result (ahead self.new ≤ ahead self.old) }
         ensures bounded { StaysBounded self.old.reader.now.calls self.new.reader.now.calls }
+        ensures same_protocol { self.new.second ≡ self.old.second }
         ensures same_reference { self.new.reader.ghost_name ≡ self.old.reader.ghost_name }
         ensures line { self.new.line ≡ self.old.line }
     {
@@ -146,6 +165,7 @@ impl<'a, R: Read> Input<'a, R> {
         ensures counted { CountsCall result self.old.reader.now self.new.reader.now }
         ensures falls { OnOk result (ahead self.new < ahead self.old) }
         ensures bounded { StaysBounded self.old.reader.now.calls self.new.reader.now.calls }
+        ensures same_protocol { self.new.second ≡ self.old.second }
         ensures same_reference { self.new.reader.ghost_name ≡ self.old.reader.ghost_name }
         ensures line { self.new.line ≡ self.old.line }
     {
@@ -158,10 +178,11 @@ impl<'a, R: Read> Input<'a, R> {
     pub(crate) fn read_line(&mut self) -> Result<LineEnd, Stop>
         requires fresh { self.old.reader.now.failed ≡ 0 }
         ensures line { TakesLine R.remaining self.old result self.new }
-        ensures failed { result ≡ Err Stop.Failed → StopsShort R.remaining reading_of self.old self.new }
+        ensures failed { result ≡ Err Stop.Failed → StopsShort R.remaining (reading_of self.old.second) self.old self.new }
         ensures counted { CountsCall result self.old.reader.now self.new.reader.now }
         ensures falls { OnOk result (ahead self.new < ahead self.old) }
         ensures bounded { StaysBounded self.old.reader.now.calls self.new.reader.now.calls }
+        ensures same_protocol { self.new.second ≡ self.old.second }
         ensures same_reference { self.new.reader.ghost_name ≡ self.old.reader.ghost_name }
     {
         self.line.clear();
@@ -198,6 +219,7 @@ impl<'a, R: Read> Input<'a, R> {
         ensures counted { CountsCall result self.old.reader.now self.new.reader.now }
         ensures falls { OnOk result (ahead self.new ≤ ahead self.old) }
         ensures bounded { StaysBounded self.old.reader.now.calls self.new.reader.now.calls }
+        ensures same_protocol { self.new.second ≡ self.old.second }
         ensures same_reference { self.new.reader.ghost_name ≡ self.old.reader.ghost_name }
     {
         let mut bytes = Vec::new(self.alloc);
@@ -230,6 +252,7 @@ impl<'a, R: Read> Input<'a, R> {
         ensures falls { StaysAhead result (ahead self.old) (ahead self.new) }
         ensures last { NeverStopsForMemory result }
         ensures bounded { StaysBounded self.old.reader.now.calls self.new.reader.now.calls }
+        ensures same_protocol { self.new.second ≡ self.old.second }
         ensures same_reference { self.new.reader.ghost_name ≡ self.old.reader.ghost_name }
     {
         if size > MAX_BYTES as u64 {
@@ -249,15 +272,16 @@ impl<'a, R: Read> Input<'a, R> {
     // The command of the line that was read, with its payload.
     pub(crate) fn read_whole(&mut self) -> Next
         requires fresh { self.old.reader.now.failed ≡ 0 }
-        ensures value { Reads R.remaining (behind self.old.line) self.old result self.new }
-        ensures failed { result ≡ broken → StopsShort R.remaining (behind self.old.line) self.old self.new }
+        ensures value { Reads R.remaining (behind self.old.second self.old.line) self.old result self.new }
+        ensures failed { result ≡ broken → StopsShort R.remaining (behind self.old.second self.old.line) self.old self.new }
         ensures counted { CountsNext result self.old.reader.now self.new.reader.now }
         ensures falls { StaysAhead result (ahead self.old) (ahead self.new) }
         ensures last { NeverStopsForMemory result }
         ensures bounded { StaysBounded self.old.reader.now.calls self.new.reader.now.calls }
+        ensures same_protocol { self.new.second ≡ self.old.second }
         ensures same_reference { self.new.reader.ghost_name ≡ self.old.reader.ghost_name }
     {
-        match parse_line(self.line.as_slice()) {
+        match parse_line(self.second, self.line.as_slice()) {
             Parsed::Bad => Next::Refused(Fault::Plain(Code::Command)),
             Parsed::Ready(command) => Next::Given(command),
             Parsed::Worded(words) => match command_of(self.alloc, words) {

@@ -1,26 +1,30 @@
 //! What a line says, read without memory.
 ghost use Rattle.std.specs.Prelude.{◌≡◌, ◌≤◌, length};
 ghost use Rattle.org_wire.specs.Lines.{cut_at};
-ghost use Rattle.org_wire.specs.Stream.{add_line, at_line, complete_line, drop_line, edit_line, first_number, inherit_line, line_of, number_of, others_line, pin_line, pinned_line, profile_line, seen_of, text_line, unpin_line};
+ghost use Rattle.org_wire.specs.Stream.{add_line, at_line, complete_line, drop_line, edit_line, first_number, inherit_line, keywords_line, line_of, number_of, others_line, pin_line, pinned_line, profile_line, seen_of, text_line, unpin_line};
 ghost use Rattle.org_wire.specs.Parsed.{IsWithin, said};
 
 use crate::command::Command;
 use crate::parsed::{Parsed, Worded};
-use crate::views::parse_view;
+use crate::views::parse_question;
 use crate::words::{are_words, cut, first_number, is_utf8, moment, name, number, one_word, seen};
 use org_base::Profile;
 
-// What a line says. Words are separated by exactly one space, and none is empty.
+// What a line says, in the second protocol or in the first. Words are separated by exactly one space,
+// and none is empty.
 #[tactic(auto, unfolding(crate::specs::Stream::line_of))]
-pub(crate) fn parse_line(line: &[u8]) -> Parsed<'_>
-    ensures value { line_of line.now ≡ said result }
+pub(crate) fn parse_line(second: bool, line: &[u8]) -> Parsed<'_>
+    ensures value { line_of second line.now ≡ said result }
     ensures within { IsWithin (length line.now) result }
 {
     if line == b"inherit".as_slice() {
         return Parsed::Worded(Worded::Inherit(None));
     }
+    if line == b"version".as_slice() && second {
+        return Parsed::Ready(Command::Version);
+    }
     let Some((word, rest)) = cut(line, b' ') else {
-        return parse_view(None, line);
+        return parse_question(second, None, line);
     };
     if word == b"edit".as_slice() {
         return parse_edit(rest);
@@ -43,13 +47,13 @@ pub(crate) fn parse_line(line: &[u8]) -> Parsed<'_>
     if word == b"add".as_slice() {
         return parse_add(rest);
     }
-    parse_others(line, word, rest)
+    parse_others(second, line, word, rest)
 }
 
 // What a line says whose first word is none of those before: of profiles and pins, or a view.
-fn parse_others<'a>(line: &'a [u8], word: &[u8], rest: &'a [u8]) -> Parsed<'a>
+fn parse_others<'a>(second: bool, line: &'a [u8], word: &[u8], rest: &'a [u8]) -> Parsed<'a>
     requires shorter { length rest.now ≤ length line.now }
-    ensures value { others_line line.now (record { before = word.now; after = rest.now }) ≡ said result }
+    ensures value { others_line second line.now (record { before = word.now; after = rest.now }) ≡ said result }
     ensures within { IsWithin (length line.now) result }
 {
     if word == b"profile".as_slice() {
@@ -62,18 +66,21 @@ fn parse_others<'a>(line: &'a [u8], word: &[u8], rest: &'a [u8]) -> Parsed<'a>
         return parse_unpin(rest);
     }
     if word == b"pinned".as_slice() {
-        return parse_pinned(rest);
+        return parse_pinned(second, rest);
     }
-    parse_view(None, line)
+    if word == b"keywords".as_slice() && second {
+        return parse_keywords(rest);
+    }
+    parse_question(second, None, line)
 }
 
 // What stands behind `pinned`.
-fn parse_pinned(rest: &[u8]) -> Parsed<'_>
-    ensures value { pinned_line (first_number (cut_at 32 rest.now)) ≡ said result }
+fn parse_pinned(second: bool, rest: &[u8]) -> Parsed<'_>
+    ensures value { pinned_line second (first_number (cut_at 32 rest.now)) ≡ said result }
     ensures within { IsWithin (length rest.now) result }
 {
     match first_number(rest) {
-        Some((session, line)) => parse_view(Some(session), line),
+        Some((session, line)) => parse_question(second, Some(session), line),
         None => Parsed::Bad,
     }
 }
@@ -179,6 +186,17 @@ fn parse_text(rest: &[u8]) -> Parsed<'_>
 {
     match name(rest) {
         Some(name) => Parsed::Worded(Worded::Text(name)),
+        None => Parsed::Bad,
+    }
+}
+
+// What stands behind `keywords`.
+fn parse_keywords(rest: &[u8]) -> Parsed<'_>
+    ensures value { keywords_line rest.now ≡ said result }
+    ensures within { IsWithin (length rest.now) result }
+{
+    match name(rest) {
+        Some(name) => Parsed::Worded(Worded::Keywords(name)),
         None => Parsed::Bad,
     }
 }

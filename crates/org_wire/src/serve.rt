@@ -1,23 +1,23 @@
 //! The engine's answers as replies, and its background steps.
-ghost use Rattle.std.specs.Prelude.{◌≡◌};
+ghost use Rattle.std.specs.Prelude.{◌≡◌, Bool};
 ghost use Rattle.std.specs.Option.{option_copied};
 ghost use Rattle.org_engine.specs.Questions.{IsShort};
 ghost use Rattle.org_engine.specs.Examined.{MayExamine};
 ghost use Rattle.org_engine.specs.Marks.{Looks, Reads, pending_asked};
 ghost use Rattle.org_wire.specs.Run.{moment_command};
-ghost use Rattle.org_wire.specs.Turns.{CountsFor, Serves, ServesSurely, ServesView, told, told_text};
+ghost use Rattle.org_wire.specs.Turns.{CountsFor, Serves, ServesSurely, ServesView, told, told_change, told_lines, told_text};
 ghost use Rattle.org_wire.specs.declared.command.Command.TheVariants.{Complete, Edit};
 
-use crate::command::{Command, Seen};
-use crate::reply::Reply;
+use crate::command::{Command, Request, Seen};
+use crate::reply::{Replaced, Reply};
 use org_base::{Bytes, Code, Fault, Name};
 use org_cal::Moment;
-use org_engine::{Engine, View};
+use org_engine::{Completion, Engine, View};
 use org_text::Text;
 
-// Carries a command out.
-pub(crate) fn serve<T: Text>(engine: &mut Engine<T>, command: Command) -> Reply
-    ensures value { Serves command engine.old result engine.new }
+// Carries a command out, and answers in the second protocol or in the first.
+pub(crate) fn serve<T: Text>(engine: &mut Engine<T>, command: Command, second: bool) -> Reply
+    ensures value { Serves second command engine.old result engine.new }
     ensures counts { CountsFor command engine.old engine.new }
 {
     match command {
@@ -25,7 +25,7 @@ pub(crate) fn serve<T: Text>(engine: &mut Engine<T>, command: Command) -> Reply
         Command::Drop(name) => told(engine.drop_file(name.as_str())),
         Command::Edit(seen, at, del, ins) => edit(engine, &seen, at, del, ins.as_slice()),
         Command::Complete(seen, line, keyword) => {
-            complete(engine, &seen, line, keyword.as_str())
+            complete(engine, &seen, line, keyword.as_str(), second)
         }
         Command::Inherit(names) => Reply::Serial(engine.set_inherit(names)),
         Command::At(moment) => set_moment(engine, moment),
@@ -33,16 +33,18 @@ pub(crate) fn serve<T: Text>(engine: &mut Engine<T>, command: Command) -> Reply
         Command::Pin(session) => told(engine.pin(session)),
         Command::Unpin(session) => told(engine.unpin(session)),
         Command::Text(name) => told_text(engine.text_of(name.as_str())),
-        Command::Todo(session, file, words) => {
-            ask(engine, View::Todo(name_in(&file), &words), session)
+        Command::Keywords(name) => told_lines(engine.keywords_of(name.as_str())),
+        Command::Version => told_lines(engine.version()),
+        Command::Todo(request, file, words) => {
+            ask(engine, View::Todo(name_in(&file), &words), request)
         }
-        Command::Match(session, file, text) => {
-            ask(engine, View::Match(name_in(&file), text.as_str()), session)
+        Command::Match(request, file, text) => {
+            ask(engine, View::Match(name_in(&file), text.as_str()), request)
         }
-        Command::Agenda(session, date, days) => {
-            ask(engine, View::Agenda(date.as_str(), days), session)
+        Command::Agenda(request, date, days) => {
+            ask(engine, View::Agenda(date.as_str(), days), request)
         }
-        Command::Clock(session, text) => ask(engine, View::Clock(text.as_str()), session),
+        Command::Clock(request, text) => ask(engine, View::Clock(text.as_str()), request),
     }
 }
 
@@ -76,29 +78,72 @@ fn told_text(outcome: Result<String, Fault>) -> Reply
     }
 }
 
+// The reply to a question for lines.
+fn told_lines(outcome: Result<Bytes, Fault>) -> Reply
+    ensures value { result ≡ told_lines outcome }
+{
+    match outcome {
+        Ok(lines) => Reply::Shown(lines),
+        Err(fault) => Reply::Refused(fault),
+    }
+}
+
+// The reply to a completion, with what it replaced.
+fn told_change(outcome: Result<Completion, Fault>) -> Reply
+    ensures value { result ≡ told_change outcome }
+{
+    match outcome {
+        Ok(done) => {
+            let part = Replaced {
+                at: u64::from(done.at),
+                del: u64::from(done.del),
+                ins: Bytes::new(done.ins.into_bytes()),
+            };
+            Reply::Changed(done.serial, part)
+        }
+        Err(fault) => Reply::Refused(fault),
+    }
+}
+
 // Replaces bytes of the text that a session saw.
 fn edit<T: Text>(engine: &mut Engine<T>, seen: &Seen, at: u64, del: u64, ins: &[u8]) -> Reply
-    ensures value { Serves (Edit seen.now at del ins.now) engine.old result engine.new }
+    ensures value { (second : Bool) → Serves second (Edit seen.now at del ins.now) engine.old result engine.new }
     ensures counts { CountsFor (Edit seen.now at del ins.now) engine.old engine.new }
 {
     told(engine.edit(seen.session, seen.name.as_str(), seen.serial, at, del, ins))
 }
 
-// Completes a heading of the text that a session saw.
-fn complete<T: Text>(engine: &mut Engine<T>, seen: &Seen, line: u64, keyword: &str) -> Reply
-    ensures value { Serves (Complete seen.now line keyword.now) engine.old result engine.new }
+// Completes a heading of the text that a session saw; in the second protocol the answer says what that replaced.
+fn complete<T: Text>(
+    engine: &mut Engine<T>,
+    seen: &Seen,
+    line: u64,
+    keyword: &str,
+    second: bool,
+) -> Reply
+    ensures value { Serves second (Complete seen.now line keyword.now) engine.old result engine.new }
     ensures counts { CountsFor (Complete seen.now line keyword.now) engine.old engine.new }
 {
-    told(engine.complete(seen.session, seen.name.as_str(), seen.serial, line, keyword))
+    let name = seen.name.as_str();
+    if second {
+        return told_change(engine.complete_and_tell(
+            seen.session,
+            name,
+            seen.serial,
+            line,
+            keyword,
+        ));
+    }
+    told(engine.complete(seen.session, name, seen.serial, line, keyword))
 }
 
 // Asks for a view.
-fn ask<T: Text>(engine: &mut Engine<T>, view: View<'_>, session: Option<u64>) -> Reply
+fn ask<T: Text>(engine: &mut Engine<T>, view: View<'_>, request: Request) -> Reply
     requires short { IsShort view }
-    ensures value { ServesView view.entry session engine.old result engine.new }
-    ensures counts { Looks (pending_asked session engine.old) (MayExamine view.entry) engine.old engine.new }
+    ensures value { ServesView view.entry request engine.old result engine.new }
+    ensures counts { Looks (pending_asked request.session engine.old) (MayExamine view.entry) engine.old engine.new }
 {
-    told_text(engine.query(view, session))
+    told_text(engine.query(view, request.form, request.session))
 }
 
 // Asks for views at another moment from now on.

@@ -1,10 +1,12 @@
 //! The program's arguments.
 ghost use Rattle.std.specs.Prelude.{◌≡◌, ◌==◌, if◌then◌else◌};
 ghost use Rattle.org_base.specs.declared.profile.Profile.TheVariants.{One, Two};
+ghost use Rattle.org_wire.specs.declared.protocol.Protocol.TheVariants.{First, Second};
 
 use clap::{Arg, ArgAction, Command, value_parser};
 use org_base::Profile;
 use org_cal::Moment;
+use org_wire::Protocol;
 use std::alloc::{AllocError, Global};
 
 /// The arguments that the program takes.
@@ -29,6 +31,13 @@ pub fn command<'a>(alloc: Global) -> Result<Command<'a>, AllocError> {
         .value_parser(value_parser!(u64).range(1..=2))
         .default_value("1")
         .action(ArgAction::Set);
+    let protocol = Arg::new(alloc, "protocol")
+        .long("protocol")
+        .value_name("N")
+        .help("What is spoken on the stream, 1 or 2; editors speak 2, which says where rows stand")
+        .value_parser(value_parser!(u64).range(1..=2))
+        .default_value("1")
+        .action(ArgAction::Set);
     let files = Arg::new(alloc, "FILE")
         .help("Org files, added under these names before the first command")
         .num_args(0..)
@@ -40,6 +49,7 @@ pub fn command<'a>(alloc: Global) -> Result<Command<'a>, AllocError> {
         .arg(at)?
         .arg(idle)?
         .arg(profile)?
+        .arg(protocol)?
         .arg(files)
 }
 
@@ -51,6 +61,17 @@ pub fn profile(number: u64) -> Profile
         Profile::Two
     } else {
         Profile::One
+    }
+}
+
+/// The protocol of a number: the second of 2, and else the first.
+pub fn protocol(number: u64) -> Protocol
+    ensures value { result ≡ (if number == 2 then Second else First) }
+{
+    if number == 2 {
+        Protocol::Second
+    } else {
+        Protocol::First
     }
 }
 

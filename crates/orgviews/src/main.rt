@@ -6,13 +6,13 @@ mod exit;
 mod load;
 mod new_engine;
 
-use crate::arguments::{command, moment, profile};
+use crate::arguments::{command, moment, profile, protocol};
 use crate::exit::{BAD_ARGUMENTS, BAD_FILE, exit_of};
 use crate::load::load;
 use crate::new_engine::new_engine;
 use org_engine::Engine;
 use org_pieces::Pieces;
-use org_wire::{Counted, End, run};
+use org_wire::{Counted, End, Options, run};
 use std::io::Input;
 use std::process::ExitCode;
 use std::rt::Files;
@@ -54,8 +54,11 @@ fn start<R: AllocGlobal + Files + Input + Print + Eprint>(rt: &R, words: &[Strin
             }
         }
     }
-    let idle = matches.get_one::<u64>("idle").unwrap_or(0);
-    serve(rt, &mut engine, idle)
+    let options = Options {
+        idle: matches.get_one::<u64>("idle").unwrap_or(0),
+        protocol: protocol(matches.get_one::<u64>("protocol").unwrap_or(1)),
+    };
+    serve(rt, &mut engine, options)
 }
 
 // Loads a file, or says why it can't be loaded.
@@ -78,11 +81,11 @@ fn is_loaded<R: AllocGlobal + Files + Eprint>(
 fn serve<R: AllocGlobal + Input + Print + Eprint>(
     rt: &R,
     engine: &mut Engine<Pieces>,
-    idle: u64,
+    options: Options,
 ) -> u8 {
     let mut reader = Counted::new(rt.reader());
     let mut writer = Counted::new(io::writer(rt));
-    let end = run(rt.alloc(), &mut reader, &mut writer, engine, idle);
+    let end = run(rt.alloc(), &mut reader, &mut writer, engine, options);
     if let End::Stopped(code) = end {
         let name = code.name();
         let _ = eprintln!(rt; "orgviews: {name}");

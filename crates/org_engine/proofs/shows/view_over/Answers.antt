@@ -11,3 +11,10 @@ returns-in_err-inherits-clause-few g c = on_err c.from_residual.result (none_exa
 pub text-requires-clause-same : goal.text-requires-clause-same
 text-requires-clause-same g c = λ named.
     zip_all c.args.world.now.world c.args.outlines.now c.in_ok-inherits.inherits c.requires.read (c.in_ok-inherits.ensures.value ∙ ap (λ n. scopes_named n (scopes_of c.args.world.now.world)) (c.file.ensures.value ∙ named))
+
+pub lines-requires-clause-same : goal.lines-requires-clause-same
+lines-requires-clause-same g c = λ named.
+    zip_all c.args.world.now.world c.args.outlines.now c.in_ok-inherits.inherits c.requires.read (c.in_ok-inherits.ensures.value ∙ ap (λ n. scopes_named n (scopes_of c.args.world.now.world)) (c.file.ensures.value ∙ named))
+
+pub returns-in_err-places_text-in-Places-clause-few : goal.returns-in_err-places_text-in-Places-clause-few
+returns-in_err-places_text-in-Places-clause-few g c = on_err c.from_residual-in_err-places_text-in-Places.result c.in_ok-lines-in-Places.ensures.few
