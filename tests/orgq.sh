@@ -4,9 +4,12 @@
 # arguments, is asked of both programs: the files that it adds are written into a folder, and what `orgq` prints of each
 # must be the view. A case of tests/orgq is NAME.args, the arguments, one a line, NAME.stdout, what has to be written, and where they are
 # there NAME.status, the exit status (0 else), NAME.stderr, what has to stand on standard error, NAME.env, settings of the
-# environment, one a line, and NAME.sh, which is run in the folder first; the folder has the files of tests/orgq/files.
-# Objects are read back by python3 where there is one. Each option of --help has to stand in each completion file. The last
-# line counts.
+# environment, one a line, and NAME.sh, which is run in the folder first; the folder has the files of tests/orgq/files. Where
+# NAME.terminal is there the program is run on a terminal, by `script`, and what it writes to either stands in NAME.stdout.
+# Objects are read back by python3 where there is one. Then each control character in all that a file, a name and an argument
+# hold: none is written in any form but into a pipe, as in the file. Each refused growth of memory gives the answer all the
+# same or status 4. Each option of --help has to stand in each completion file; what completes and orgq-notify are run. The
+# last line counts.
 here=$(cd "$(dirname "$0")" && pwd)
 passed=0
 failed=0
@@ -21,7 +24,7 @@ orgq=$(cd "$(dirname "$1")" && pwd)/$(basename "$1")
 orgviews=$(cd "$(dirname "$2")" && pwd)/$(basename "$2")
 room=$(mktemp -d) || exit 2
 trap 'chmod -R u+rwx "$room"; rm -rf "$room"' EXIT
-unset ORGQ_FILES NO_COLOR
+unset ORGQ_FILES NO_COLOR TZ TZDIR
 HOME=$room/home
 XDG_CONFIG_HOME=$room/config
 export HOME XDG_CONFIG_HOME
@@ -141,9 +144,25 @@ for expected in "$here"/rows/*.stdout; do
 done
 echo "orgq: $streams streams of adds and views"
 
+# Runs orgq on a terminal of its own; the carriage return that the terminal puts before a line feed is taken away.
+on_terminal() {
+    {
+        printf '%s' "exec '$orgq'"
+        for word in "$@"; do printf " '%s'" "$word"; done
+    } > "$room/typed"
+    script -q -e -c "sh '$room/typed'" /dev/null < /dev/null > "$room/screen"
+    shown=$?
+    LC_ALL=C sed 's/\r$//' "$room/screen"
+    return "$shown"
+}
+
 for expected in "$here"/orgq/*.stdout; do
     name=$(basename "$expected" .stdout)
     given=$here/orgq/$name
+    if [ -f "$given.terminal" ] && ! command -v script > /dev/null 2>&1; then
+        echo "orgq: $name is left out: there is no script"
+        continue
+    fi
     folder=$room/case
     [ ! -d "$folder" ] || chmod -R u+rwx "$folder"
     rm -rf "$folder" "$room/home" "$room/config"
@@ -159,7 +178,11 @@ for expected in "$here"/orgq/*.stdout; do
         if [ -f "$given.env" ]; then
             while IFS= read -r setting; do export "$setting"; done < "$given.env"
         fi
-        "$orgq" "$@"
+        if [ -f "$given.terminal" ]; then
+            on_terminal "$@"
+        else
+            "$orgq" "$@"
+        fi
     ) > "$room/out" 2> "$room/err"
     got=$?
     if [ "$got" -ne "$status" ]; then
@@ -197,6 +220,143 @@ for zone in UTC Asia/Tokyo America/New_York; do
     TZ=$zone "$orgq" -f home.org agenda > "$room/out" 2> "$room/err"
     [ "$(head -c 10 "$room/out")" = "$(TZ=$zone date +%F)" ] && passed=$((passed + 1)) || fail "today in $zone: $(head -n 1 "$room/out")"
 done
+
+# Zones in a folder of one's own.
+if [ -f /usr/share/zoneinfo/Asia/Tokyo ]; then
+    mkdir -p "$room/zones/My"
+    cp /usr/share/zoneinfo/Asia/Tokyo "$room/zones/My/Town"
+    TZDIR=$room/zones TZ=My/Town "$orgq" -f home.org agenda > "$room/out" 2> "$room/err"
+    [ "$(head -c 10 "$room/out")" = "$(TZ=Asia/Tokyo date +%F)" ] && passed=$((passed + 1)) || fail "today by TZDIR: $(cat "$room/err")"
+fi
+
+# Whether no control character stands in a text but line feeds and, where the second argument is there, colours of ours.
+is_clean() {
+    LC_ALL=C od -An -v -tu1 "$1" | LC_ALL=C tr -s ' ' '\n' | awk -v colors="$2" '
+        $1 == "" { next }
+        colors != "" && escape && $1 == 91 { escape = 0; number = 1; next }
+        escape { exit 1 }
+        number && $1 == 109 { number = 0; next }
+        number && ($1 == 48 || $1 == 49 || $1 == 51) { next }
+        number { exit 1 }
+        colors != "" && $1 == 27 { escape = 1; next }
+        ($1 < 32 && $1 != 10) || $1 == 127 || (last == 194 && $1 >= 128 && $1 < 160) { exit 1 }
+        { last = $1 }
+    '
+}
+
+# A character by its number, below 256, as UTF-8.
+character() {
+    if [ "$1" -lt 128 ]; then
+        printf "\\$(printf %03o "$1")"
+    else
+        printf "\\302\\$(printf %03o "$1")"
+    fi
+}
+
+# Each control character, in a folder of its own: as category, in a title and where a tag and a keyword stand, in a property,
+# in a name, and as argument.
+controls=$room/controls
+mkdir -p "$controls"
+cd "$controls" || exit 2
+number=1
+count=0
+while [ "$number" -lt 160 ]; do
+    if [ "$number" -ne 10 ] && { [ "$number" -lt 32 ] || [ "$number" -ge 127 ]; }; then
+        count=$((count + 1))
+        of=$(character "$number"; echo .)
+        of=${of%.}
+        {
+            printf '#+CATEGORY: c%sc\n#+TODO: TODO K%s | DONE\n#+FILETAGS: :f%s:\n' "$of" "$of" "$of"
+            printf '* TODO [#A] a%sb%s c :t%st: <2024-02-28 Wed> :u:\nDEADLINE: <2024-03-01 Fri>\n' "$of" "$of" "$of"
+            printf ':PROPERTIES:\n:CATEGORY: p%sp\n:area: q%sq\n:END:\nCLOCK: [2024-02-27 Tue 09:10]--[2024-02-27 Tue 10:40]\n' "$of" "$of"
+            printf '* K%s k%sk :v%sv:\n' "$of" "$of" "$of"
+        } > "$number.org"
+        printf '* TODO named\n' > "n${of}n.org"
+        for form in --json --csv --color=always "-n --color=always"; do
+            for view in "agenda" "todo" "todo K$of" "match LEVEL>0" "clock" "next"; do
+                # shellcheck disable=SC2086
+                "$orgq" --at "2024-02-28 10:30" $form --inherit area -f "$number.org" -f "n${of}n.org" ${view%% *} ${view#"${view%% *}"} > "$room/out" 2> "$room/err"
+                [ $? -eq 3 ] || fail "control character $number, $form $view: $(cat "$room/err")"
+                case $form in *color*) is_clean "$room/out" colors ;; *) is_clean "$room/out" "" ;; esac || fail "control character $number stands in $form $view"
+                is_clean "$room/err" "" || fail "control character $number stands in what $form $view says"
+            done
+        done
+        for words in "match -- a${of}(" "clock x${of}" "agenda x${of}" "--color x${of}" "--at x${of}" "-d x${of}" "x${of}" "--x${of}" "--profile x${of}" "clock --step x${of}"; do
+            # shellcheck disable=SC2086
+            (IFS=' '; "$orgq" --at "2024-02-28 10:30" -f 1.org $words) > "$room/out" 2> "$room/err"
+            [ $? -eq 2 ] && [ -s "$room/err" ] && is_clean "$room/err" "" || fail "control character $number in the arguments $words"
+        done
+    fi
+    number=$((number + 1))
+done
+[ "$count" -eq 63 ] && passed=$((passed + 1)) || fail "$count control characters, not 63"
+echo "orgq: $count control characters in categories, titles, tags, keywords, properties, names and arguments"
+cd "$here/orgq/files" || exit 2
+
+# Each growth of memory refused once: the answer is given all the same, or nothing of it with status 4.
+if shim=$(sh "$here/faults/build.sh" "$room" 2> /dev/null); then
+    growth=1
+    refused=0
+    met=1
+    "$orgq" --at "2024-02-28 10:30" -f home.org -f work.org todo > "$room/wanted"
+    while [ "$met" -gt 0 ] && [ "$growth" -lt 20000 ]; do
+        rm -f "$room/counts"
+        REFUSE=$growth FAULTS=$room/counts LD_PRELOAD=$shim "$orgq" --at "2024-02-28 10:30" -f home.org -f work.org todo > "$room/out" 2> "$room/err"
+        status=$?
+        met=0
+        [ ! -s "$room/counts" ] || read -r growths met rest < "$room/counts"
+        if [ "$status" -eq 4 ] && [ ! -s "$room/out" ] && [ -s "$room/err" ]; then
+            refused=$((refused + 1))
+        elif [ "$status" -ne 0 ] || ! cmp -s "$room/out" "$room/wanted"; then
+            fail "growth $growth refused: status $status: $(cat "$room/err")"
+        fi
+        growth=$((growth + 1))
+    done
+    [ "$refused" -gt 0 ] && passed=$((passed + 1)) || fail "no growth of memory was refused"
+    echo "orgq: $refused refused growths of memory with status 4"
+else
+    echo "orgq: refused growths of memory are left out: the shim of tests/faults can't be built here"
+fi
+
+# Reminders: a category that looks like an option, a notifier that reads what it is given, one that fails, and refusals.
+mkdir "$room/bin"
+ln -s "$orgq" "$room/bin/orgq"
+cat > "$room/bin/notifier" <<'END'
+#!/bin/sh
+cat > /dev/null
+printf '%s|%s|%s\n' "$#" "$1" "$2" >> "$TOLD"
+[ "$2" != "2024-2-28 fails" ]
+END
+chmod +x "$room/bin/notifier"
+printf '#+CATEGORY: --icon=x\n* a <2024-02-28 Wed 10:35>\n* b <2024-02-28 Wed 10:36>\n' > "$room/soon.org"
+printf '#+CATEGORY: fails\n* c <2024-02-28 Wed 10:37>\n' > "$room/fails.org"
+notify() {
+    : > "$room/told"
+    PATH=$room/bin:$PATH ORGQ_NOTIFY=notifier TOLD=$room/told sh "$here/../contrib/orgq-notify" "$@" > "$room/out" 2> "$room/err"
+}
+notify 10 --at "2024-02-28 10:30" -f "$room/soon.org"
+[ $? -eq 0 ] && [ "$(cat "$room/told")" = "2|10:35 a <2024-02-28 Wed 10:35>|2024-2-28 --icon=x
+2|10:36 b <2024-02-28 Wed 10:36>|2024-2-28 --icon=x" ] && passed=$((passed + 1)) || fail "orgq-notify: $(cat "$room/told" "$room/err")"
+notify 10 --at "2024-02-28 10:40" -f "$room/soon.org"
+[ $? -eq 0 ] && [ ! -s "$room/told" ] && passed=$((passed + 1)) || fail "orgq-notify where nothing begins"
+notify 10 --at nonsense -f "$room/soon.org"
+[ $? -eq 2 ] && [ ! -s "$room/told" ] && passed=$((passed + 1)) || fail "orgq-notify with a bad moment"
+notify 10 --at "2024-02-28 10:30" -f "$room/soon.org" -f nowhere.org
+[ $? -eq 3 ] && [ "$(wc -l < "$room/told")" -eq 2 ] && passed=$((passed + 1)) || fail "orgq-notify where a file is left out"
+notify 10 --at "2024-02-28 10:30" -f "$room/fails.org" -f "$room/soon.org"
+[ $? -eq 1 ] && [ "$(wc -l < "$room/told")" -eq 3 ] && passed=$((passed + 1)) || fail "orgq-notify where a notifier fails"
+
+# What bash completes: names with spaces, folders, and no command of a word that is an option's value.
+if command -v bash > /dev/null 2>&1; then
+    completed() {
+        bash -c '. "$0"; shift; COMP_WORDS=("$@"); COMP_CWORD=$(($# - 1)); _orgq; printf "%s\n" "${COMPREPLY[@]}"' \
+            "$here/../contrib/completions/orgq.bash" "" "$@"
+    }
+    [ "$(completed orgq -f my)" = "my notes.org" ] && passed=$((passed + 1)) || fail "bash completes a name with a space: $(completed orgq -f my)"
+    [ "$(completed orgq my)" = "my notes.org" ] && passed=$((passed + 1)) || fail "bash completes a bare name: $(completed orgq my)"
+    [ "$(completed orgq keyw)" = "keywords" ] && passed=$((passed + 1)) || fail "bash completes a folder: $(completed orgq keyw)"
+    [ "$(completed orgq --keywords todo ag)" = "agenda" ] && passed=$((passed + 1)) || fail "bash takes an option's value for a command: $(completed orgq --keywords todo ag)"
+fi
 
 # Each option of --help stands in each completion file.
 for command in "" agenda todo match clock next; do

@@ -2,27 +2,34 @@
 _orgq() {
     local word=${COMP_WORDS[COMP_CWORD]} before=${COMP_WORDS[COMP_CWORD-1]}
     local options="--file --at --keywords --inherit --profile --places --json --csv --color --quiet --help"
-    local part command=""
+    local part command="" valued=""
     for part in "${COMP_WORDS[@]:1:COMP_CWORD-1}"; do
-        case $part in agenda|todo|match|clock|next) command=$part ;; esac
+        if [ -n "$valued" ]; then
+            valued=""
+            continue
+        fi
+        case $part in
+            -f|--file|--at|--keywords|--inherit|--profile|--color|-d|--days|--level|--step|--match|--within) valued=1 ;;
+            agenda|todo|match|clock|next) [ -n "$command" ] || command=$part ;;
+        esac
     done
     case $before in
-        -f|--file) COMPREPLY=($(compgen -f -- "$word")); return ;;
+        -f|--file) mapfile -t COMPREPLY < <(compgen -f -- "$word"); return ;;
         --color) COMPREPLY=($(compgen -W "auto always never" -- "$word")); return ;;
         --profile) COMPREPLY=($(compgen -W "1 2" -- "$word")); return ;;
         --step) COMPREPLY=($(compgen -W "day week" -- "$word")); return ;;
-        --at|--keywords|--inherit|--days|--level|--within|-d) return ;;
+        --at|--keywords|--inherit|--days|--level|--within|--match|-d) return ;;
     esac
     case $command in
         agenda) options="$options --days" ;;
         clock) options="$options --level --step --effort --match" ;;
         next) options="$options --days --within" ;;
-        "") options="$options agenda todo match clock next" ;;
+        "") options="$options --days agenda todo match clock next" ;;
     esac
     if [ "$command" = clock ] && [ "${word#-}" = "$word" ]; then
         options="today yesterday thisweek lastweek thismonth lastmonth thisyear lastyear"
     fi
     COMPREPLY=($(compgen -W "$options" -- "$word"))
-    [ ${#COMPREPLY[@]} -gt 0 ] || COMPREPLY=($(compgen -f -X '!*.org' -- "$word"))
+    [ ${#COMPREPLY[@]} -gt 0 ] || mapfile -t COMPREPLY < <(compgen -f -X '!*.org' -- "$word"; compgen -d -- "$word")
 }
 complete -o filenames -F _orgq orgq

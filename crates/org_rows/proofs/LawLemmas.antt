@@ -1,6 +1,6 @@
 -- What comes next lies ahead, comes once, and is shown on its day.
 use Rattle.std.proofs.Common.{◌≡◌, ◌∙◌, ℕ, zero, suc, ◌+◌, ◌*◌, ◌<◌, ◌≤◌, Bool, true, false, cond, inl, inr, ◌⊎◌, List, [], ◌∷◌, ◌++◌, length, refl, sym, ap, subst, arith, not}
-use Rattle.std.specs.Prelude.{Some, ◌&&◌, ◌||◌, nat_lt, slice_get, fold}
+use Rattle.std.specs.Prelude.{Some, ◌&&◌, ◌||◌, ◌==◌, nat_lt, slice_get, fold}
 use Rattle.std.specs.List.{All, list_any, range_with_len}
 use Rattle.std.proofs.lemmas.Bool.{and_parts}
 use Rattle.std.proofs.lemmas.Bool.Decides.{nat_tests}
@@ -13,7 +13,7 @@ use Rattle.org_rows.specs.Laws.{AgendasShowNext, IsRowOf, LiesAhead, NextLiesAhe
 use Rattle.org_rows.specs.Next.{is_ahead, is_of, is_of_row, next_rows, starts_by, with_day, with_row}
 use Rattle.org_rows.specs.declared.next.Upcoming.{Upcoming}
 
-abbrev Each : {X : Type 0} → (X → Type 0) → List X → Type 0
+abbrev pub Each : {X : Type 0} → (X → Type 0) → List X → Type 0
 Each {X} P xs = (k : ℕ) (x : X) → slice_get xs k ≡ Some x → P x
 
 snoc_get : {X : Type 0} (xs : List X) (u : X) (j : ℕ) (b : X) → slice_get (xs ++ u ∷ []) j ≡ Some b → (slice_get xs j ≡ Some b) ⊎ ((j ≡ length xs) × (u ≡ b))
@@ -27,7 +27,7 @@ within [] j b e = absurd cc
 within (x ∷ xs) zero b e = omega arith
 within (x ∷ xs) (suc j) b e = let h = within xs j b e in omega (arith, h)
 
-each_snoc : {X : Type 0} (P : X → Type 0) (xs : List X) (u : X) → Each P xs → P u → Each P (xs ++ u ∷ [])
+pub each_snoc : {X : Type 0} (P : X → Type 0) (xs : List X) (u : X) → Each P xs → P u → Each P (xs ++ u ∷ [])
 each_snoc P xs u each own k x e = elim (snoc_get xs u k x e) [ inl h ↦ each k x h | inr h ↦ subst P h.1 own ]
 
 each_all : {X : Type 0} (P : X → Type 0) (xs : List X) → Each P xs → All P xs
@@ -60,7 +60,7 @@ once_snoc next u once none i j a b lt at bt = elim (snoc_get next u j b bt) [
   ]
 ]
 
-not_true : (b : Bool) → not b ≡ true → b ≡ false
+pub not_true : (b : Bool) → not b ≡ true → b ≡ false
 not_true true e = absurd cc
 not_true false e = refl
 
@@ -101,26 +101,37 @@ module _ (now : Moment) (agenda : AgendaView) where
   all_kept : Kept (next_rows now agenda)
   all_kept = days_kept agenda.first agenda.count [] (omega arith) (record { good = λ k x e. absurd cc; once = λ i j a b lt at bt. absurd cc })
 
-  starts : (u : Upcoming) (start : ℕ) → now.minute < MINUTES_PER_DAY → now.day ≤ u.day → is_ahead now u.day u.row ≡ true → u.row.start ≡ Some start →
-      MINUTES_PER_DAY * now.day + now.minute ≤ MINUTES_PER_DAY * u.day + start
-  starts u start small low ahead is = by (nat_lt now.day u.day) refl
-    where
-      test : (nat_lt now.day u.day || starts_by now.minute u.row.start) ≡ true
-      test = (and_parts (not (reminds u.row.kind)) (nat_lt now.day u.day || starts_by now.minute u.row.start) ahead).1
+  test : (u : Upcoming) → is_ahead now u.day u.row ≡ true → (nat_lt now.day u.day || ((now.day == u.day) && starts_by now.minute u.row.start)) ≡ true
+  test u ahead = (and_parts (not (reminds u.row.kind)) (nat_lt now.day u.day || ((now.day == u.day) && starts_by now.minute u.row.start)) ahead).1
 
-      by : (b : Bool) → nat_lt now.day u.day ≡ b → MINUTES_PER_DAY * now.day + now.minute ≤ MINUTES_PER_DAY * u.day + start
-      by true e = let later : now.day < u.day = grind (arith, nat_tests, e) in omega (arith, later, small)
-      by false e =
-          let own : starts_by now.minute (Some start) ≡ true = subst (λ o. starts_by now.minute o ≡ true) is (ap (λ b. b || starts_by now.minute u.row.start) (sym e) ∙ test) in
-          let not_before : now.minute ≤ start = grind (arith, nat_tests, own) in
-          omega (arith, not_before, low)
+  not_before : (u : Upcoming) → is_ahead now u.day u.row ≡ true → now.day ≤ u.day
+  not_before u ahead = by (nat_lt now.day u.day) refl (test u ahead)
+    where
+      by : (b : Bool) → nat_lt now.day u.day ≡ b → (b || ((now.day == u.day) && starts_by now.minute u.row.start)) ≡ true → now.day ≤ u.day
+      by true e on = let later : now.day < u.day = grind (arith, nat_tests, e) in omega (arith, later)
+      by false e on =
+          let same = (and_parts (now.day == u.day) (starts_by now.minute u.row.start) on).0 in
+          let is : now.day ≡ u.day = grind (arith, nat_tests, same) in
+          omega (arith, is)
+
+  starts : (u : Upcoming) (start : ℕ) → now.minute < MINUTES_PER_DAY → is_ahead now u.day u.row ≡ true → u.row.start ≡ Some start → MINUTES_PER_DAY * now.day + now.minute ≤ MINUTES_PER_DAY * u.day + start
+  starts u start small ahead is = by (nat_lt now.day u.day) refl (test u ahead)
+    where
+      by : (b : Bool) → nat_lt now.day u.day ≡ b → (b || ((now.day == u.day) && starts_by now.minute u.row.start)) ≡ true → MINUTES_PER_DAY * now.day + now.minute ≤ MINUTES_PER_DAY * u.day + start
+      by true e on = let later : now.day < u.day = grind (arith, nat_tests, e) in omega (arith, later, small)
+      by false e on =
+          let parts = and_parts (now.day == u.day) (starts_by now.minute u.row.start) on in
+          let own : starts_by now.minute (Some start) ≡ true = subst (λ o. starts_by now.minute o ≡ true) is parts.1 in
+          let early : now.minute ≤ start = grind (arith, nat_tests, own) in
+          let day = not_before u ahead in
+          omega (arith, early, day)
 
 pub next_lies_ahead : NextLiesAhead
-next_lies_ahead now agenda small low =
+next_lies_ahead now agenda small =
     each_all (LiesAhead now) (next_rows now agenda)
     (λ k u there.
     let good = (all_kept now agenda).good k u there in
-    record { day = omega (arith, low, good.late); start = λ start is. starts now agenda u start small (omega (arith, low, good.late)) good.ahead is })
+    record { day = not_before now agenda u good.ahead; start = λ start is. starts now agenda u start small good.ahead is })
 
 pub stamps_come_once : StampsComeOnce
 stamps_come_once now agenda = (all_kept now agenda).once

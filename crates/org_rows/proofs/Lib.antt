@@ -1,7 +1,10 @@
+pub mod CleanLemmas
 pub mod FileLemmas
+pub mod FirstLemmas
 pub mod JsonLemmas
 pub mod LawLemmas
 pub mod MissedLemmas
 pub mod NextLemmas
 pub mod PlaceLemmas
 pub mod StampLemmas
+pub mod VisibleLemmas

@@ -81,5 +81,11 @@ module _ (now : Moment) (agenda : AgendaView) where
       met_days (first + 1) n a k (with_day now agenda next first) row (omega (arith, lt))
       (subst (λ d. slice_get (day_rows agenda.profile agenda.sources agenda.today d) k ≡ Some row) later there) (subst (λ d. is_ahead now d row ≡ true) later ahead)
 
+pub grows_day : (now : Moment) (agenda : AgendaView) (p : Upcoming → Bool) (day : ℕ) (rows : List Row) (next : List Upcoming) → list_any p next ≡ true → list_any p (fold (with_row now day) next rows) ≡ true
+grows_day now agenda = grows_rows now agenda
+
+pub met_day : (now : Moment) (agenda : AgendaView) (day k : ℕ) (rows : List Row) (next : List Upcoming) (row : Row) → slice_get rows k ≡ Some row → is_ahead now day row ≡ true → list_any (is_of row) (fold (with_row now day) next rows) ≡ true
+met_day now agenda = met_rows now agenda
+
 pub no_stamp_is_missed : NoStampIsMissed
 no_stamp_is_missed now agenda a k row lt there ahead = met_days now agenda agenda.first agenda.count a k [] row lt there ahead

@@ -1,4 +1,4 @@
--- Laws of places and of what comes next.
+-- Laws of places, of what comes next, and of what is shown.
 use Rattle.std.specs.Prelude.{◌≡◌, ◌<◌, ◌≤◌, ℕ, ◌+◌, ◌*◌, false, true, List, Some, IsSome, length, slice_get}
 use Rattle.std.specs.List.{All, list_any}
 use Rattle.org_agenda.specs.Days.{AgendaView, day_rows}
@@ -8,10 +8,14 @@ use Rattle.org_cal.specs.declared.time_of_day.TheConstants.{MINUTES_PER_DAY}
 use Rattle.org_class.specs.Sections.{sections}
 use Rattle.org_entry.specs.Entry.{heading_line}
 use Rattle.org_kept.specs.Begun.{entry_there}
+use Rattle.org_rows.specs.Clean.{IsClean}
 use Rattle.org_rows.specs.Next.{is_ahead, is_of, is_of_row, next_rows}
 use Rattle.org_rows.specs.Places.{HasLine, IsPlaceOf}
+use Rattle.org_rows.specs.Visible.{visible}
 use Rattle.org_rows.specs.declared.next.Upcoming.{Upcoming}
 use Rattle.org_rows.specs.declared.place.Place.{Place}
+use Rattle.org_rows.specs.declared.visible.Escape.{Escape}
+use Rattle.org_rows.specs.declared.visible.Escape.TheVariants.{Caret}
 
 -- at the place of a section with a heading the text has the heading line that its rows show
 abbrev pub PlacesAreThere : Type 0
@@ -23,9 +27,9 @@ pub record LiesAhead (now : Moment) (upcoming : Upcoming) : Type 0 where
   pub day : now.day ≤ upcoming.day
   pub start : (start : ℕ) → upcoming.row.start ≡ Some start → MINUTES_PER_DAY * now.day + now.minute ≤ MINUTES_PER_DAY * upcoming.day + start
 
--- so does each that comes next, of an agenda that begins on the moment's day
+-- so does each that comes next
 abbrev pub NextLiesAhead : Type 0
-NextLiesAhead = (now : Moment) (agenda : AgendaView) → now.minute < MINUTES_PER_DAY → now.day ≤ agenda.first → All (LiesAhead now) (next_rows now agenda)
+NextLiesAhead = (now : Moment) (agenda : AgendaView) → now.minute < MINUTES_PER_DAY → All (LiesAhead now) (next_rows now agenda)
 
 -- no two of them are of one stamp
 abbrev pub StampsComeOnce : Type 0
@@ -44,3 +48,17 @@ AgendasShowNext = (now : Moment) (agenda : AgendaView) → All (IsRowOf agenda) 
 abbrev pub NoStampIsMissed : Type 0
 NoStampIsMissed = (now : Moment) (agenda : AgendaView) (a k : ℕ) (row : Row) → a < agenda.count →
     slice_get (day_rows agenda.profile agenda.sources agenda.today (agenda.first + a)) k ≡ Some row → is_ahead now (agenda.first + a) row ≡ true → list_any (is_of row) (next_rows now agenda) ≡ true
+
+-- none of its stamp comes on a later day
+abbrev pub NextIsFirst : Type 0
+NextIsFirst = (now : Moment) (agenda : AgendaView) (a k i : ℕ) (row : Row) (u : Upcoming) → a < agenda.count →
+    slice_get (day_rows agenda.profile agenda.sources agenda.today (agenda.first + a)) k ≡ Some row → is_ahead now (agenda.first + a) row ≡ true →
+    slice_get (next_rows now agenda) i ≡ Some u → is_of row u ≡ true → u.day ≤ agenda.first + a
+
+-- what is shown of a text has no control character
+abbrev pub VisibleIsClean : Type 0
+VisibleIsClean = (escape : Escape) (text : List ℕ) → IsClean (visible escape text)
+
+-- a text that has none is shown as it is
+abbrev pub CleanStands : Type 0
+CleanStands = (text : List ℕ) → IsClean text → visible Caret text ≡ text

@@ -15,9 +15,9 @@ abbrev pub starts_by : ℕ → Option ℕ → Bool
 starts_by minute None = true
 starts_by minute (Some start) = nat_le minute start
 
--- a row of a day is no late row and no warning, and isn't before the moment
+-- a row of a day is no late row and no warning, and lies on a later day than the moment, or on its day and not before it
 abbrev pub is_ahead : Moment → ℕ → Row → Bool
-is_ahead now day row = not (reminds row.kind) && (nat_lt now.day day || starts_by now.minute row.start)
+is_ahead now day row = not (reminds row.kind) && (nat_lt now.day day || ((now.day == day) && starts_by now.minute row.start))
 
 -- two rows are of one stamp
 abbrev pub is_of_row : Row → Row → Bool

@@ -1,10 +1,11 @@
 //! Rows as fields between commas, those of Org's own batch agendas.
 
 use crate::one_line::OneLine;
-use crate::rows::{FilesRead, ShownRow};
+use crate::rows::{FilesRead, ShownRow, ShownSum};
 use org_agenda::{Row, RowKind};
 use org_base::Fault;
-use org_cal::{Day, Unit, push_time};
+use org_cal::{Day, Unit, push_date, push_time};
+use org_clocktable::Of;
 use org_inherit::{Heading, tags_text};
 use org_text::Text;
 use std::alloc::{AllocError, Global};
@@ -31,8 +32,95 @@ pub fn csv_line<T: Text>(
     push_when(alloc, &mut line, shown)?;
     push_label(alloc, &mut line, row)?;
     push_priority(alloc, &mut line, &heading)?;
-    push_date(alloc, &mut line, shown.day)?;
+    push_parts(alloc, &mut line, shown.day)?;
     Ok(line)
+}
+
+/// The fields of a row of a clock table: the first and the last day of the table, the file, and the line, the level, the title
+/// and the tags of its heading, each of which is empty where it doesn't apply; then the sums of clocks and of efforts in
+/// minutes. Want of memory is the only refusal.
+pub fn table_fields<T: Text>(
+    alloc: Global,
+    files: &FilesRead<'_, '_, T>,
+    shown: &ShownSum,
+) -> Result<OneLine, Fault> {
+    let mut line = OneLine::new(alloc);
+    push_iso(alloc, &mut line, shown.period.first)?;
+    line.push(b',')?;
+    push_iso(alloc, &mut line, shown.period.last)?;
+    push_of(alloc, &mut line, files, shown.row.of)?;
+    push_number(alloc, &mut line, shown.row.clock)?;
+    push_number(alloc, &mut line, shown.row.effort)?;
+    Ok(line)
+}
+
+// Appends a date as the calendar's standard has it, as the first field or behind a comma.
+fn push_iso(alloc: Global, line: &mut OneLine, day: Day) -> Result<(), AllocError> {
+    let mut date = String::new(alloc);
+    push_date(&mut date, day)?;
+    line.field(date.as_bytes())
+}
+
+fn push_number(alloc: Global, line: &mut OneLine, number: u64) -> Result<(), AllocError> {
+    let text = format!(in alloc; "{number}")?;
+    next(line, text.as_bytes())
+}
+
+// Appends what a row of a clock table is of: the file, and the line, the level, the title and the tags of its heading.
+fn push_of<T: Text>(
+    alloc: Global,
+    line: &mut OneLine,
+    files: &FilesRead<'_, '_, T>,
+    of: Of,
+) -> Result<(), Fault> {
+    match of {
+        Of::All => Ok(push_empty(line, 5)?),
+        Of::File(file) => {
+            push_name(line, files, file)?;
+            Ok(push_empty(line, 4)?)
+        }
+        Of::Heading(file, place, _) => {
+            push_name(line, files, file)?;
+            push_place(alloc, line, files, file, place)
+        }
+    }
+}
+
+fn push_empty(line: &mut OneLine, count: u32) -> Result<(), AllocError> {
+    for _ in 0..count {
+        next(line, &[])?;
+    }
+    Ok(())
+}
+
+fn push_name<T: Text>(
+    line: &mut OneLine,
+    files: &FilesRead<'_, '_, T>,
+    file: usize,
+) -> Result<(), AllocError> {
+    if file >= files.library.count() {
+        return next(line, &[]);
+    }
+    next(line, files.library.file(file).name().as_bytes())
+}
+
+fn push_place<T: Text>(
+    alloc: Global,
+    line: &mut OneLine,
+    files: &FilesRead<'_, '_, T>,
+    file: usize,
+    place: usize,
+) -> Result<(), Fault> {
+    let (Some(at), Some(heading)) = (
+        files.library.place(file, place),
+        Heading::find(files.inherits, file, place),
+    ) else {
+        return Ok(push_empty(line, 4)?);
+    };
+    push_number(alloc, line, u64::from(at.line))?;
+    push_number(alloc, line, u64::from(heading.level()))?;
+    next(line, heading.title())?;
+    push_tags(alloc, line, &heading)
 }
 
 // Appends one field more.
@@ -67,7 +155,7 @@ fn push_tags(alloc: Global, line: &mut OneLine, heading: &Heading<'_, '_>) -> Re
 
 // The date that a row speaks of, and its times.
 fn push_when(alloc: Global, line: &mut OneLine, shown: &ShownRow) -> Result<(), AllocError> {
-    push_date(alloc, line, spoken_of(shown))?;
+    push_parts(alloc, line, spoken_of(shown))?;
     let mut times = String::new(alloc);
     if let Some(start) = shown.row.start {
         push_time(&mut times, start)?;
@@ -90,7 +178,7 @@ fn spoken_of(shown: &ShownRow) -> Option<Day> {
     }
 }
 
-fn push_date(alloc: Global, line: &mut OneLine, day: Option<Day>) -> Result<(), AllocError> {
+fn push_parts(alloc: Global, line: &mut OneLine, day: Option<Day>) -> Result<(), AllocError> {
     let Some(day) = day else {
         return next(line, &[]);
     };

@@ -1,11 +1,11 @@
 //! Rows as objects of JSON, each in one line.
 
 use crate::one_line::OneLine;
-use crate::rows::{FilesRead, ShownRow};
+use crate::rows::{FilesRead, ShownRow, ShownSum};
 use org_agenda::{Row, RowKind};
 use org_base::Fault;
 use org_cal::{Day, TimeOfDay, push_date, push_time};
-use org_clocktable::{Of, TableRow};
+use org_clocktable::Of;
 use org_inherit::Heading;
 use org_text::Text;
 use std::alloc::{AllocError, Global};
@@ -33,16 +33,19 @@ pub fn json_line<T: Text>(
     Ok(line)
 }
 
-/// The object of a row of a clock table: its kind, its sums in minutes, and what it is of. Want of memory is the only
-/// refusal.
+/// The object of a row of a clock table: its kind, the first and the last day of the table, its sums in minutes, and what it
+/// is of. Want of memory is the only refusal.
 pub fn table_line<T: Text>(
     alloc: Global,
     files: &FilesRead<'_, '_, T>,
-    row: &TableRow,
+    shown: &ShownSum,
     text: &[u8],
 ) -> Result<OneLine, Fault> {
+    let row = &shown.row;
     let mut line = OneLine::new(alloc);
     begin(&mut line, table_kind(row.of))?;
+    push_date_as(alloc, &mut line, "from", shown.period.first)?;
+    push_date_as(alloc, &mut line, "to", shown.period.last)?;
     line.number("clock", row.clock)?;
     line.number("effort", row.effort)?;
     push_of(&mut line, files, row.of)?;
@@ -85,12 +88,21 @@ fn table_kind(of: Of) -> &'static str {
 }
 
 fn push_day(alloc: Global, line: &mut OneLine, day: Option<Day>) -> Result<(), AllocError> {
-    let Some(day) = day else {
-        return Ok(());
-    };
+    match day {
+        Some(day) => push_date_as(alloc, line, "day", day),
+        None => Ok(()),
+    }
+}
+
+fn push_date_as(
+    alloc: Global,
+    line: &mut OneLine,
+    name: &str,
+    day: Day,
+) -> Result<(), AllocError> {
     let mut date = String::new(alloc);
     push_date(&mut date, day)?;
-    line.text("day", date.as_bytes())
+    line.text(name, date.as_bytes())
 }
 
 fn push_times(alloc: Global, line: &mut OneLine, row: &Row) -> Result<(), AllocError> {

@@ -1,6 +1,6 @@
 //! Laws of the definitions. Each is a function without parameters whose contract is the law.
 ghost use Rattle.org_rows.specs.Examples.{ExamplesHold};
-ghost use Rattle.org_rows.specs.Laws.{AgendasShowNext, NextLiesAhead, NoStampIsMissed, PlacesAreThere, StampsComeOnce};
+ghost use Rattle.org_rows.specs.Laws.{AgendasShowNext, CleanStands, NextIsFirst, NextLiesAhead, NoStampIsMissed, PlacesAreThere, StampsComeOnce, VisibleIsClean};
 
 /// At the place of a heading its text has the heading line that rows show: from the byte on, and as the line of that
 /// number.
@@ -32,7 +32,25 @@ pub fn no_stamp_is_missed()
     ensures { NoStampIsMissed }
 {}
 
-/// A line feed in a text of JSON is written by its number.
+/// The row that comes of a stamp is that of the first day that has one.
+#[tactic(auto, using(crate::proofs::FirstLemmas::next_is_first))]
+pub fn next_is_first()
+    ensures { NextIsFirst }
+{}
+
+/// What is shown of a text has no control character.
+#[tactic(auto, using(crate::proofs::CleanLemmas::visible_is_clean))]
+pub fn visible_is_clean()
+    ensures { VisibleIsClean }
+{}
+
+/// A text without control characters is shown to a person as it is.
+#[tactic(auto, using(crate::proofs::CleanLemmas::clean_stands))]
+pub fn clean_stands()
+    ensures { CleanStands }
+{}
+
+/// Of each control character of one byte and of two: how JSON, a person and a field have it.
 pub fn examples_hold()
     ensures { ExamplesHold }
 {}

@@ -11,12 +11,14 @@ mod one_line;
 mod place;
 mod read_file;
 mod rows;
+mod visible;
 
-pub use fields::csv_line;
+pub use fields::{csv_line, table_fields};
 pub use json::{json_line, table_line};
 pub use library::Library;
 pub use next::{Upcoming, next_rows};
 pub use one_line::OneLine;
 pub use place::Place;
 pub use read_file::ReadFile;
-pub use rows::{FilesRead, ShownRow};
+pub use rows::{FilesRead, ShownRow, ShownSum};
+pub use visible::{Escape, push_visible};

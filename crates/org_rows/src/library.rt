@@ -1,10 +1,10 @@
 //! Files in order.
-ghost use Rattle.std.specs.Prelude.{◌≡◌, ◌<◌, ◌≤◌, [], length, slice_get, string_bytes, Some, IfOk, IfSome, IsOkUnless, OnErr};
+ghost use Rattle.std.specs.Prelude.{◌≡◌, ◌↔◌, ◌<◌, [], false, length, slice_get, string_bytes, None, Some, Err, IfOk, IfSome, IsOkUnless, IsTrue, OnErr, OnOk};
 ghost use Rattle.org_base.specs.Codes.{memory_fault};
 ghost use Rattle.org_base.specs.Results.{Gives};
 ghost use Rattle.org_base.specs.declared.limits.TheConstants.{MOST_FILES};
-ghost use Rattle.org_rows.specs.Files.{AreRead, PutsFile, scopes_of};
-ghost use Rattle.org_rows.specs.Places.{IsPlaceIn};
+ghost use Rattle.org_rows.specs.Files.{AreDifferent, AreRead, CanAdd, IsFullFor, IsNew, PutsFile, scopes_of};
+ghost use Rattle.org_rows.specs.Places.{IsNoPlace, IsPlaceIn};
 
 use crate::place::Place;
 use crate::read_file::ReadFile;
@@ -14,7 +14,7 @@ use org_text::Text;
 use std::alloc::Global;
 use std::marker::Model;
 
-/// Files in the order in which they came, and the names whose values headings inherit.
+/// Files in the order in which they came, none of them twice, and the names whose values headings inherit.
 #[derive(Debug, Drop)]
 pub struct Library<T: Text> {
     alloc: Global,
@@ -23,15 +23,13 @@ pub struct Library<T: Text> {
 }
 
 impl<T: Text> Model for Library<T> {
-    ghost use Rattle.std.specs.Prelude.{◌≤◌, length};
-    ghost use Rattle.org_base.specs.declared.limits.TheConstants.{MOST_FILES};
-    ghost use Rattle.org_rows.specs.Files.{LibraryView};
+    ghost use Rattle.org_rows.specs.Files.{AreFiles, LibraryView};
 
     ghost Value = { LibraryView };
 
     ghost view = { λ l. record { files = l.files.items; inherited = l.inherited } };
 
-    ghost invariant = { λ l. length l.files.items ≤ MOST_FILES };
+    ghost invariant = { λ l. AreFiles l.files.items };
 }
 
 impl<T: Text> Library<T> {
@@ -61,18 +59,44 @@ impl<T: Text> Library<T> {
         &self.files[place]
     }
 
-    /// Puts a text under a name behind the others. `Files` where there are as many as there may be; else want of memory is
-    /// the only refusal.
-    pub fn add(&mut self, name: String, text: T) -> Result<(), Fault>
+    /// Whether a file of this path is there.
+    pub fn has(&self, path: &str) -> bool
+        ensures some { result ≡ false → IsNew path.now self.now.files }
+        ensures none { IsNew path.now self.now.files → result ≡ false }
+    {
+        for file in &self.files {
+            if file.path() == path {
+                return true;
+            }
+        }
+        false
+    }
+
+    /// Whether there are as many files as there may be.
+    pub fn is_full(&self) -> bool
+        ensures value { IsTrue result ↔ (length self.now.files ≡ MOST_FILES) }
+    {
+        self.files.len() >= MOST_FILES
+    }
+
+    /// Puts a text under a name behind the others, of the file that is told from others by a path. `Taken` where a file of
+    /// that path is there, `Files` where there are as many as there may be; else want of memory is the only refusal.
+    pub fn add(&mut self, name: String, path: String, text: T) -> Result<(), Fault>
         ensures names { self.new.inherited ≡ self.old.inherited }
         ensures err { OnErr result (self.new ≡ self.old) }
-        ensures ok { PutsFile result self.old self.new (string_bytes name) (T.content text) }
-        ensures memory { length self.old.files < MOST_FILES → IsOkUnless result memory_fault }
+        ensures ok { PutsFile result self.old self.new (string_bytes name) (string_bytes path) (T.content text) }
+        ensures new { OnOk result (IsNew (string_bytes path) self.old.files) }
+        ensures taken { ¬ IsNew (string_bytes path) self.old.files → result ≡ Err (Plain Taken) }
+        ensures full { IsFullFor (string_bytes path) self.old.files → result ≡ Err (Plain Files) }
+        ensures memory { CanAdd (string_bytes path) self.old.files → IsOkUnless result memory_fault }
     {
-        if self.files.len() >= MOST_FILES {
+        if self.has(path.as_str()) {
+            return Err(Fault::Plain(Code::Taken));
+        }
+        if self.is_full() {
             return Err(Fault::Plain(Code::Files));
         }
-        let file = ReadFile::new(self.alloc, name, text)?;
+        let file = ReadFile::new(self.alloc, name, path, text)?;
         self.files.push(file)?;
         Ok(())
     }
@@ -81,6 +105,7 @@ impl<T: Text> Library<T> {
     pub fn inherits(&self) -> Result<Inherits<'_>, Fault>
         ensures value { Gives result (scopes_of self.now) }
         ensures read { IfOk result AreRead }
+        ensures different { AreDifferent self.now.files }
         ensures memory { IsOkUnless result memory_fault }
     {
         let mut inherits = Inherits::new(self.alloc);
@@ -94,6 +119,7 @@ impl<T: Text> Library<T> {
     /// Where the section at a place of the file at another begins; none where it isn't there.
     pub fn place(&self, file: usize, heading: usize) -> Option<Place>
         ensures some { IfSome result (IsPlaceIn self.now.files file heading) }
+        ensures none { result ≡ None → IsNoPlace self.now.files file heading }
     {
         if file >= self.count() {
             return None;

@@ -90,7 +90,8 @@ fn stamp_of(row: &Row) -> (usize, usize, usize)
 fn is_ahead(now: &Moment, day: Day, row: &Row) -> bool
     ensures { result ≡ is_ahead now.now day row.now }
 {
-    !reminds(row.kind) && (now.day.number() < day.number() || starts_by(now.minute, row.start))
+    let (today, day) = (now.day.number(), day.number());
+    !reminds(row.kind) && (today < day || (today == day && starts_by(now.minute, row.start)))
 }
 
 fn starts_by(minute: TimeOfDay, start: Option<TimeOfDay>) -> bool

@@ -1,14 +1,15 @@
 //! Bytes of one line.
-ghost use Rattle.std.specs.Prelude.{◌≡◌, ◌≢◌, ◌<◌, [], ◌∷◌, ◌++◌, length, IfOk, OnOk};
-ghost use Rattle.std.specs.List.{All, flat_map};
-ghost use Rattle.org_base.specs.Results.{Adds, GivesItems};
-ghost use Rattle.org_rows.specs.Json.{HasNoFeed, escaped, field_byte, field_text, flag_member, hex, named, number_member, quoted, text_member};
+ghost use Rattle.std.specs.Prelude.{◌≡◌, ◌<◌, ◌≤◌, [], ◌∷◌, ◌++◌, IfOk, OnOk};
+ghost use Rattle.org_base.specs.Results.{GivesItems};
+ghost use Rattle.org_rows.specs.Clean.{IsClean};
+ghost use Rattle.org_rows.specs.Json.{begins_quoted, field_text, flag_member, named, number_member, quoted, text_member};
 
+use crate::visible::{Escape, push_visible};
 use org_base::Texts;
 use std::alloc::{AllocError, Global};
 use std::marker::Model;
 
-/// Bytes of a line, seen as their list, none of which is a line feed.
+/// Bytes of a line, seen as their list, without control characters.
 #[derive(Debug, Drop)]
 pub struct OneLine {
     alloc: Global,
@@ -17,13 +18,13 @@ pub struct OneLine {
 
 impl Model for OneLine {
     ghost use Rattle.std.specs.Prelude.{ℕ, List};
-    ghost use Rattle.org_rows.specs.Json.{HasNoFeed};
+    ghost use Rattle.org_rows.specs.Clean.{IsClean};
 
     ghost Value = { List ℕ };
 
     ghost view = { λ l. l.bytes.items };
 
-    ghost invariant = { λ l. HasNoFeed l.bytes.items };
+    ghost invariant = { λ l. IsClean l.bytes.items };
 }
 
 impl OneLine {
@@ -40,23 +41,26 @@ impl OneLine {
     /// The bytes, lent.
     pub fn as_slice(&self) -> &[u8]
         ensures value { result.now ≡ self.now }
-        ensures line { HasNoFeed result.now }
+        ensures line { IsClean result.now }
     {
         self.bytes.as_slice()
     }
 
-    /// Appends a byte that is no line feed.
+    /// Appends a byte of ASCII that prints.
+    #[tactic(auto, using(crate::proofs::CleanLemmas::clean_byte, crate::proofs::CleanLemmas::clean_append))]
     pub fn push(&mut self, byte: u8) -> Result<(), AllocError>
-        requires { byte ≢ 10 }
+        requires low { 32 ≤ byte }
+        requires high { byte < 127 }
         ensures ok { OnOk result (self.new ≡ self.old ++ byte ∷ []) }
     {
         self.bytes.push(byte)?;
         Ok(())
     }
 
-    // Appends bytes none of which is a line feed. Where memory is refused the line is as before.
+    // Appends bytes without control characters. Where memory is refused the line is as before.
+    #[tactic(auto, using(crate::proofs::CleanLemmas::clean_append))]
     fn push_all(&mut self, bytes: &[u8]) -> Result<(), AllocError>
-        requires { HasNoFeed bytes.now }
+        requires { IsClean bytes.now }
         ensures ok { OnOk result (self.new ≡ self.old ++ bytes.now) }
     {
         self.bytes.extend_from_slice(bytes)?;
@@ -119,7 +123,8 @@ impl OneLine {
         self.push(b']')
     }
 
-    /// Appends a text as a field between commas: a comma is a semicolon in it, and a line feed a space.
+    /// Appends a text as a field between commas: in it a comma is a semicolon, a control character a space, and a quotation
+    /// mark at its front an apostrophe, since fields aren't quoted.
     pub fn field(&mut self, text: &[u8]) -> Result<(), AllocError>
         ensures ok { OnOk result (self.new ≡ self.old ++ field_text text.now) }
     {
@@ -130,72 +135,31 @@ impl OneLine {
 
 fn quoted(alloc: Global, text: &[u8]) -> Result<Vec<u8>, AllocError>
     ensures value { GivesItems result (quoted text.now) }
-    ensures line { IfOk result (λ bytes. HasNoFeed bytes.items) }
+    ensures line { IfOk result (λ bytes. IsClean bytes.items) }
 {
     let mut bytes = Vec::new(alloc);
     bytes.push(b'"')?;
-    push_all_escaped(&mut bytes, text)?;
+    push_visible(&mut bytes, text, Escape::Json)?;
     bytes.push(b'"')?;
     Ok(bytes)
 }
 
-fn push_all_escaped(bytes: &mut Vec<u8>, text: &[u8]) -> Result<(), AllocError>
-    ensures { Adds result bytes.old bytes.new (flat_map escaped text.now) }
-{
-    for byte in text {
-        push_escaped(bytes, *byte)?;
-    }
-    Ok(())
-}
-
-fn push_escaped(bytes: &mut Vec<u8>, byte: u8) -> Result<(), AllocError>
-    ensures { Adds result bytes.old bytes.new (escaped byte) }
-{
-    if byte < 32 {
-        return push_control(bytes, byte);
-    }
-    if byte == b'"' || byte == b'\\' {
-        bytes.push(b'\\')?;
-    }
-    bytes.push(byte)?;
-    Ok(())
-}
-
-// Appends a control character by its number.
-fn push_control(bytes: &mut Vec<u8>, byte: u8) -> Result<(), AllocError>
-    requires { byte < 32 }
-    ensures { Adds result bytes.old bytes.new (escaped byte) }
-{
-    bytes.extend_from_slice(b"\\u00")?;
-    bytes.push(hex(byte / 16))?;
-    bytes.push(hex(byte % 16))?;
-    Ok(())
-}
-
-fn hex(digit: u8) -> u8
-    requires { digit < 16 }
-    ensures { result ≡ hex digit }
-{
-    if digit < 10 {
-        b'0' + digit
-    } else {
-        b'a' + (digit - 10)
-    }
-}
-
 fn field_bytes(alloc: Global, text: &[u8]) -> Result<Vec<u8>, AllocError>
     ensures value { GivesItems result (field_text text.now) }
-    ensures line { IfOk result (λ bytes. HasNoFeed bytes.items) }
+    ensures line { IfOk result (λ bytes. IsClean bytes.items) }
 {
-    text.iter().map(|byte| field_byte(*byte)).collect(alloc)
+    let mut bytes = Vec::new(alloc);
+    if begins_quoted(text) {
+        bytes.push(b'\'')?;
+        push_visible(&mut bytes, &text[1..], Escape::Field)?;
+    } else {
+        push_visible(&mut bytes, text, Escape::Field)?;
+    }
+    Ok(bytes)
 }
 
-fn field_byte(byte: u8) -> u8
-    ensures { result ≡ field_byte byte }
+fn begins_quoted(text: &[u8]) -> bool
+    ensures { result ≡ begins_quoted text.now }
 {
-    match byte {
-        b',' => b';',
-        b'\n' => b' ',
-        _ => byte,
-    }
+    !text.is_empty() && text[0] == b'"'
 }

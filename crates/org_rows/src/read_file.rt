@@ -4,7 +4,7 @@ ghost use Rattle.org_agenda.specs.Headings.{HaveHeads};
 ghost use Rattle.org_base.specs.Codes.{memory_fault};
 ghost use Rattle.org_base.specs.Results.{Gives};
 ghost use Rattle.org_class.specs.Sections.{sections};
-ghost use Rattle.org_rows.specs.Files.{scope_of};
+ghost use Rattle.org_rows.specs.Files.{named_text, scope_of};
 ghost use Rattle.org_rows.specs.Places.{IsPlaceOf};
 ghost use Rattle.org_sum.specs.Texts.{AreOfText};
 
@@ -16,10 +16,11 @@ use org_text::Text;
 use std::alloc::Global;
 use std::marker::Model;
 
-/// A file under a name, with what it says. Contracts see the name and the text.
+/// A file under a name, with what it says. Contracts see the name, the path and the text.
 #[derive(Debug, Drop)]
 pub struct ReadFile<T: Text> {
     name: String,
+    path: String,
     file: File<T>,
     outline: FileOutline,
     sections: u32,
@@ -31,15 +32,15 @@ impl<T: Text> Model for ReadFile<T> {
 
     ghost Value = { NamedText };
 
-    ghost view = { λ f. record { name = string_bytes f.name; text = f.file.text } };
+    ghost view = { λ f. record { name = string_bytes f.name; path = string_bytes f.path; text = f.file.text } };
 
     ghost invariant = { λ f. IsRead f.file f.outline f.sections };
 }
 
 impl<T: Text> ReadFile<T> {
-    /// A text under a name, read. Want of memory is the only refusal.
-    pub fn new(alloc: Global, name: String, text: T) -> Result<ReadFile<T>, Fault>
-        ensures value { Gives result (record { name = string_bytes name; text = T.content text }) }
+    /// A text under a name, read, of the file that is told from others by a path. Want of memory is the only refusal.
+    pub fn new(alloc: Global, name: String, path: String, text: T) -> Result<ReadFile<T>, Fault>
+        ensures value { Gives result (named_text name path (T.content text)) }
         ensures memory { IsOkUnless result memory_fault }
     {
         // For the proof alone: the text is no longer than texts may be.
@@ -50,6 +51,7 @@ impl<T: Text> ReadFile<T> {
         let outline = file.outlined(alloc, &mut meter)?;
         Ok(ReadFile {
             name,
+            path,
             file,
             outline,
             sections,
@@ -61,6 +63,13 @@ impl<T: Text> ReadFile<T> {
         ensures value { result.now ≡ self.now.name }
     {
         self.name.as_str()
+    }
+
+    /// The path by which the file is told from others.
+    pub fn path(&self) -> &str
+        ensures value { result.now ≡ self.now.path }
+    {
+        self.path.as_str()
     }
 
     /// What the outline says of headings, where the values of these names are inherited. Want of memory is the only

@@ -2,7 +2,8 @@
 
 use crate::library::Library;
 use org_agenda::Row;
-use org_cal::Day;
+use org_cal::{Day, Period};
+use org_clocktable::TableRow;
 use org_inherit::Inherits;
 use org_text::Text;
 
@@ -18,4 +19,11 @@ pub struct FilesRead<'a, 'b, T: Text> {
 pub struct ShownRow {
     pub day: Option<Day>,
     pub row: Row,
+}
+
+/// A row of a clock table, with the days of the table.
+#[derive(Clone, Copy, Debug, PartialEq, Eq)]
+pub struct ShownSum {
+    pub period: Period,
+    pub row: TableRow,
 }

@@ -1,2 +1,3 @@
 pub mod Exit
+pub mod Shown
 pub mod Views

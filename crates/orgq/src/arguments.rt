@@ -13,9 +13,11 @@ f;file;PATH;A file, or a folder, whose *.org files are meant
 ;profile;N;The profile that agendas follow, 1 or 2
 n;places;;FILE:LINE: in front of each row, as grep -n has it
 ;json;;A JSON object a row, one a line
-;csv;;The fields of org-batch-agenda-csv, a line a row
+;csv;;Fields with commas between them, a line a row
 ;color;WHEN;Late rows and warnings stand out: auto, always or never
 q;quiet;;Nothing is printed; the status tells whether there is a row";
+
+const OF_TODAY: &str = "d;days;N;How many days of the agenda from today on, 1 to 366";
 
 const OF_AGENDA: &str = "d;days;N;How many days, 1 to 366";
 
@@ -42,12 +44,13 @@ pub fn command<'a>(alloc: Global) -> Result<Command<'a>, AllocError> {
             "Agendas, lists and clock tables of your Org files; without a command today's agenda",
         )
         .arg(path)?;
+    let command = with_options(alloc, command, OF_TODAY, false)?;
     let command = with_options(alloc, command, OF_ALL, true)?;
     let agenda = Command::new(alloc, "agenda").about("Some days, by default today");
     let agenda = agenda.arg(word(alloc, "DATE", "The first day, as 2024-02-28"))?;
     let todo = Command::new(alloc, "todo").about("The open entries, or those with some keyword");
     let list = Command::new(alloc, "match").about("The entries of which an expression holds");
-    let list = list.arg(word(alloc, "EXPR", "The expression, as work/!NEXT").required(true))?;
+    let list = list.arg(word(alloc, "EXPR", "The expression, as work/!NEXT; behind -- where it begins with a minus").required(true))?;
     let clock = Command::new(alloc, "clock").about("A clock table, by default this week's");
     let clock = clock.arg(word(alloc, "BLOCK", "A block of time, as today or 2024-W09"))?;
     let next = Command::new(alloc, "next").about("What comes next of each stamp, by time");

@@ -3,6 +3,7 @@ ghost use Rattle.org_rows.specs.Files.{AreRead};
 
 use crate::coming::coming;
 use crate::options::{clock_options, texts};
+use crate::problem::Problem;
 use crate::table::clock_table;
 use crate::view::{Answer, Days, agenda_days, agenda_over, match_list, todo_list};
 use clap::ArgMatches;
@@ -48,59 +49,44 @@ impl<'a> Asked<'a> {
     }
 }
 
-/// Why nothing is answered.
-#[derive(Clone, Copy, Debug)]
-pub enum Problem {
-    Clock,
-    Color,
-    Command,
-    Date,
-    Days,
-    Files,
-    Moment,
-    Fault(Fault),
-}
-
-impl Problem {
-    /// What standard error says of it.
-    pub fn why(self) -> &'static str {
-        match self {
-            Problem::Clock => "neither clock nor zone can be read: --at names the moment",
-            Problem::Color => "--color is auto, always or never",
-            Problem::Command => "no such command; for a file or folder write -f before its name",
-            Problem::Date => "no such date: a date is written as 2024-02-28",
-            Problem::Days => "days past 9999-12-31",
-            Problem::Files => "no files: name them by -f, ORGQ_FILES or ~/.config/orgq/files",
-            Problem::Moment => "no such moment: --at takes one as \"2024-02-28 10:30\"",
-            Problem::Fault(fault) => fault.code().name(),
-        }
-    }
-}
-
 /// What the arguments ask for at a moment.
 pub fn read_question<'a>(
     alloc: Global,
     matches: &ArgMatches<'a>,
     moment: &Moment,
 ) -> Result<Asked<'a>, Problem> {
+    let days = matches.get_one::<u32>("days");
     match matches.subcommand() {
-        Some(("agenda", own)) => Ok(Asked::Agenda(asked_days(own, moment)?)),
-        Some(("todo", own)) => match texts(alloc, own.get_strs("KEYWORD")) {
-            Ok(words) => Ok(Asked::Todo(words)),
-            Err(fault) => Err(Problem::Fault(fault)),
-        },
-        Some(("match", own)) => Ok(Asked::Match(own.get_str("EXPR").unwrap_or(""))),
-        Some(("clock", own)) => asked_table(alloc, own),
+        Some(("agenda", own)) => Ok(Asked::Agenda(asked_days(own, days, moment)?)),
         Some(("next", own)) => {
-            let count = own.get_one::<u32>("days").unwrap_or(30);
+            let count = own.get_one::<u32>("days").or(days).unwrap_or(30);
             let days = days_from(moment.day, count)?;
             Ok(Asked::Next(days, own.get_one::<u32>("within")))
         }
-        _ => Ok(Asked::Agenda(days_from(moment.day, 1)?)),
+        None => Ok(Asked::Agenda(days_from(moment.day, days.unwrap_or(1))?)),
+        Some(_) if days.is_some() => Err(Problem::DaysOf),
+        Some((name, own)) => asked_list(alloc, name, own),
     }
 }
 
-fn asked_days(own: &ArgMatches<'_>, moment: &Moment) -> Result<Days, Problem> {
+// What a command asks for that has no days of its own.
+fn asked_list<'a>(
+    alloc: Global,
+    name: &str,
+    own: &ArgMatches<'a>,
+) -> Result<Asked<'a>, Problem> {
+    match name {
+        "todo" => Ok(Asked::Todo(texts(alloc, own.get_strs("KEYWORD"))?)),
+        "match" => Ok(Asked::Match(own.get_str("EXPR").unwrap_or(""))),
+        _ => asked_table(alloc, own),
+    }
+}
+
+fn asked_days(
+    own: &ArgMatches<'_>,
+    days: Option<u32>,
+    moment: &Moment,
+) -> Result<Days, Problem> {
     let first = match own.get_str("DATE") {
         Some(text) => match Day::spelled(text.as_bytes()) {
             Some(day) => day,
@@ -108,7 +94,7 @@ fn asked_days(own: &ArgMatches<'_>, moment: &Moment) -> Result<Days, Problem> {
         },
         None => moment.day,
     };
-    days_from(first, own.get_one::<u32>("days").unwrap_or(1))
+    days_from(first, own.get_one::<u32>("days").or(days).unwrap_or(1))
 }
 
 fn days_from(first: Day, count: u32) -> Result<Days, Problem> {
@@ -119,10 +105,14 @@ fn days_from(first: Day, count: u32) -> Result<Days, Problem> {
 }
 
 fn asked_table<'a>(alloc: Global, own: &ArgMatches<'a>) -> Result<Asked<'a>, Problem> {
-    match clock_options(alloc, own) {
-        Ok(text) => Ok(Asked::Clock(text, own.get_str("match").unwrap_or(""))),
-        Err(refused) => Err(Problem::Fault(Fault::from(refused))),
+    if !matches!(own.get_str("step"), None | Some("day" | "week")) {
+        return Err(Problem::Step);
     }
+    if own.get_str("BLOCK").is_some_and(|block| block.contains(' ')) {
+        return Err(Problem::Fault(Fault::Plain(Code::Option)));
+    }
+    let text = clock_options(alloc, own)?;
+    Ok(Asked::Clock(text, own.get_str("match").unwrap_or("")))
 }
 
 /// What is asked, in which profile, and at which moment.
@@ -131,6 +121,34 @@ pub struct Question<'a, 'b> {
     pub asked: &'a Asked<'b>,
     pub profile: Profile,
     pub moment: Moment,
+}
+
+/// Whether a question can be answered: its expression and its options are such.
+pub fn check(alloc: Global, question: &Question<'_, '_>) -> Result<(), Fault> {
+    match question.asked {
+        Asked::Match(expression) => {
+            let _ = read_expression(alloc, expression)?;
+        }
+        Asked::Clock(options, _) => {
+            let _ = read_options(alloc, options.as_str(), question.moment)?;
+        }
+        Asked::Agenda(_) | Asked::Todo(_) | Asked::Next(..) => {}
+    }
+    Ok(())
+}
+
+fn read_expression(alloc: Global, expression: &str) -> Result<Match, Fault> {
+    if expression.len() > LONGEST {
+        return Err(Fault::Plain(Code::Long));
+    }
+    Match::read(alloc, expression)
+}
+
+fn read_options(alloc: Global, options: &str, now: Moment) -> Result<TableSpec<'_>, Fault> {
+    if options.len() > LONGEST {
+        return Err(Fault::Plain(Code::Long));
+    }
+    TableSpec::read(alloc, options, now.day)
 }
 
 /// The answer over files that were read.
@@ -166,10 +184,7 @@ fn matching(
 ) -> Result<Answer, Fault>
     requires read { AreRead inherits.now }
 {
-    if expression.len() > LONGEST {
-        return Err(Fault::Plain(Code::Long));
-    }
-    let expression = Match::read(alloc, expression)?;
+    let expression = read_expression(alloc, expression)?;
     match_list(alloc, inherits, &expression, now)
 }
 
@@ -181,9 +196,6 @@ fn clock(
 ) -> Result<Answer, Fault>
     requires read { AreRead inherits.now }
 {
-    if options.len() > LONGEST {
-        return Err(Fault::Plain(Code::Long));
-    }
-    let spec = TableSpec::read(alloc, options, now.day)?;
+    let spec = read_options(alloc, options, now)?;
     clock_table(alloc, inherits, &spec, now)
 }

@@ -1,11 +1,15 @@
 //! The moment at which is asked.
 
-use jiff::Zoned;
+use crate::environment::variable;
+use crate::files::{LeftOut, read_whole};
+use crate::problem::Problem;
 use jiff::tz::{SystemTimeZone, TimeZoneDatabase};
+use jiff::{Error, Zoned};
 use org_cal::{Day, Moment, TimeOfDay};
+use std::alloc::AllocError;
+use std::fs;
 use std::rt::{Env, Files};
 use std::time::Clock;
-use std::{env, fs};
 
 /// The moment that a text spells: a date, one space and a time.
 pub fn moment(text: &str) -> Option<Moment> {
@@ -14,28 +18,68 @@ pub fn moment(text: &str) -> Option<Moment> {
     Moment::read(&text[..space], &text[space + 1..]).ok()
 }
 
-/// The system's civil time in its zone; none where either can't be read, or the year has more than four digits.
-pub fn now<R: AllocGlobal + Files + Env + Clock>(rt: &R) -> Option<Moment> {
-    let system = SystemTimeZone::read(rt).ok()?;
+/// The system's civil time in its zone.
+pub fn now<R: AllocGlobal + Files + Env + Clock>(rt: &R) -> Result<Moment, Problem> {
     let zones = named_zone(rt)?;
-    let zone = system.time_zone(&zones).ok()?;
-    let now = Zoned::now(rt, zone).ok()?;
-    civil(&now)
+    let system = SystemTimeZone::read(rt)?;
+    let zone = system.time_zone(&zones)?;
+    let now = Zoned::now(rt, zone)?;
+    match civil(&now) {
+        Some(moment) => Ok(moment),
+        None => Err(Problem::Clock),
+    }
 }
 
-// The zone that `TZ` names, alone: a database of all zones would take longer to read than most files.
-fn named_zone<R: AllocGlobal + Files + Env>(rt: &R) -> Option<TimeZoneDatabase> {
+impl From<Error> for Problem {
+    fn from(error: Error) -> Problem {
+        match error {
+            Error::OutOfMemory => Problem::from(AllocError),
+            _ => Problem::Clock,
+        }
+    }
+}
+
+// The zone that `TZ` names, alone: a database of all zones would take longer to read than most files. Where there is no such
+// zone, the system's reading of `TZ` stands.
+fn named_zone<R: AllocGlobal + Files + Env>(rt: &R) -> Result<TimeZoneDatabase, Problem> {
     let mut zones = TimeZoneDatabase::new(rt.alloc());
-    let Ok(name) = env::var(rt, "TZ") else {
-        return Some(zones);
+    let Some(name) = variable(rt, "TZ", "TZ isn't UTF-8")? else {
+        return Ok(zones);
     };
     let name = name.as_str().trim_start_matches(':');
-    let path = format!(in rt.alloc(); "/usr/share/zoneinfo/{name}").ok()?;
-    if let Ok(bytes) = fs::read(rt, path.as_str()) {
-        // Where it is no zone's file, the system's reading of `TZ` stands.
-        let _ = zones.insert(name, bytes.as_slice());
+    if name.split('/').any(|part| part == "..") {
+        return Err(Problem::Environment(
+            "TZ leads out of the folder of time zones",
+        ));
     }
-    Some(zones)
+    if let Some(bytes) = zone_bytes(rt, name)? {
+        if let Err(Error::OutOfMemory) = zones.insert(name, bytes.as_slice()) {
+            return Err(Problem::from(AllocError));
+        }
+    }
+    Ok(zones)
+}
+
+// The bytes of a zone's file in the folder of zones, if there is such a file.
+fn zone_bytes<R: AllocGlobal + Files + Env>(
+    rt: &R,
+    name: &str,
+) -> Result<Option<Vec<u8>>, Problem> {
+    let path = match variable(rt, "TZDIR", "TZDIR isn't UTF-8")? {
+        Some(folder) if !folder.as_str().is_empty() => format!(in rt.alloc(); "{folder}/{name}")?,
+        _ => format!(in rt.alloc(); "/usr/share/zoneinfo/{name}")?,
+    };
+    if !fs::metadata(rt, path.as_str()).is_ok_and(|metadata| metadata.is_file()) {
+        return Ok(None);
+    }
+    let Ok(mut file) = fs::open(rt, path.as_str()) else {
+        return Ok(None);
+    };
+    match read_whole(rt.alloc(), &mut file) {
+        Ok(bytes) => Ok(Some(bytes)),
+        Err(LeftOut::Memory) => Err(Problem::from(AllocError)),
+        Err(LeftOut::Because(_)) => Ok(None),
+    }
 }
 
 fn civil(now: &Zoned<'_>) -> Option<Moment> {

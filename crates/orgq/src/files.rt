@@ -4,36 +4,65 @@ use crate::keywords::with_keywords;
 use org_base::{Code, Fault};
 use org_rows::Library;
 use org_text::{MAX_BYTES, Text, Whole};
-use std::alloc::Global;
+use std::alloc::{AllocError, Global};
 use std::io::{ErrorKind, Read};
 use std::rt::Files;
 use std::{fs, io};
 
-/// Reads a file whole and adds it under its path, with these keywords where it has none of its own. The reason where it
-/// can't be added; then the library has the files that it had.
-pub fn load<R: Files>(
-    rt: &R,
-    alloc: Global,
-    library: &mut Library<Whole>,
-    path: &str,
-    keywords: Option<&str>,
-) -> Result<(), &'static str> {
-    if path.bytes().any(|byte| byte < 32 || byte == 127) {
-        return Err("a control character in its name");
+/// Why a file is left out, or why nothing more is read.
+#[derive(Clone, Copy, Debug)]
+pub enum LeftOut {
+    Memory,
+    Because(&'static str),
+}
+
+impl From<AllocError> for LeftOut {
+    fn from(_refused: AllocError) -> LeftOut {
+        LeftOut::Memory
     }
-    let Ok(mut file) = fs::open(rt, path) else {
-        return Err("can't be opened");
+}
+
+/// Where a file is named, and the path by which it is told from others.
+#[derive(Clone, Copy, Debug)]
+pub struct Named<'a> {
+    pub name: &'a str,
+    pub path: &'a str,
+}
+
+/// Reads a file whole and adds it under its name, with these keywords where it has none of its own. Where it can't be added
+/// the library has the files that it had.
+pub fn load<R: AllocGlobal + Files>(
+    rt: &R,
+    library: &mut Library<Whole>,
+    named: Named<'_>,
+    keywords: Option<&str>,
+) -> Result<(), LeftOut> {
+    if named.name.chars().any(|character| character.is_control()) {
+        return Err(LeftOut::Because("a control character in its name"));
+    }
+    let bytes = match fs::open(rt, named.name) {
+        Ok(mut file) => read_whole(rt.alloc(), &mut file)?,
+        Err(error) => return Err(why_closed(error.kind())),
     };
-    let Ok(text) = String::from_utf8(read_whole(alloc, &mut file)?) else {
-        return Err("not UTF-8");
+    let Ok(text) = String::from_utf8(bytes) else {
+        return Err(LeftOut::Because("not UTF-8"));
     };
-    match add(alloc, library, path, text, keywords) {
+    match add(rt.alloc(), library, named, text, keywords) {
         Ok(()) => Ok(()),
         Err(fault) => match fault.code() {
-            Code::Size => Err(TOO_LONG),
-            Code::Files => Err("more than 256 files"),
-            code => Err(code.name()),
+            Code::Memory => Err(LeftOut::Memory),
+            Code::Size => Err(LeftOut::Because(TOO_LONG)),
+            code => Err(LeftOut::Because(code.name())),
         },
+    }
+}
+
+fn why_closed(kind: ErrorKind) -> LeftOut {
+    match kind {
+        ErrorKind::OutOfMemory => LeftOut::Memory,
+        ErrorKind::NotFound => LeftOut::Because("no such file"),
+        ErrorKind::PermissionDenied => LeftOut::Because("may not be read"),
+        _ => LeftOut::Because("can't be opened"),
     }
 }
 
@@ -42,48 +71,79 @@ const TOO_LONG: &str = "more than 64 MiB";
 fn add(
     alloc: Global,
     library: &mut Library<Whole>,
-    path: &str,
+    named: Named<'_>,
     text: String,
     keywords: Option<&str>,
 ) -> Result<(), Fault> {
     let text = match keywords {
-        Some(words) => with_keywords(text, words)?,
+        Some(words) => with_keywords(alloc, text, words)?,
         None => text,
     };
-    let name = String::from_str(alloc, path)?;
-    library.add(name, Whole::of_string(alloc, text)?)
+    let name = String::from_str(alloc, named.name)?;
+    let path = String::from_str(alloc, named.path)?;
+    library.add(name, path, Whole::of_string(alloc, text)?)
 }
 
-// The bytes that a reader has left, if they are no more than a text may have.
-fn read_whole<R: Read>(alloc: Global, reader: &mut R) -> Result<Vec<u8>, &'static str> {
+/// The bytes that a reader has left, if they are no more than a text may have.
+pub fn read_whole<R: Read>(alloc: Global, reader: &mut R) -> Result<Vec<u8>, LeftOut> {
     let mut bytes = Vec::new(alloc);
     match reader.take(MAX_BYTES as u64 + 1).read_to_end(&mut bytes) {
-        Ok(_) if bytes.len() > MAX_BYTES => Err(TOO_LONG),
+        Ok(_) if bytes.len() > MAX_BYTES => Err(LeftOut::Because(TOO_LONG)),
         Ok(_) => Ok(bytes),
-        Err(error) if error.kind() == ErrorKind::OutOfMemory => Err("memory"),
-        Err(_) => Err("can't be read"),
+        Err(error) if error.kind() == ErrorKind::OutOfMemory => Err(LeftOut::Memory),
+        Err(_) => Err(LeftOut::Because("can't be read")),
     }
 }
 
-/// Puts the files that a path stands for behind others: itself, or of a folder its `*.org` files by their names, but for
-/// hidden ones.
+/// The path by which a file is told from others: without links and dots, where the system can say it.
+pub fn real_path<R: AllocGlobal + Files>(rt: &R, path: &str) -> Result<String, AllocError> {
+    match fs::canonicalize(rt, path) {
+        Ok(real) => Ok(real.into_string()),
+        Err(error) if error.kind() == ErrorKind::OutOfMemory => Err(AllocError),
+        Err(_) => String::from_str(rt.alloc(), path),
+    }
+}
+
+/// Puts the files that a path stands for behind others: itself, or of a folder its files `*.org` by their names, but for
+/// hidden ones and what is no file. Gives how many names of the folder aren't UTF-8, and so are passed over.
 pub fn push_paths<R: AllocGlobal + Files + Clone + Drop>(
     rt: &R,
     paths: &mut Vec<String>,
     path: &str,
-) -> io::Result<()> {
+) -> io::Result<u64> {
     if !fs::metadata(rt, path).is_ok_and(|metadata| metadata.is_dir()) {
         paths.push(String::from_str(rt.alloc(), path)?)?;
-        return Ok(());
+        return Ok(0);
     }
     let folder = path.trim_end_matches('/');
+    let mut passed = 0u64;
     for entry in fs::read_dir(rt, path)? {
-        let entry = entry?;
-        let name = entry.file_name();
-        if name.ends_with(".org") && !name.starts_with('.') {
-            paths.push(format!(in rt.alloc(); "{folder}/{name}")?)?;
+        match entry {
+            Ok(entry) => push_entry(rt, paths, folder, entry.file_name())?,
+            Err(error) if error.kind() == ErrorKind::InvalidFilename => {
+                passed = passed.saturating_add(1);
+            }
+            Err(error) => return Err(error),
         }
     }
     paths.sort()?;
+    Ok(passed)
+}
+
+// Puts a name of a folder behind others, if it is one of a file that is meant; where a link leads nowhere, it is one.
+fn push_entry<R: AllocGlobal + Files>(
+    rt: &R,
+    paths: &mut Vec<String>,
+    folder: &str,
+    name: &str,
+) -> Result<(), AllocError> {
+    if !name.ends_with(".org") || name.starts_with('.') {
+        return Ok(());
+    }
+    let path = format!(in rt.alloc(); "{folder}/{name}")?;
+    if fs::metadata(rt, path.as_str()).is_ok_and(|metadata| !metadata.is_file()) {
+        return Ok(());
+    }
+    paths.push(path)?;
     Ok(())
 }

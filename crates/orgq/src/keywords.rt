@@ -1,13 +1,23 @@
 //! Keywords of files that have none of their own.
 
-use std::alloc::AllocError;
+use crate::say::say_of;
+use org_base::{Fault, Texts};
+use org_inherit::Inherits;
+use org_rows::ReadFile;
+use org_text::Whole;
+use std::alloc::{AllocError, Global};
+use std::str;
 
 /// A text with a line of keywords behind it, where it has none of its own. Setting lines count wherever they stand, so every
 /// place of the text stays what it was.
-pub fn with_keywords(mut text: String, words: &str) -> Result<String, AllocError> {
-    if text.as_str().split('\n').any(|line| is_keyword_line(line)) {
+pub fn with_keywords(alloc: Global, text: String, words: &str) -> Result<String, Fault> {
+    if names_keywords(alloc, text.as_str())? {
         return Ok(text);
     }
+    Ok(with_line(text, words)?)
+}
+
+fn with_line(mut text: String, words: &str) -> Result<String, AllocError> {
     if !text.as_str().is_empty() && !text.as_str().ends_with('\n') {
         text.push_str("\n")?;
     }
@@ -17,12 +27,84 @@ pub fn with_keywords(mut text: String, words: &str) -> Result<String, AllocError
     Ok(text)
 }
 
-// Whether a line sets keywords.
+// Whether a text names keywords of its own. Where it has blocks the line that does may stand in one, and is text then.
+fn names_keywords(alloc: Global, text: &str) -> Result<bool, Fault> {
+    if !text.split('\n').any(|line| is_keyword_line(line)) {
+        return Ok(false);
+    }
+    if !text.split('\n').any(|line| begins_block(line)) {
+        return Ok(true);
+    }
+    are_before(alloc, with_line(String::from_str(alloc, text)?, PROBE)?)
+}
+
+// A keyword that no file has.
+const PROBE: &str = "\u{1}";
+
+// Whether other keywords stand in a text before the one that was put behind it.
+fn are_before(alloc: Global, text: String) -> Result<bool, Fault> {
+    let text = Whole::of_string(alloc, text)?;
+    let file = ReadFile::new(alloc, String::new(alloc), String::new(alloc), text)?;
+    let inherited = Texts::new(alloc);
+    let inherit = file.inherit(alloc, &inherited)?;
+    Ok(inherit.settings().keyword_place(PROBE.as_bytes()) != Some(0))
+}
+
+fn begins_block(line: &str) -> bool {
+    match line.trim_start_matches(is_space).get(..8) {
+        Some(front) => front.eq_ignore_ascii_case("#+begin_"),
+        None => false,
+    }
+}
+
+// White space of Org's lines.
+fn is_space(character: char) -> bool {
+    matches!(character, ' ' | '\t' | '\r')
+}
+
+// Whether a line sets keywords: it names one, or more.
 fn is_keyword_line(line: &str) -> bool {
-    let Some((key, _)) = line.trim_start().split_once(':') else {
+    let Some((key, value)) = line.trim_start_matches(is_space).split_once(':') else {
         return false;
     };
+    is_keyword_key(key) && value.split(is_space).any(|word| is_keyword(word))
+}
+
+fn is_keyword_key(key: &str) -> bool {
     key.eq_ignore_ascii_case("#+todo")
         || key.eq_ignore_ascii_case("#+seq_todo")
         || key.eq_ignore_ascii_case("#+typ_todo")
+}
+
+// Whether a word is a keyword, with what may stand in parentheses behind it, and no bar.
+fn is_keyword(word: &str) -> bool {
+    let name = match word.split_once('(') {
+        Some((name, _)) if word.ends_with(')') => name,
+        _ => word,
+    };
+    !name.is_empty() && name != "|"
+}
+
+/// Says which words are keywords of no file.
+pub fn say_unknown<R: Eprint + AllocGlobal>(rt: &R, inherits: &Inherits<'_>, words: &Texts) {
+    for place in 0..words.count() {
+        say_if_unknown(rt, inherits, words.get(place));
+    }
+}
+
+fn say_if_unknown<R: Eprint + AllocGlobal>(rt: &R, inherits: &Inherits<'_>, word: &[u8]) {
+    let is_known = (0..inherits.count())
+        .any(|place| inherits.get(place).settings().keyword_place(word).is_some());
+    let Ok(text) = str::from_utf8(word) else {
+        return;
+    };
+    if is_known {
+        return;
+    }
+    let why = if text.contains('|') {
+        "no keyword of these files: several stand with spaces between them"
+    } else {
+        "no keyword of these files"
+    };
+    say_of(rt, text, why);
 }

@@ -5,32 +5,44 @@ mod arguments;
 mod ask;
 mod clock;
 mod coming;
+mod environment;
 mod exit;
 mod files;
 mod keywords;
 mod options;
+mod problem;
+mod say;
 mod session;
 mod show;
 mod sources;
 mod table;
+mod usage;
 mod view;
 
 use crate::arguments::command;
-use crate::exit::{BAD_ARGUMENTS, STOPPED};
+use crate::exit::BAD_ARGUMENTS;
+use crate::say::{out_of_memory, say};
 use crate::session::run;
+use crate::usage::parser_said;
 use std::env;
-use std::io::IsTerminal;
+use std::io::{ErrorKind, IsTerminal};
 use std::process::ExitCode;
 use std::rt::{Env, Files};
 use std::time::Clock;
 
 fn main(rt: HostRuntime) -> ExitCode {
-    let Ok(words) = env::args(&rt) else {
-        let _ = eprintln!(rt; "orgq: an argument that isn't UTF-8");
-        return ExitCode::from(BAD_ARGUMENTS);
+    let words = match env::args(&rt) {
+        Ok(words) => words,
+        Err(error) if error.kind() == ErrorKind::OutOfMemory => {
+            return ExitCode::from(out_of_memory(&rt));
+        }
+        Err(_) => {
+            say(&rt, "an argument that isn't UTF-8");
+            return ExitCode::from(BAD_ARGUMENTS);
+        }
     };
     let Ok(words) = words.collect::<Vec<String>>(rt.alloc()) else {
-        return ExitCode::from(STOPPED);
+        return ExitCode::from(out_of_memory(&rt));
     };
     let on_terminal = rt.stdout().is_terminal();
     ExitCode::from(start(&rt, words.as_slice(), on_terminal))
@@ -43,17 +55,10 @@ fn start<R: AllocGlobal + Files + Env + Clock + Print + Eprint + Clone + Drop>(
     on_terminal: bool,
 ) -> u8 {
     let Ok(command) = command(rt.alloc()) else {
-        return STOPPED;
+        return out_of_memory(rt);
     };
     match command.try_get_matches_from(words) {
         Ok(matches) => run(rt, &matches, on_terminal),
-        Err(error) if error.use_stderr() => {
-            let _ = eprint!(rt; "{error}");
-            BAD_ARGUMENTS
-        }
-        Err(error) => match print!(rt; "{error}") {
-            Ok(()) => 0,
-            Err(_) => STOPPED,
-        },
+        Err(error) => parser_said(rt, words, &error),
     }
 }

@@ -5,7 +5,7 @@ use clap::ArgMatches;
 use org_base::{Fault, Profile, Texts};
 use std::alloc::{AllocError, Global};
 
-/// The form that the options name: the last of these that is asked for counts.
+/// The form that the options name: of several the first in this order counts.
 pub fn form(matches: &ArgMatches<'_>) -> Form {
     if matches.get_flag("csv") {
         Form::Csv

@@ -1,10 +1,18 @@
 //! Answers as they are printed.
+ghost use Rattle.std.specs.Prelude.{◌≡◌, [], ◌∷◌, ◌++◌};
+ghost use Rattle.org_base.specs.Results.{Adds};
+ghost use Rattle.org_rows.specs.Clean.{IsClean};
+ghost use Rattle.orgq.specs.Shown.{color, color_of, shown_line, shown_text};
 
 use crate::view::{Answer, Line};
 use org_agenda::RowKind;
 use org_base::Fault;
+use org_cal::Period;
 use org_clocktable::Of;
-use org_rows::{FilesRead, OneLine, csv_line, json_line, table_line};
+use org_rows::{
+    Escape, FilesRead, OneLine, ShownSum, csv_line, json_line, push_visible, table_fields,
+    table_line,
+};
 use org_text::Text;
 use std::alloc::{AllocError, Global};
 
@@ -21,11 +29,13 @@ pub enum Form {
     Csv,
 }
 
-/// How an answer is printed: its form, whether late rows and warnings stand out, and the kind of a list's rows.
+/// How an answer is printed: its form, whether late rows and warnings stand out, whether control characters are written so
+/// that they can be seen, and the kind of a list's rows.
 #[derive(Clone, Copy, Debug)]
 pub struct Look {
     pub form: Form,
     pub is_colored: bool,
+    pub is_seen: bool,
     pub list: &'static str,
 }
 
@@ -38,22 +48,38 @@ pub fn printed<T: Text>(
 ) -> Result<Vec<u8>, Fault> {
     let mut out = Vec::new(alloc);
     let mut lines = answer.lines.as_slice();
+    let mut period = None;
     for text in answer.text.as_str().split_inclusive('\n') {
         let Some((line, rest)) = lines.split_first() else {
             return Ok(out);
         };
         lines = rest;
+        if let Line::Step(days) = line {
+            period = Some(*days);
+        }
         let text = text.trim_end_matches('\n');
-        push_line(alloc, &mut out, files, &AnswerLine { line, text }, look)?;
+        let shown = AnswerLine { line, period, text };
+        push_line(alloc, &mut out, files, &shown, look)?;
     }
     Ok(out)
 }
 
-// A line of an answer: what it stands for, and its text.
+// A line of an answer: what it stands for, the days of its clock table, and its text.
 #[derive(Clone, Copy)]
 struct AnswerLine<'a> {
     line: &'a Line,
+    period: Option<Period>,
     text: &'a str,
+}
+
+impl AnswerLine<'_> {
+    // A row of a clock table with its days, where it is one.
+    fn sum(&self) -> Option<ShownSum> {
+        match (self.line, self.period) {
+            (Line::Table(row), Some(period)) => Some(ShownSum { period, row: *row }),
+            _ => None,
+        }
+    }
 }
 
 fn push_line<T: Text>(
@@ -63,28 +89,28 @@ fn push_line<T: Text>(
     shown: &AnswerLine<'_>,
     look: &Look,
 ) -> Result<(), Fault> {
-    let (line, text) = (shown.line, shown.text);
     match look.form {
-        Form::Plain => Ok(push_text(out, line, text, look.is_colored)?),
+        Form::Plain => Ok(push_text(out, shown, look)?),
         Form::Places => {
-            push_place(alloc, out, files, line)?;
-            Ok(push_text(out, line, text, look.is_colored)?)
+            push_place(alloc, out, files, shown.line, look.is_seen)?;
+            Ok(push_text(out, shown, look)?)
         }
-        Form::Json => push_json(alloc, out, files, line, text),
-        Form::Csv => push_csv(alloc, out, files, line, look.list),
+        Form::Json => push_json(alloc, out, files, shown),
+        Form::Csv => push_csv(alloc, out, files, shown, look.list),
     }
 }
 
 // Appends the text of a line, in the colour of its kind where it has one.
 fn push_text(
     out: &mut Vec<u8>,
-    line: &Line,
-    text: &str,
-    is_colored: bool,
-) -> Result<(), AllocError> {
-    let color = if is_colored { color_of(line) } else { "" };
+    shown: &AnswerLine<'_>,
+    look: &Look,
+) -> Result<(), AllocError>
+    ensures { Adds result out.old out.new (shown_line (color look.now shown.now.line.now) look.now.is_seen shown.now.text.now) }
+{
+    let color = if look.is_colored { color_of(shown.line) } else { "" };
     out.extend_from_slice(color.as_bytes())?;
-    out.extend_from_slice(text.as_bytes())?;
+    push_seen(out, shown.text, look.is_seen)?;
     if !color.is_empty() {
         out.extend_from_slice(b"\x1b[0m")?;
     }
@@ -92,10 +118,23 @@ fn push_text(
     Ok(())
 }
 
+// Appends a text; its control characters so that they can be seen, if that is wanted.
+fn push_seen(out: &mut Vec<u8>, text: &str, is_seen: bool) -> Result<(), AllocError>
+    ensures { Adds result out.old out.new (shown_text is_seen text.now) }
+{
+    if is_seen {
+        return push_visible(out, text.as_bytes(), Escape::Caret);
+    }
+    out.extend_from_slice(text.as_bytes())?;
+    Ok(())
+}
+
 // Days are bold, late rows red, and warnings yellow.
-fn color_of(line: &Line) -> &'static str {
+fn color_of(line: &Line) -> &'static str
+    ensures { result.now ≡ color_of line.now }
+{
     match line {
-        Line::Heading => "\x1b[1m",
+        Line::Heading | Line::Step(_) => "\x1b[1m",
         Line::Row(shown) => match shown.row.kind {
             RowKind::LateSchedule | RowKind::LateDeadline => "\x1b[31m",
             RowKind::Warning => "\x1b[33m",
@@ -105,12 +144,14 @@ fn color_of(line: &Line) -> &'static str {
     }
 }
 
-// Appends the file and the line of a row's heading.
+// Appends the file and the line of a row's heading; before a row of a clock table, which begins with a number, a space, so
+// that editors take no number of it as a column.
 fn push_place<T: Text>(
     alloc: Global,
     out: &mut Vec<u8>,
     files: &FilesRead<'_, '_, T>,
     line: &Line,
+    is_seen: bool,
 ) -> Result<(), AllocError> {
     let Some((file, heading)) = heading_of(line) else {
         return Ok(());
@@ -118,12 +159,15 @@ fn push_place<T: Text>(
     let Some(place) = files.library.place(file, heading) else {
         return Ok(());
     };
+    if file < files.library.count() {
+        push_seen(out, files.library.file(file).name(), is_seen)?;
+    }
     let number = place.line;
     let text = format!(in alloc; ":{number}:")?;
-    if file < files.library.count() {
-        out.extend_from_slice(files.library.file(file).name().as_bytes())?;
-    }
     out.extend_from_slice(text.as_bytes())?;
+    if matches!(line, Line::Table(_)) {
+        out.push(b' ')?;
+    }
     Ok(())
 }
 
@@ -135,7 +179,7 @@ fn heading_of(line: &Line) -> Option<(usize, usize)> {
             Of::Heading(file, place, _) => Some((file, place)),
             Of::All | Of::File(_) => None,
         },
-        Line::Heading => None,
+        Line::Heading | Line::Step(_) => None,
     }
 }
 
@@ -143,35 +187,40 @@ fn push_json<T: Text>(
     alloc: Global,
     out: &mut Vec<u8>,
     files: &FilesRead<'_, '_, T>,
-    line: &Line,
-    text: &str,
+    shown: &AnswerLine<'_>,
 ) -> Result<(), Fault> {
-    let object = match line {
-        Line::Heading => return Ok(()),
-        Line::Row(shown) => json_line(alloc, files, shown, text.as_bytes())?,
-        Line::Table(row) => table_line(alloc, files, row, text.as_bytes())?,
-    };
-    push_whole(out, &object)?;
+    let text = shown.text.as_bytes();
+    if let Line::Row(row) = shown.line {
+        push_whole(out, &json_line(alloc, files, row, text)?)?;
+    }
+    if let Some(sum) = shown.sum() {
+        push_whole(out, &table_line(alloc, files, &sum, text)?)?;
+    }
     Ok(())
 }
 
-// Appends the fields of a row; a clock table has none.
+// Appends the fields of a row.
 fn push_csv<T: Text>(
     alloc: Global,
     out: &mut Vec<u8>,
     files: &FilesRead<'_, '_, T>,
-    line: &Line,
+    shown: &AnswerLine<'_>,
     list: &str,
 ) -> Result<(), Fault> {
-    let Line::Row(shown) = line else {
-        return Ok(());
-    };
-    let fields = csv_line(alloc, files, shown, list)?;
-    push_whole(out, &fields)?;
+    if let Line::Row(row) = shown.line {
+        push_whole(out, &csv_line(alloc, files, row, list)?)?;
+    }
+    if let Some(sum) = shown.sum() {
+        push_whole(out, &table_fields(alloc, files, &sum)?)?;
+    }
     Ok(())
 }
 
-fn push_whole(out: &mut Vec<u8>, line: &OneLine) -> Result<(), AllocError> {
+// Appends a line, which has no control character, and a line feed.
+fn push_whole(out: &mut Vec<u8>, line: &OneLine) -> Result<(), AllocError>
+    ensures ok { Adds result out.old out.new (line.now ++ 10 ∷ []) }
+    ensures clean { IsClean line.now }
+{
     out.extend_from_slice(line.as_slice())?;
     out.push(b'\n')?;
     Ok(())

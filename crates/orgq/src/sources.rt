@@ -1,15 +1,17 @@
 //! Which files are asked, and what comes of loading them.
 
-use crate::ask::Problem;
-use crate::files::{load, push_paths};
+use crate::environment::variable;
+use crate::files::{LeftOut, Named, load, push_paths, read_whole, real_path};
 use crate::options::is_path;
+use crate::problem::Problem;
+use crate::say::{say, say_of};
 use clap::ArgMatches;
-use org_base::{Code, Fault};
 use org_rows::Library;
 use org_text::Whole;
 use std::alloc::{AllocError, Global};
+use std::io::ErrorKind;
 use std::rt::{Env, Files};
-use std::{env, fs};
+use std::fs;
 
 /// The paths that the arguments name; without any those of `ORGQ_FILES`, else those of the configuration folder's list.
 pub fn paths<R: AllocGlobal + Files + Env>(
@@ -22,15 +24,14 @@ pub fn paths<R: AllocGlobal + Files + Env>(
     }
     let named = matches.get_strs("file").unwrap_or(&[]);
     let paths = if named.is_empty() && bare.is_empty() {
-        listed(rt)
+        listed(rt)?
     } else {
-        joined(rt.alloc(), named, bare)
+        joined(rt.alloc(), named, bare)?
     };
-    match paths {
-        Ok(paths) if paths.is_empty() => Err(Problem::Files),
-        Ok(paths) => Ok(paths),
-        Err(_) => Err(Problem::Fault(Fault::Plain(Code::Memory))),
+    if paths.is_empty() {
+        return Err(Problem::Files);
     }
+    Ok(paths)
 }
 
 fn joined(alloc: Global, named: &[&str], bare: &[&str]) -> Result<Vec<String>, AllocError> {
@@ -42,22 +43,59 @@ fn joined(alloc: Global, named: &[&str], bare: &[&str]) -> Result<Vec<String>, A
 }
 
 // The paths of `ORGQ_FILES`, else of the configuration folder's list.
-fn listed<R: AllocGlobal + Files + Env>(rt: &R) -> Result<Vec<String>, AllocError> {
-    if let Ok(paths) = env::var(rt, "ORGQ_FILES") {
-        return split(rt.alloc(), paths.as_str(), ':', "");
+fn listed<R: AllocGlobal + Files + Env>(rt: &R) -> Result<Vec<String>, Problem> {
+    match variable(rt, "ORGQ_FILES", "ORGQ_FILES isn't UTF-8")? {
+        Some(paths) => Ok(split(rt.alloc(), paths.as_str(), ':', "")?),
+        None => in_list(rt),
     }
-    let home = match env::var(rt, "HOME") {
-        Ok(home) => home,
-        Err(_) => String::new(rt.alloc()),
+}
+
+// The paths of the configuration folder's list; none where there is no list.
+fn in_list<R: AllocGlobal + Files + Env>(rt: &R) -> Result<Vec<String>, Problem> {
+    let home = match variable(rt, "HOME", "HOME isn't UTF-8")? {
+        Some(home) => home,
+        None => String::new(rt.alloc()),
     };
-    let home = home.as_str();
-    let list = match env::var(rt, "XDG_CONFIG_HOME") {
-        Ok(folder) if !folder.as_str().is_empty() => format!(in rt.alloc(); "{folder}/orgq/files")?,
-        _ => format!(in rt.alloc(); "{home}/.config/orgq/files")?,
+    let list = list_of(rt, home.as_str())?;
+    match list_text(rt, list.as_str())? {
+        Some(text) => Ok(split(rt.alloc(), text.as_str(), '\n', home.as_str())?),
+        None => Ok(Vec::new(rt.alloc())),
+    }
+}
+
+// The path of the list.
+fn list_of<R: AllocGlobal + Env>(rt: &R, home: &str) -> Result<String, Problem> {
+    let folder = variable(rt, "XDG_CONFIG_HOME", "XDG_CONFIG_HOME isn't UTF-8")?;
+    match folder {
+        Some(folder) if !folder.as_str().is_empty() => {
+            Ok(format!(in rt.alloc(); "{folder}/orgq/files")?)
+        }
+        _ => Ok(format!(in rt.alloc(); "{home}/.config/orgq/files")?),
+    }
+}
+
+// The text of the list, if there is a list.
+fn list_text<R: AllocGlobal + Files>(rt: &R, list: &str) -> Result<Option<String>, Problem> {
+    match fs::metadata(rt, list) {
+        Ok(metadata) if metadata.is_file() => {}
+        Ok(_) => return Err(Problem::List),
+        Err(error) => {
+            return match error.kind() {
+                ErrorKind::NotFound | ErrorKind::NotADirectory => Ok(None),
+                _ => Err(Problem::List),
+            };
+        }
+    }
+    let Ok(mut file) = fs::open(rt, list) else {
+        return Err(Problem::List);
     };
-    match fs::read_to_string(rt, list.as_str()) {
-        Ok(lines) => split(rt.alloc(), lines.as_str(), '\n', home),
-        Err(_) => Ok(Vec::new(rt.alloc())),
+    match read_whole(rt.alloc(), &mut file) {
+        Ok(bytes) => match String::from_utf8(bytes) {
+            Ok(text) => Ok(Some(text)),
+            Err(_) => Err(Problem::List),
+        },
+        Err(LeftOut::Memory) => Err(Problem::from(AllocError)),
+        Err(LeftOut::Because(_)) => Err(Problem::List),
     }
 }
 
@@ -82,41 +120,90 @@ fn split(
     Ok(paths)
 }
 
-/// Loads the files that paths stand for; says which can't be loaded, and whether there are such.
+// What was left out so far: whether there is such, and how many files past those that there may be.
+#[derive(Clone, Copy)]
+struct Missing {
+    is_some: bool,
+    past: u64,
+}
+
+/// Loads the files that paths stand for, each once; says which can't be loaded, and gives whether there are such.
 pub fn load_all<R: AllocGlobal + Files + Eprint + Clone + Drop>(
     rt: &R,
     library: &mut Library<Whole>,
     paths: &[String],
     keywords: Option<&str>,
-) -> bool {
-    let mut left_out = false;
+) -> Result<bool, AllocError> {
+    let mut missing = Missing {
+        is_some: false,
+        past: 0,
+    };
     for path in paths {
-        left_out = !is_loaded(rt, library, path.as_str(), keywords) || left_out;
+        load_path(rt, library, path.as_str(), keywords, &mut missing)?;
     }
-    left_out
+    let past = missing.past;
+    if past > 0 {
+        let text = format!(in rt.alloc(); "{past} files are left out: no more than 256 are read")?;
+        say(rt, text.as_str());
+    }
+    Ok(missing.is_some || past > 0)
 }
 
-// Loads the files that a path stands for, and says whether all could be loaded.
-fn is_loaded<R: AllocGlobal + Files + Eprint + Clone + Drop>(
+// Loads the files that a path stands for.
+fn load_path<R: AllocGlobal + Files + Eprint + Clone + Drop>(
     rt: &R,
     library: &mut Library<Whole>,
     path: &str,
     keywords: Option<&str>,
-) -> bool {
+    missing: &mut Missing,
+) -> Result<(), AllocError> {
     let mut files = Vec::new(rt.alloc());
-    if push_paths(rt, &mut files, path).is_err() {
-        return leave_out(rt, path, "can't be read");
-    }
-    let mut all = true;
-    for file in files.as_slice() {
-        if let Err(why) = load(rt, rt.alloc(), library, file.as_str(), keywords) {
-            all = leave_out(rt, file.as_str(), why);
+    match push_paths(rt, &mut files, path) {
+        Ok(0) => {}
+        Ok(passed) => {
+            let why = format!(in rt.alloc(); "names that aren't UTF-8 are passed over: {passed}")?;
+            leave_out(rt, path, why.as_str(), missing);
         }
+        Err(error) if error.kind() == ErrorKind::OutOfMemory => return Err(AllocError),
+        Err(_) => leave_out(rt, path, "can't be read", missing),
     }
-    all
+    for file in files.as_slice() {
+        load_file(rt, library, file.as_str(), keywords, missing)?;
+    }
+    Ok(())
 }
 
-fn leave_out<R: Eprint + Alloc>(rt: &R, path: &str, why: &str) -> bool {
-    let _ = eprintln!(rt; "orgq: {path}: {why}");
-    false
+// Loads a file, unless it is there.
+fn load_file<R: AllocGlobal + Files + Eprint>(
+    rt: &R,
+    library: &mut Library<Whole>,
+    name: &str,
+    keywords: Option<&str>,
+    missing: &mut Missing,
+) -> Result<(), AllocError> {
+    let path = real_path(rt, name)?;
+    if library.has(path.as_str()) {
+        return Ok(());
+    }
+    if library.is_full() {
+        missing.past = missing.past.saturating_add(1);
+        return Ok(());
+    }
+    let named = Named {
+        name,
+        path: path.as_str(),
+    };
+    match load(rt, library, named, keywords) {
+        Ok(()) => Ok(()),
+        Err(LeftOut::Memory) => Err(AllocError),
+        Err(LeftOut::Because(why)) => {
+            leave_out(rt, name, why, missing);
+            Ok(())
+        }
+    }
+}
+
+fn leave_out<R: Eprint + AllocGlobal>(rt: &R, path: &str, why: &str, missing: &mut Missing) {
+    say_of(rt, path, why);
+    missing.is_some = true;
 }

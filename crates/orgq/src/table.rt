@@ -1,7 +1,7 @@
 //! Clock tables, with what each line stands for.
 ghost use Rattle.org_rows.specs.Files.{AreRead};
 
-use crate::view::{Answer, push_lines};
+use crate::view::{Answer, Line};
 use org_base::Fault;
 use org_cal::Moment;
 use org_clocktable::{TableSpec, counted_files, step_rows};
@@ -43,6 +43,9 @@ fn push_step(
     step: &TableStep<'_>,
 ) -> Result<(), Fault> {
     table_text(alloc, &mut answer.text, inherits, with_effort, step)?;
-    push_lines(&mut answer.lines, &None, &[], step.rows)?;
+    answer.lines.push(Line::Step(*step.period))?;
+    for row in step.rows {
+        answer.lines.push(Line::Table(*row))?;
+    }
     Ok(())
 }

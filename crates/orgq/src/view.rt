@@ -8,7 +8,7 @@ ghost use Rattle.orgq.specs.Views.{ShowsDays, ShowsList, ShowsListing, lines_of,
 
 use org_agenda::{Agenda, Row, Standpoint, match_rows, sources_of, todo_rows};
 use org_base::{Fault, Texts};
-use org_cal::{Day, LAST_DAY, Moment};
+use org_cal::{Day, LAST_DAY, Moment, Period};
 use org_clocktable::TableRow;
 use org_inherit::Inherits;
 use org_layout::{agenda_text, list_text};
@@ -16,10 +16,11 @@ use org_match::Match;
 use org_rows::ShownRow;
 use std::alloc::{AllocError, Global};
 
-/// What a line of a view stands for: a day or a step of a clock table, a row, or a row of a clock table.
+/// What a line of a view stands for: a day, a step of a clock table, a row, or a row of a clock table.
 #[derive(Clone, Copy, Debug, PartialEq, Eq)]
 pub enum Line {
     Heading,
+    Step(Period),
     Row(ShownRow),
     Table(TableRow),
 }
@@ -34,7 +35,9 @@ pub struct Answer {
 impl Answer {
     /// Whether a row has a line.
     pub fn has_row(&self) -> bool {
-        self.lines.iter().any(|line| !matches!(line, Line::Heading))
+        self.lines
+            .iter()
+            .any(|line| matches!(line, Line::Row(_) | Line::Table(_)))
     }
 }
 

@@ -1,0 +1,101 @@
+//! Why nothing is answered.
+
+use crate::exit::BAD_ARGUMENTS;
+use crate::say::{out_of_memory, say, seen};
+use org_base::{Code, Fault};
+use std::alloc::AllocError;
+use unicode_width::UnicodeWidthStr;
+
+/// Why nothing is answered.
+#[derive(Clone, Copy, Debug)]
+pub enum Problem {
+    Clock,
+    Color,
+    Command,
+    Date,
+    Days,
+    DaysOf,
+    /// A variable of the environment isn't UTF-8.
+    Environment(&'static str),
+    Files,
+    List,
+    Moment,
+    Step,
+    Fault(Fault),
+}
+
+impl From<Fault> for Problem {
+    fn from(fault: Fault) -> Problem {
+        Problem::Fault(fault)
+    }
+}
+
+impl From<AllocError> for Problem {
+    fn from(refused: AllocError) -> Problem {
+        Problem::Fault(Fault::from(refused))
+    }
+}
+
+impl Problem {
+    /// What standard error says of it.
+    fn why(self) -> &'static str {
+        match self {
+            Problem::Clock => {
+                "neither clock nor time zone can be read (TZ, /etc/localtime): --at names the moment"
+            }
+            Problem::Color => "--color is auto, always or never",
+            Problem::Command => "no such command; for a file or folder write -f before its name",
+            Problem::Date => "no such date: a date is written as 2024-02-28",
+            Problem::Days => "days past 9999-12-31",
+            Problem::DaysOf => "-d is an option of agenda and next",
+            Problem::Environment(why) => why,
+            Problem::Files => "no files: name them by -f, ORGQ_FILES or ~/.config/orgq/files",
+            Problem::List => {
+                "the list of files, orgq/files in XDG_CONFIG_HOME or ~/.config, can't be read as a file of UTF-8"
+            }
+            Problem::Moment => "no such moment: --at takes one as \"2024-02-28 10:30\"",
+            Problem::Step => "--step is day or week",
+            Problem::Fault(fault) => why_code(fault.code()),
+        }
+    }
+}
+
+fn why_code(code: Code) -> &'static str {
+    match code {
+        Code::Option => {
+            "no such block of time; there are today, yesterday, thisweek, lastweek, thismonth, lastmonth, thisyear, lastyear, and such as 2024, 2024-Q1, 2024-02, 2024-W09, 2024-02-28"
+        }
+        Code::Regexp => {
+            "a pattern in braces is refused: patterns are those of the regex crate, of at most some size"
+        }
+        Code::Long => "an expression of over 65,536 bytes",
+        code => code.name(),
+    }
+}
+
+/// Says why nothing was answered, and gives the status; of an expression also where it is none, by a caret below it.
+pub fn stopped<R: Eprint + AllocGlobal>(rt: &R, problem: Problem, expression: &str) -> u8 {
+    match problem {
+        Problem::Fault(fault) if fault.code() == Code::Memory => out_of_memory(rt),
+        Problem::Fault(Fault::MatchAt(at)) => point_at(rt, expression, at as usize),
+        _ => {
+            say(rt, problem.why());
+            BAD_ARGUMENTS
+        }
+    }
+}
+
+// Shows an expression with a caret below the character behind the bytes that still begin one.
+fn point_at<R: Eprint + AllocGlobal>(rt: &R, expression: &str, at: usize) -> u8 {
+    let before = expression.get(..at).unwrap_or(expression);
+    let Some(before) = seen(rt.alloc(), before) else {
+        return out_of_memory(rt);
+    };
+    let Some(whole) = seen(rt.alloc(), expression) else {
+        return out_of_memory(rt);
+    };
+    let width = before.as_str().width().saturating_add(13);
+    let _ = eprintln!(rt; "orgq: match {whole}");
+    let _ = eprintln!(rt; "{:>width$}", "^");
+    BAD_ARGUMENTS
+}

@@ -1,0 +1,1 @@
+printf '#+CATEGORY: "x\n* TODO "a" "b\n' > quoted.org

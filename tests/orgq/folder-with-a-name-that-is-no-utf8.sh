@@ -1,0 +1,3 @@
+mkdir odd
+printf '* TODO a\n' > odd/a.org
+: > "$(printf 'odd/\377.txt')"

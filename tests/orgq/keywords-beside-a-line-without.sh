@@ -1,0 +1,1 @@
+printf '#+TODO: | \n* NEXT a\n* DONE b\n' > bare.org
