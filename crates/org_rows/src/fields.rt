@@ -111,10 +111,10 @@ fn push_place<T: Text>(
     file: usize,
     place: usize,
 ) -> Result<(), Fault> {
-    let (Some(at), Some(heading)) = (
-        files.library.place(file, place),
-        Heading::find(files.inherits, file, place),
-    ) else {
+    let Some(at) = files.library.place(file, place) else {
+        return Ok(push_empty(line, 4)?);
+    };
+    let Some(heading) = Heading::find(files.inherits, file, place) else {
         return Ok(push_empty(line, 4)?);
     };
     push_number(alloc, line, u64::from(at.line))?;

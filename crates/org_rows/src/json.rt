@@ -94,12 +94,7 @@ fn push_day(alloc: Global, line: &mut OneLine, day: Option<Day>) -> Result<(), A
     }
 }
 
-fn push_date_as(
-    alloc: Global,
-    line: &mut OneLine,
-    name: &str,
-    day: Day,
-) -> Result<(), AllocError> {
+fn push_date_as(alloc: Global, line: &mut OneLine, name: &str, day: Day) -> Result<(), AllocError> {
     let mut date = String::new(alloc);
     push_date(&mut date, day)?;
     line.text(name, date.as_bytes())

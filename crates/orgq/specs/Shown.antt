@@ -1,9 +1,12 @@
 -- How lines are printed (profile): colours as terminals have them (ECMA-48, "SGR").
-use Rattle.std.specs.Prelude.{ℕ, Bool, true, false, if◌then◌else◌, List, [], ◌∷◌, ◌++◌, codes, length, ◌==◌}
+use Rattle.std.specs.Prelude.{◌≡◌, ℕ, Bool, true, false, if◌then◌else◌, List, [], ◌∷◌, ◌++◌, codes, decimal, length, ◌==◌, ◌⊎◌, Result, OnOk, Vec}
 use Rattle.org_agenda.specs.declared.row.RowKind.{RowKind}
 use Rattle.org_agenda.specs.declared.row.RowKind.TheVariants.{LateSchedule, LateDeadline, Warning}
+use Rattle.org_rows.specs.Clean.{IsClean}
 use Rattle.org_rows.specs.Visible.{visible}
 use Rattle.org_rows.specs.declared.visible.Escape.TheVariants.{Caret}
+use Rattle.orgq.specs.declared.show.Form.{Form}
+use Rattle.orgq.specs.declared.show.Form.TheVariants.{Plain, Places, Json, Csv}
 use Rattle.orgq.specs.declared.show.Look.{Look}
 use Rattle.orgq.specs.declared.view.Line.{Line}
 use Rattle.orgq.specs.declared.view.Line.TheVariants.{Heading, Step, Row, Table}
@@ -32,3 +35,46 @@ shown_text is_seen text = if is_seen then visible Caret text else text
 -- a line in a colour
 abbrev pub shown_line : List ℕ → Bool → List ℕ → List ℕ
 shown_line color is_seen text = color ++ shown_text is_seen text ++ (if length color == 0 then [] else 27 ∷ codes "[0m") ++ 10 ∷ []
+
+-- no control character of a file may stand in what is printed in this form
+abbrev pub is_safe : Form → Bool → Bool
+is_safe Plain is_seen = is_seen
+is_safe Places is_seen = is_seen
+is_safe Json is_seen = true
+is_safe Csv is_seen = true
+
+abbrev pub IsSafe : Look → Type 0
+IsSafe look = is_safe look.form look.is_seen ≡ true
+
+-- one of our colours, or none
+abbrev pub IsColor : List ℕ → Type 0
+IsColor color = (color ≡ []) ⊎ ((line : Line) × (color ≡ color_of line))
+
+-- what stands before a colour of ours, and a text behind it: neither has a control character
+pub record IsCleanLine (bytes : List ℕ) : Type 0 where
+  pub front : List ℕ
+  pub color : List ℕ
+  pub text : List ℕ
+  pub clean_front : IsClean front
+  pub is_color : IsColor color
+  pub clean_text : IsClean text
+  pub made : bytes ≡ front ++ shown_line color false text
+
+-- nothing but such lines
+pub data AreCleanLines : List ℕ → Type 0 where
+  no_line : AreCleanLines []
+  one_more : (bytes line : List ℕ) → AreCleanLines bytes → IsCleanLine line → AreCleanLines (bytes ++ line)
+
+-- such lines stay such lines
+abbrev pub KeepsClean : {T E A : Type 0} → Result T E → Vec ℕ A → Vec ℕ A → Type 0
+KeepsClean result old new = AreCleanLines old.items → OnOk result (AreCleanLines new.items)
+
+-- a text without control characters behind others
+pub record AddsClean (old new : List ℕ) : Type 0 where
+  pub text : List ℕ
+  pub clean : IsClean text
+  pub added : new ≡ old ++ text
+
+-- the number of a line behind a file's name
+abbrev pub number_text : ℕ → Bool → List ℕ
+number_text number is_spaced = 58 ∷ decimal number ++ 58 ∷ (if is_spaced then 32 ∷ [] else [])

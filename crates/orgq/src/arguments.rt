@@ -50,7 +50,12 @@ pub fn command<'a>(alloc: Global) -> Result<Command<'a>, AllocError> {
     let agenda = agenda.arg(word(alloc, "DATE", "The first day, as 2024-02-28"))?;
     let todo = Command::new(alloc, "todo").about("The open entries, or those with some keyword");
     let list = Command::new(alloc, "match").about("The entries of which an expression holds");
-    let list = list.arg(word(alloc, "EXPR", "The expression, as work/!NEXT; behind -- where it begins with a minus").required(true))?;
+    let list = list.arg(word(
+        alloc,
+        "EXPR",
+        "The expression, as work/!NEXT; behind -- where it begins with a minus",
+    )
+    .required(true))?;
     let clock = Command::new(alloc, "clock").about("A clock table, by default this week's");
     let clock = clock.arg(word(alloc, "BLOCK", "A block of time, as today or 2024-W09"))?;
     let next = Command::new(alloc, "next").about("What comes next of each stamp, by time");

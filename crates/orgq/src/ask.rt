@@ -70,11 +70,7 @@ pub fn read_question<'a>(
 }
 
 // What a command asks for that has no days of its own.
-fn asked_list<'a>(
-    alloc: Global,
-    name: &str,
-    own: &ArgMatches<'a>,
-) -> Result<Asked<'a>, Problem> {
+fn asked_list<'a>(alloc: Global, name: &str, own: &ArgMatches<'a>) -> Result<Asked<'a>, Problem> {
     match name {
         "todo" => Ok(Asked::Todo(texts(alloc, own.get_strs("KEYWORD"))?)),
         "match" => Ok(Asked::Match(own.get_str("EXPR").unwrap_or(""))),
@@ -82,11 +78,7 @@ fn asked_list<'a>(
     }
 }
 
-fn asked_days(
-    own: &ArgMatches<'_>,
-    days: Option<u32>,
-    moment: &Moment,
-) -> Result<Days, Problem> {
+fn asked_days(own: &ArgMatches<'_>, days: Option<u32>, moment: &Moment) -> Result<Days, Problem> {
     let first = match own.get_str("DATE") {
         Some(text) => match Day::spelled(text.as_bytes()) {
             Some(day) => day,
@@ -108,7 +100,10 @@ fn asked_table<'a>(alloc: Global, own: &ArgMatches<'a>) -> Result<Asked<'a>, Pro
     if !matches!(own.get_str("step"), None | Some("day" | "week")) {
         return Err(Problem::Step);
     }
-    if own.get_str("BLOCK").is_some_and(|block| block.contains(' ')) {
+    if own
+        .get_str("BLOCK")
+        .is_some_and(|block| block.contains(' '))
+    {
         return Err(Problem::Fault(Fault::Plain(Code::Option)));
     }
     let text = clock_options(alloc, own)?;

@@ -48,9 +48,7 @@ fn named_zone<R: AllocGlobal + Files + Env>(rt: &R) -> Result<TimeZoneDatabase, 
     };
     let name = name.as_str().trim_start_matches(':');
     if name.split('/').any(|part| part == "..") {
-        return Err(Problem::Environment(
-            "TZ leads out of the folder of time zones",
-        ));
+        return Err(Problem::Environment("TZ leads out of the folder of time zones"));
     }
     if let Some(bytes) = zone_bytes(rt, name)? {
         if let Err(Error::OutOfMemory) = zones.insert(name, bytes.as_slice()) {

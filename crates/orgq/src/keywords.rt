@@ -93,18 +93,28 @@ pub fn say_unknown<R: Eprint + AllocGlobal>(rt: &R, inherits: &Inherits<'_>, wor
 }
 
 fn say_if_unknown<R: Eprint + AllocGlobal>(rt: &R, inherits: &Inherits<'_>, word: &[u8]) {
-    let is_known = (0..inherits.count())
-        .any(|place| inherits.get(place).settings().keyword_place(word).is_some());
     let Ok(text) = str::from_utf8(word) else {
         return;
     };
-    if is_known {
-        return;
+    if !is_known(inherits, word) {
+        say_of(rt, text, why_unknown(text));
     }
-    let why = if text.contains('|') {
+}
+
+fn why_unknown(word: &str) -> &'static str {
+    if word.contains('|') {
         "no keyword of these files: several stand with spaces between them"
     } else {
         "no keyword of these files"
-    };
-    say_of(rt, text, why);
+    }
+}
+
+// Whether a word is a keyword of a file.
+fn is_known(inherits: &Inherits<'_>, word: &[u8]) -> bool {
+    for place in 0..inherits.count() {
+        if inherits.get(place).settings().keyword_place(word).is_some() {
+            return true;
+        }
+    }
+    false
 }

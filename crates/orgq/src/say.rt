@@ -11,11 +11,9 @@ use std::alloc::Global;
 pub fn say<R: Eprint + AllocGlobal>(rt: &R, text: &str) {
     let _ = match seen(rt.alloc(), text) {
         Some(line) => eprintln!(rt; "orgq: {line}"),
-        None => eprintln!(rt; "orgq: {OUT_OF_MEMORY}"),
+        None => eprintln!(rt; "orgq: out of memory"),
     };
 }
-
-const OUT_OF_MEMORY: &str = "out of memory";
 
 /// Says what is wrong with something.
 pub fn say_of<R: Eprint + AllocGlobal>(rt: &R, what: &str, why: &str) {
@@ -27,7 +25,7 @@ pub fn say_of<R: Eprint + AllocGlobal>(rt: &R, what: &str, why: &str) {
 
 /// Says that memory was refused, and gives the status.
 pub fn out_of_memory<R: Eprint>(rt: &R) -> u8 {
-    let _ = eprintln!(rt; "orgq: {OUT_OF_MEMORY}");
+    let _ = eprintln!(rt; "orgq: out of memory");
     STOPPED
 }
 

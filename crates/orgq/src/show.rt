@@ -1,8 +1,7 @@
 //! Answers as they are printed.
-ghost use Rattle.std.specs.Prelude.{◌≡◌, [], ◌∷◌, ◌++◌};
+ghost use Rattle.std.specs.Prelude.{◌≡◌, [], ◌∷◌, ◌++◌, true, IfOk, OnOk};
 ghost use Rattle.org_base.specs.Results.{Adds};
-ghost use Rattle.org_rows.specs.Clean.{IsClean};
-ghost use Rattle.orgq.specs.Shown.{color, color_of, shown_line, shown_text};
+ghost use Rattle.orgq.specs.Shown.{AddsClean, AreCleanLines, IsSafe, KeepsClean, color, color_of, number_text, shown_line, shown_text};
 
 use crate::view::{Answer, Line};
 use org_agenda::RowKind;
@@ -45,7 +44,9 @@ pub fn printed<T: Text>(
     files: &FilesRead<'_, '_, T>,
     answer: &Answer,
     look: &Look,
-) -> Result<Vec<u8>, Fault> {
+) -> Result<Vec<u8>, Fault>
+    ensures clean { IsSafe look.now → IfOk result (λ out. AreCleanLines out.items) }
+{
     let mut out = Vec::new(alloc);
     let mut lines = answer.lines.as_slice();
     let mut period = None;
@@ -88,27 +89,26 @@ fn push_line<T: Text>(
     files: &FilesRead<'_, '_, T>,
     shown: &AnswerLine<'_>,
     look: &Look,
-) -> Result<(), Fault> {
+) -> Result<(), Fault>
+    ensures clean { IsSafe look.now → KeepsClean result out.old out.new }
+{
     match look.form {
         Form::Plain => Ok(push_text(out, shown, look)?),
-        Form::Places => {
-            push_place(alloc, out, files, shown.line, look.is_seen)?;
-            Ok(push_text(out, shown, look)?)
-        }
+        Form::Places => Ok(push_placed(alloc, out, files, shown, look)?),
         Form::Json => push_json(alloc, out, files, shown),
         Form::Csv => push_csv(alloc, out, files, shown, look.list),
     }
 }
 
 // Appends the text of a line, in the colour of its kind where it has one.
-fn push_text(
-    out: &mut Vec<u8>,
-    shown: &AnswerLine<'_>,
-    look: &Look,
-) -> Result<(), AllocError>
+fn push_text(out: &mut Vec<u8>, shown: &AnswerLine<'_>, look: &Look) -> Result<(), AllocError>
     ensures { Adds result out.old out.new (shown_line (color look.now shown.now.line.now) look.now.is_seen shown.now.text.now) }
 {
-    let color = if look.is_colored { color_of(shown.line) } else { "" };
+    let color = if look.is_colored {
+        color_of(shown.line)
+    } else {
+        ""
+    };
     out.extend_from_slice(color.as_bytes())?;
     push_seen(out, shown.text, look.is_seen)?;
     if !color.is_empty() {
@@ -144,6 +144,21 @@ fn color_of(line: &Line) -> &'static str
     }
 }
 
+// Appends the place of a line's heading, if it has one, and its text.
+#[tactic(auto, using(crate::proofs::ShownLemmas::keeps_placed))]
+fn push_placed<T: Text>(
+    alloc: Global,
+    out: &mut Vec<u8>,
+    files: &FilesRead<'_, '_, T>,
+    shown: &AnswerLine<'_>,
+    look: &Look,
+) -> Result<(), AllocError>
+    ensures clean { look.now.is_seen ≡ true → KeepsClean result out.old out.new }
+{
+    push_place(alloc, out, files, shown.line, look.is_seen)?;
+    push_text(out, shown, look)
+}
+
 // Appends the file and the line of a row's heading; before a row of a clock table, which begins with a number, a space, so
 // that editors take no number of it as a column.
 fn push_place<T: Text>(
@@ -152,20 +167,34 @@ fn push_place<T: Text>(
     files: &FilesRead<'_, '_, T>,
     line: &Line,
     is_seen: bool,
-) -> Result<(), AllocError> {
+) -> Result<(), AllocError>
+    ensures clean { is_seen ≡ true → OnOk result (AddsClean out.old.items out.new.items) }
+{
     let Some((file, heading)) = heading_of(line) else {
         return Ok(());
     };
     let Some(place) = files.library.place(file, heading) else {
         return Ok(());
     };
-    if file < files.library.count() {
-        push_seen(out, files.library.file(file).name(), is_seen)?;
+    let is_spaced = matches!(line, Line::Table(_));
+    if file >= files.library.count() {
+        return push_number(alloc, out, place.line, is_spaced);
     }
-    let number = place.line;
+    push_seen(out, files.library.file(file).name(), is_seen)?;
+    push_number(alloc, out, place.line, is_spaced)
+}
+
+fn push_number(
+    alloc: Global,
+    out: &mut Vec<u8>,
+    number: u32,
+    is_spaced: bool,
+) -> Result<(), AllocError>
+    ensures { Adds result out.old out.new (number_text number is_spaced) }
+{
     let text = format!(in alloc; ":{number}:")?;
     out.extend_from_slice(text.as_bytes())?;
-    if matches!(line, Line::Table(_)) {
+    if is_spaced {
         out.push(b' ')?;
     }
     Ok(())
@@ -188,7 +217,9 @@ fn push_json<T: Text>(
     out: &mut Vec<u8>,
     files: &FilesRead<'_, '_, T>,
     shown: &AnswerLine<'_>,
-) -> Result<(), Fault> {
+) -> Result<(), Fault>
+    ensures clean { KeepsClean result out.old out.new }
+{
     let text = shown.text.as_bytes();
     if let Line::Row(row) = shown.line {
         push_whole(out, &json_line(alloc, files, row, text)?)?;
@@ -206,7 +237,9 @@ fn push_csv<T: Text>(
     files: &FilesRead<'_, '_, T>,
     shown: &AnswerLine<'_>,
     list: &str,
-) -> Result<(), Fault> {
+) -> Result<(), Fault>
+    ensures clean { KeepsClean result out.old out.new }
+{
     if let Line::Row(row) = shown.line {
         push_whole(out, &csv_line(alloc, files, row, list)?)?;
     }
@@ -217,9 +250,10 @@ fn push_csv<T: Text>(
 }
 
 // Appends a line, which has no control character, and a line feed.
+#[tactic(auto, using(crate::proofs::ShownLemmas::keeps_row))]
 fn push_whole(out: &mut Vec<u8>, line: &OneLine) -> Result<(), AllocError>
-    ensures ok { Adds result out.old out.new (line.now ++ 10 ∷ []) }
-    ensures clean { IsClean line.now }
+    ensures value { Adds result out.old out.new (line.now ++ 10 ∷ []) }
+    ensures clean { KeepsClean result out.old out.new }
 {
     out.extend_from_slice(line.as_slice())?;
     out.push(b'\n')?;

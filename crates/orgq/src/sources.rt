@@ -9,9 +9,9 @@ use clap::ArgMatches;
 use org_rows::Library;
 use org_text::Whole;
 use std::alloc::{AllocError, Global};
+use std::fs;
 use std::io::ErrorKind;
 use std::rt::{Env, Files};
-use std::fs;
 
 /// The paths that the arguments name; without any those of `ORGQ_FILES`, else those of the configuration folder's list.
 pub fn paths<R: AllocGlobal + Files + Env>(

@@ -1,0 +1,7 @@
+-- None of the files so far is of the path.
+use Rattle.std.proofs.Common.{take}
+use Rattle.org_rows.specs.Files.{IsNew}
+use Rattle.org_rows.proofs.library.Library.has.Given as goal
+
+abbrev pub invariant-loop-file : goal.invariant-loop-file
+invariant-loop-file g l = IsNew l.path (take l.file-index l.self.files)
