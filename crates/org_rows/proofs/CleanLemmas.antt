@@ -128,18 +128,18 @@ stands_at : (led : Bool) (b : ℕ) (bytes : List ℕ) → is_control b ≡ false
     visible_behind Caret led (b ∷ bytes) ≡ cond led (LEAD ∷ []) [] ++ b ∷ bytes
 stands_at led b bytes own behind rest = ap (λ t. cond t (control Caret b) (cond led (LEAD ∷ []) [] ++ single Caret b) ++ visible_behind Caret (b == LEAD) bytes) behind ∙ by (b == LEAD) refl rest
   where
+    held : (l : Bool) → b ≡ LEAD → visible_behind Caret true bytes ≡ LEAD ∷ bytes → (cond l (LEAD ∷ []) [] ++ []) ++ visible_behind Caret true bytes ≡ cond l (LEAD ∷ []) [] ++ b ∷ bytes
+    held true same r = (λ i. LEAD ∷ r i) ∙ (λ i. LEAD ∷ sym same i ∷ bytes)
+    held false same r = r ∙ (λ i. sym same i ∷ bytes)
+
+    free : (l : Bool) → visible_behind Caret false bytes ≡ bytes → (cond l (LEAD ∷ []) [] ++ cond (is_control b) (control Caret b) (b ∷ [])) ++ visible_behind Caret false bytes ≡ cond l (LEAD ∷ []) [] ++ b ∷ bytes
+    free true r = λ i. (LEAD ∷ cond (own i) (control Caret b) (b ∷ [])) ++ r i
+    free false r = λ i. cond (own i) (control Caret b) (b ∷ []) ++ r i
+
     by : (t : Bool) → (b == LEAD) ≡ t → visible_behind Caret t bytes ≡ cond t (LEAD ∷ []) [] ++ bytes →
         (cond led (LEAD ∷ []) [] ++ cond t [] (cond (is_control b) (control Caret b) (b ∷ []))) ++ visible_behind Caret t bytes ≡ cond led (LEAD ∷ []) [] ++ b ∷ bytes
-    by true e r = let same : b ≡ LEAD = grind (arith, nat_tests, e) in held led
-      where
-        held : (l : Bool) → (cond l (LEAD ∷ []) [] ++ []) ++ visible_behind Caret true bytes ≡ cond l (LEAD ∷ []) [] ++ b ∷ bytes
-        held true = (λ i. LEAD ∷ r i) ∙ (λ i. LEAD ∷ sym same i ∷ bytes)
-        held false = r ∙ (λ i. sym same i ∷ bytes)
-    by false e r = free led
-      where
-        free : (l : Bool) → (cond l (LEAD ∷ []) [] ++ cond (is_control b) (control Caret b) (b ∷ [])) ++ visible_behind Caret false bytes ≡ cond l (LEAD ∷ []) [] ++ b ∷ bytes
-        free true = (λ i. (LEAD ∷ cond (own i) (control Caret b) (b ∷ [])) ++ r i)
-        free false = (λ i. cond (own i) (control Caret b) (b ∷ []) ++ r i)
+    by true e r = let same : b ≡ LEAD = grind (arith, nat_tests, e) in held led same r
+    by false e r = free led r
 
 stands : (led : Bool) (bytes : List ℕ) → is_clean_behind led bytes ≡ true → visible_behind Caret led bytes ≡ cond led (LEAD ∷ []) [] ++ bytes
 stands true [] e = absurd cc

@@ -51,23 +51,21 @@ fn are_before(alloc: Global, text: String) -> Result<bool, Fault> {
 }
 
 fn begins_block(line: &str) -> bool {
-    match line.trim_start_matches(is_space).get(..8) {
+    match line.trim_start_matches(SPACES).get(..8) {
         Some(front) => front.eq_ignore_ascii_case("#+begin_"),
         None => false,
     }
 }
 
 // White space of Org's lines.
-fn is_space(character: char) -> bool {
-    matches!(character, ' ' | '\t' | '\r')
-}
+const SPACES: [char; 3] = [' ', '\t', '\r'];
 
 // Whether a line sets keywords: it names one, or more.
 fn is_keyword_line(line: &str) -> bool {
-    let Some((key, value)) = line.trim_start_matches(is_space).split_once(':') else {
+    let Some((key, value)) = line.trim_start_matches(SPACES).split_once(':') else {
         return false;
     };
-    is_keyword_key(key) && value.split(is_space).any(|word| is_keyword(word))
+    is_keyword_key(key) && value.split(SPACES).any(|word| is_keyword(word))
 }
 
 fn is_keyword_key(key: &str) -> bool {
