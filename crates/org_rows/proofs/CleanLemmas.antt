@@ -85,8 +85,8 @@ module _ (escape : Escape) where
   clean_single led b bytes behind rest = by (b == LEAD) refl
     where
       own : (t : Bool) → is_control b ≡ t → (b == LEAD) ≡ false → is_clean_behind led (cond t (control escape b) (other escape b) ++ visible_behind escape false bytes) ≡ true
-      own true e no = let small : b < 256 = grind (arith, nat_tests, e) in clean_control escape b led (visible_behind escape false bytes) small rest.free
-      own false e no = clean_other escape led b (visible_behind escape false bytes) e behind no rest.free
+      own true e apart = let small : b < 256 = grind (arith, nat_tests, e) in clean_control escape b led (visible_behind escape false bytes) small rest.free
+      own false e apart = clean_other escape led b (visible_behind escape false bytes) e behind apart rest.free
 
       by : (t : Bool) → (b == LEAD) ≡ t → is_clean_behind led (cond t [] (cond (is_control b) (control escape b) (other escape b)) ++ visible_behind escape t bytes) ≡ true
       by true e = rest.held led
@@ -102,9 +102,9 @@ module _ (escape : Escape) where
       by : (t : Bool) → is_second b ≡ t → is_clean_behind led (cond t (control escape b) ((LEAD ∷ []) ++ single escape b) ++ visible_behind escape (b == LEAD) bytes) ≡ true
       by true e =
           let small : b < 160 = grind (arith, nat_tests, e) in
-          let no : (b == LEAD) ≡ false = grind (arith, nat_tests, small) in
+          let apart : (b == LEAD) ≡ false = grind (arith, nat_tests, small) in
           clean_control escape b led (visible_behind escape (b == LEAD) bytes) (omega (arith, small))
-          (subst (λ l. is_clean_behind false (visible_behind escape l bytes) ≡ true) (sym no) rest.free)
+          (subst (λ l. is_clean_behind false (visible_behind escape l bytes) ≡ true) (sym apart) rest.free)
       by false e = lead_first led (single escape b ++ visible_behind escape (b == LEAD) bytes) (clean_single true b bytes e rest)
 
   both : (bytes : List ℕ) → Both bytes

@@ -1,5 +1,5 @@
 -- What is said of files that were read.
-use Rattle.std.proofs.Common.{◌≡◌, ◌∙◌, ℕ, zero, suc, ◌+◌, ◌≤◌, List, [], ◌∷◌, ◌++◌, length, map, take, refl, sym, ap, subst, arith}
+use Rattle.std.proofs.Common.{◌≡◌, ◌≢◌, ◌<◌, ◌∙◌, ℕ, zero, suc, ◌+◌, ◌≤◌, List, [], ◌∷◌, ◌++◌, length, map, take, refl, sym, ap, subst, arith, inl, inr}
 use Rattle.std.specs.Prelude.{Some, IfSome, slice_get, Result, Ok, Err, IfOk}
 use Rattle.std.specs.List.{All}
 use Rattle.std.proofs.lemmas.List.{map-append, take_all}
@@ -15,7 +15,8 @@ use Rattle.org_base.specs.Results.{Gives}
 use Rattle.org_kept.specs.Outline.{OutlineView, file_settings, outline_of, scope_in}
 use Rattle.org_settings.specs.Settings.{FileSettings}
 use Rattle.org_sum.specs.Texts.{AreOfText}
-use Rattle.org_rows.specs.Files.{AreFirst, NamedText, scope_of}
+use Rattle.org_rows.specs.Files.{AreDifferent, AreFirst, IsNew, NamedText, scope_of}
+use Rattle.org_rows.proofs.LawLemmas.{snoc_get, within}
 use Rattle.org_text.specs.Replace.{max_bytes}
 
 in_sections : (settings : FileSettings) (ss : List (List ℕ)) → HaveHeads settings (map (entry_of settings) ss)
@@ -80,3 +81,33 @@ read_more f files i file scope old new at is heads text so pushed = record {
   heads = subst AllHaveHeads (sym pushed) (heads_more old scope so.heads heads);
   texts = subst (All (λ (s : Scope). AreOfText s.entries)) (sym pushed) (texts_more old scope so.texts text);
 }
+
+one_path : (path : List ℕ) (file : NamedText) → file.path ≢ path → IsNew path (file ∷ [])
+one_path path file own zero d lt = own
+one_path path file own (suc k) d lt = absurd (omega (arith, lt))
+
+-- one file more that isn't of a path
+pub new_more : (path : List ℕ) (files : List NamedText) (i : ℕ) (file : NamedText) → slice_get files i ≡ Some file → file.path ≢ path → IsNew path (take i files) → IsNew path (take (i + 1) files)
+new_more path files i file at own so =
+    subst (IsNew path) (sym (taken files i file at)) (All-append (λ (f : NamedText). f.path ≢ path) (take i files) (file ∷ []) so (one_path path file own))
+
+pub new_all : (path : List ℕ) (files : List NamedText) (i : ℕ) → length files ≤ i → IsNew path (take i files) → IsNew path files
+new_all path files i past so = subst (IsNew path) (take_all i files past) so
+
+pub new_at : (path : List ℕ) (files : List NamedText) (i : ℕ) (file : NamedText) → IsNew path files → slice_get files i ≡ Some file → file.path ≢ path
+new_at path [] i file all at = absurd cc
+new_at path (f ∷ fs) zero file all at = let same : f ≡ file = cc in subst (λ (x : NamedText). x.path ≢ path) same (all 0 f (omega arith))
+new_at path (f ∷ fs) (suc i) file all at = new_at path fs i file (λ k d lt. all (suc k) d (omega (arith, lt))) at
+
+-- one file more of another path
+pub different_more : (files : List NamedText) (file : NamedText) → AreDifferent files → IsNew file.path files → AreDifferent (files ++ file ∷ [])
+different_more files file all new i j a b lt at bt = elim (snoc_get files file j b bt) [
+  | inl h ↦ elim (snoc_get files file i a at) [
+    | inl k ↦ all i j a b lt k h
+    | inr k ↦ let low = within files j b h in absurd (omega (arith, low, k.0, lt))
+  ]
+  | inr h ↦ elim (snoc_get files file i a at) [
+    | inl k ↦ subst (λ (x : NamedText). a.path ≢ x.path) h.1 (new_at file.path files i a new k)
+    | inr k ↦ absurd (omega (arith, h.0, k.0, lt))
+  ]
+]

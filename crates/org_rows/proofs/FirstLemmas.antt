@@ -18,14 +18,14 @@ same_stamp : (row other : Row) (next : List Upcoming) → is_of_row row other �
 same_stamp row other next e =
     let first = and_parts ((row.file == other.file) && (row.heading == other.heading)) (row.stamp_at == other.stamp_at) e in
     let two = and_parts (row.file == other.file) (row.heading == other.heading) first.0 in
-    let f : row.file ≡ other.file = grind (nat_tests, two.0) in
-    let h : row.heading ≡ other.heading = grind (nat_tests, two.1) in
-    let s : row.stamp_at ≡ other.stamp_at = grind (nat_tests, first.1) in
+    let f : row.file ≡ other.file = grind (arith, nat_tests, two.0) in
+    let h : row.heading ≡ other.heading = grind (arith, nat_tests, two.1) in
+    let s : row.stamp_at ≡ other.stamp_at = grind (arith, nat_tests, first.1) in
     sym (λ i. list_any (λ (u : Upcoming). (f i == u.row.file) && (h i == u.row.heading) && (s i == u.row.stamp_at)) next)
 
 module _ (now : Moment) (agenda : AgendaView) (row : Row) (last : ℕ) where
   -- of the row's stamp none lies behind the last day
-  Early : Upcoming → Type 0
+  abbrev Early : Upcoming → Type 0
   Early u = is_of row u ≡ true → u.day ≤ last
 
   early_row : (day : ℕ) (next : List Upcoming) (one : Row) → day ≤ last → Each Early next → Each Early (with_row now day next one)

@@ -16,13 +16,13 @@ use Rattle.org_rows.specs.declared.next.Upcoming.{Upcoming}
 abbrev pub Each : {X : Type 0} → (X → Type 0) → List X → Type 0
 Each {X} P xs = (k : ℕ) (x : X) → slice_get xs k ≡ Some x → P x
 
-snoc_get : {X : Type 0} (xs : List X) (u : X) (j : ℕ) (b : X) → slice_get (xs ++ u ∷ []) j ≡ Some b → (slice_get xs j ≡ Some b) ⊎ ((j ≡ length xs) × (u ≡ b))
+pub snoc_get : {X : Type 0} (xs : List X) (u : X) (j : ℕ) (b : X) → slice_get (xs ++ u ∷ []) j ≡ Some b → (slice_get xs j ≡ Some b) ⊎ ((j ≡ length xs) × (u ≡ b))
 snoc_get [] u zero b e = inr (refl, cc)
 snoc_get [] u (suc j) b e = absurd cc
 snoc_get (x ∷ xs) u zero b e = inl e
 snoc_get (x ∷ xs) u (suc j) b e = elim (snoc_get xs u j b e) [ inl h ↦ inl h | inr h ↦ inr (ap suc h.0, h.1) ]
 
-within : {X : Type 0} (xs : List X) (j : ℕ) (b : X) → slice_get xs j ≡ Some b → j < length xs
+pub within : {X : Type 0} (xs : List X) (j : ℕ) (b : X) → slice_get xs j ≡ Some b → j < length xs
 within [] j b e = absurd cc
 within (x ∷ xs) zero b e = omega arith
 within (x ∷ xs) (suc j) b e = let h = within xs j b e in omega (arith, h)

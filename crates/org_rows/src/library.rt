@@ -2,6 +2,8 @@
 ghost use Rattle.std.specs.Prelude.{◌≡◌, ◌↔◌, ◌<◌, [], false, length, slice_get, string_bytes, None, Some, Err, IfOk, IfSome, IsOkUnless, IsTrue, OnErr, OnOk};
 ghost use Rattle.org_base.specs.Codes.{memory_fault};
 ghost use Rattle.org_base.specs.Results.{Gives};
+ghost use Rattle.org_base.specs.declared.code.Code.TheVariants.{Files, Taken};
+ghost use Rattle.org_base.specs.declared.fault.Fault.TheVariants.{Plain};
 ghost use Rattle.org_base.specs.declared.limits.TheConstants.{MOST_FILES};
 ghost use Rattle.org_rows.specs.Files.{AreDifferent, AreRead, CanAdd, IsFullFor, IsNew, PutsFile, scopes_of};
 ghost use Rattle.org_rows.specs.Places.{IsNoPlace, IsPlaceIn};
@@ -64,8 +66,8 @@ impl<T: Text> Library<T> {
         ensures some { result ≡ false → IsNew path.now self.now.files }
         ensures none { IsNew path.now self.now.files → result ≡ false }
     {
-        for file in &self.files {
-            if file.path() == path {
+        for place in 0..self.count() {
+            if self.file(place).path() == path {
                 return true;
             }
         }
@@ -93,7 +95,7 @@ impl<T: Text> Library<T> {
         if self.has(path.as_str()) {
             return Err(Fault::Plain(Code::Taken));
         }
-        if self.is_full() {
+        if self.files.len() >= MOST_FILES {
             return Err(Fault::Plain(Code::Files));
         }
         let file = ReadFile::new(self.alloc, name, path, text)?;

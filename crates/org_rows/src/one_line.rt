@@ -3,6 +3,7 @@ ghost use Rattle.std.specs.Prelude.{◌≡◌, ◌<◌, ◌≤◌, [], ◌∷◌
 ghost use Rattle.org_base.specs.Results.{GivesItems};
 ghost use Rattle.org_rows.specs.Clean.{IsClean};
 ghost use Rattle.org_rows.specs.Json.{begins_quoted, field_text, flag_member, named, number_member, quoted, text_member};
+ghost use Rattle.org_rows.specs.Visible.{visible};
 
 use crate::visible::{Escape, push_visible};
 use org_base::Texts;
@@ -146,15 +147,21 @@ fn quoted(alloc: Global, text: &[u8]) -> Result<Vec<u8>, AllocError>
 
 fn field_bytes(alloc: Global, text: &[u8]) -> Result<Vec<u8>, AllocError>
     ensures value { GivesItems result (field_text text.now) }
-    ensures line { IfOk result (λ bytes. IsClean bytes.items) }
+{
+    if begins_quoted(text) {
+        return behind_apostrophe(alloc, &text[1..]);
+    }
+    let mut bytes = Vec::new(alloc);
+    push_visible(&mut bytes, text, Escape::Field)?;
+    Ok(bytes)
+}
+
+fn behind_apostrophe(alloc: Global, text: &[u8]) -> Result<Vec<u8>, AllocError>
+    ensures value { GivesItems result (39 ∷ visible Escape.Field text.now) }
 {
     let mut bytes = Vec::new(alloc);
-    if begins_quoted(text) {
-        bytes.push(b'\'')?;
-        push_visible(&mut bytes, &text[1..], Escape::Field)?;
-    } else {
-        push_visible(&mut bytes, text, Escape::Field)?;
-    }
+    bytes.push(b'\'')?;
+    push_visible(&mut bytes, text, Escape::Field)?;
     Ok(bytes)
 }
 

@@ -3,5 +3,5 @@ use Rattle.std.proofs.Common.{take}
 use Rattle.org_rows.specs.Files.{IsNew}
 use Rattle.org_rows.proofs.library.Library.has.Given as goal
 
-abbrev pub invariant-loop-file : goal.invariant-loop-file
-invariant-loop-file g l = IsNew l.path (take l.file-index l.self.files)
+abbrev pub invariant-loop-place : goal.invariant-loop-place
+invariant-loop-place g l = IsNew l.path (take l.place l.self.files)
