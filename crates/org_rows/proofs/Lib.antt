@@ -5,6 +5,5 @@ pub mod JsonLemmas
 pub mod LawLemmas
 pub mod MissedLemmas
 pub mod NextLemmas
-pub mod PlaceLemmas
 pub mod StampLemmas
 pub mod VisibleLemmas

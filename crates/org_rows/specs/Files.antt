@@ -3,7 +3,6 @@ use Rattle.std.specs.Prelude.{◌≡◌, ◌≢◌, ◌<◌, ◌≤◌, ◌++◌
 use Rattle.std.specs.List.{All}
 use Rattle.org_agenda.specs.Headings.{AllHaveHeads}
 use Rattle.org_base.specs.declared.limits.TheConstants.{MOST_FILES}
-use Rattle.org_class.specs.Sections.{sections}
 use Rattle.org_inherit.specs.Scope.{Scope}
 use Rattle.org_kept.specs.File.{FileView}
 use Rattle.org_kept.specs.Outline.{OutlineView, outline_of, scope_in}
@@ -20,11 +19,9 @@ pub record NamedText : Type 0 where
 abbrev pub named_text : {A : Type 0} → String A → String A → List ℕ → NamedText
 named_text name path text = record { name = string_bytes name; path = string_bytes path; text = text }
 
--- this is what a file says, and so many sections it has
-pub record IsRead (file : FileView) (outline : OutlineView) (count : ℕ) : Type 0 where
+-- this is what a file says
+pub record IsRead (file : FileView) (outline : OutlineView) : Type 0 where
   pub said : outline ≡ outline_of file.text
-  pub counted : count ≡ length (sections file.text)
-  pub marked : length file.marks ≡ length (sections file.text)
   pub short : length file.text ≤ max_bytes
 
 -- a text under a name behind others

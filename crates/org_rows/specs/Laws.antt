@@ -1,26 +1,16 @@
--- Laws of places, of what comes next, and of what is shown.
+-- Laws of what comes next, and of what is shown.
 use Rattle.std.specs.Prelude.{◌≡◌, ◌<◌, ◌≤◌, ℕ, ◌+◌, ◌*◌, false, true, List, Some, IsSome, length, slice_get}
 use Rattle.std.specs.List.{All, list_any}
 use Rattle.org_agenda.specs.Days.{AgendaView, day_rows}
 use Rattle.org_agenda.specs.declared.row.Row.{Row}
 use Rattle.org_cal.specs.declared.moment.Moment.{Moment}
 use Rattle.org_cal.specs.declared.time_of_day.TheConstants.{MINUTES_PER_DAY}
-use Rattle.org_class.specs.Sections.{sections}
-use Rattle.org_entry.specs.Entry.{heading_line}
-use Rattle.org_kept.specs.Begun.{entry_there}
 use Rattle.org_rows.specs.Clean.{IsClean}
 use Rattle.org_rows.specs.Next.{is_ahead, is_of, is_of_row, next_rows}
-use Rattle.org_rows.specs.Places.{HasLine, IsPlaceOf}
 use Rattle.org_rows.specs.Visible.{visible}
 use Rattle.org_rows.specs.declared.next.Upcoming.{Upcoming}
-use Rattle.org_rows.specs.declared.place.Place.{Place}
 use Rattle.org_rows.specs.declared.visible.Escape.{Escape}
 use Rattle.org_rows.specs.declared.visible.Escape.TheVariants.{Caret}
-
--- at the place of a section with a heading the text has the heading line that its rows show
-abbrev pub PlacesAreThere : Type 0
-PlacesAreThere = (text : List ℕ) (heading : ℕ) (place : Place) → heading < length (sections text) → IsPlaceOf text heading place →
-    IsSome (entry_there text heading).head → HasLine text place (heading_line (entry_there text heading))
 
 -- a row of a day lies on the moment's day or behind it, and its start, if it has one, at the moment or behind it
 pub record LiesAhead (now : Moment) (upcoming : Upcoming) : Type 0 where

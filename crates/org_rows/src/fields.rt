@@ -1,12 +1,13 @@
 //! Rows as fields between commas, those of Org's own batch agendas.
 
 use crate::one_line::OneLine;
-use crate::rows::{FilesRead, ShownRow, ShownSum};
+use crate::rows::{FilesRead, ShownSum};
 use org_agenda::{Row, RowKind};
 use org_base::Fault;
 use org_cal::{Day, Unit, push_date, push_time};
 use org_clocktable::Of;
 use org_inherit::{Heading, tags_text};
+use org_layout::ShownRow;
 use org_text::Text;
 use std::alloc::{AllocError, Global};
 
@@ -45,9 +46,9 @@ pub fn table_fields<T: Text>(
     shown: &ShownSum,
 ) -> Result<OneLine, Fault> {
     let mut line = OneLine::new(alloc);
-    push_iso(alloc, &mut line, shown.period.first)?;
+    push_iso(alloc, &mut line, shown.first)?;
     line.push(b',')?;
-    push_iso(alloc, &mut line, shown.period.last)?;
+    push_iso(alloc, &mut line, shown.last)?;
     push_of(alloc, &mut line, files, shown.row.of)?;
     push_number(alloc, &mut line, shown.row.clock)?;
     push_number(alloc, &mut line, shown.row.effort)?;

@@ -1,12 +1,13 @@
 //! Rows as objects of JSON, each in one line.
 
 use crate::one_line::OneLine;
-use crate::rows::{FilesRead, ShownRow, ShownSum};
+use crate::rows::{FilesRead, ShownSum};
 use org_agenda::{Row, RowKind};
 use org_base::Fault;
 use org_cal::{Day, TimeOfDay, push_date, push_time};
 use org_clocktable::Of;
 use org_inherit::Heading;
+use org_layout::ShownRow;
 use org_text::Text;
 use std::alloc::{AllocError, Global};
 
@@ -44,8 +45,8 @@ pub fn table_line<T: Text>(
     let row = &shown.row;
     let mut line = OneLine::new(alloc);
     begin(&mut line, table_kind(row.of))?;
-    push_date_as(alloc, &mut line, "from", shown.period.first)?;
-    push_date_as(alloc, &mut line, "to", shown.period.last)?;
+    push_date_as(alloc, &mut line, "from", shown.first)?;
+    push_date_as(alloc, &mut line, "to", shown.last)?;
     line.number("clock", row.clock)?;
     line.number("effort", row.effort)?;
     push_of(&mut line, files, row.of)?;

@@ -1,12 +1,6 @@
 //! Laws of the definitions. Each is a function without parameters whose contract is the law.
 ghost use Rattle.org_rows.specs.Examples.{ExamplesHold};
-ghost use Rattle.org_rows.specs.Laws.{AgendasShowNext, CleanStands, NextIsFirst, NextLiesAhead, NoStampIsMissed, PlacesAreThere, StampsComeOnce, VisibleIsClean};
-
-/// At the place of a heading its text has the heading line that rows show: from the byte on, and as the line of that
-/// number.
-pub fn places_are_there()
-    ensures { PlacesAreThere }
-{}
+ghost use Rattle.org_rows.specs.Laws.{AgendasShowNext, CleanStands, NextIsFirst, NextLiesAhead, NoStampIsMissed, StampsComeOnce, VisibleIsClean};
 
 /// No row that comes next lies before the moment.
 #[tactic(auto, using(crate::proofs::LawLemmas::next_lies_ahead))]

@@ -8,10 +8,10 @@ ghost use Rattle.org_base.specs.declared.limits.TheConstants.{MOST_FILES};
 ghost use Rattle.org_rows.specs.Files.{AreDifferent, AreRead, CanAdd, IsFullFor, IsNew, PutsFile, scopes_of};
 ghost use Rattle.org_rows.specs.Places.{IsNoPlace, IsPlaceIn};
 
-use crate::place::Place;
 use crate::read_file::ReadFile;
 use org_base::{Code, Fault, MOST_FILES, Texts};
 use org_inherit::Inherits;
+use org_kept::Place;
 use org_text::Text;
 use std::alloc::Global;
 use std::marker::Model;

@@ -1,17 +1,15 @@
 //! A file that was read.
-ghost use Rattle.std.specs.Prelude.{◌≡◌, ◌<◌, ◌≤◌, length, string_bytes, IfOk, IfSome, IsOkUnless, None};
+ghost use Rattle.std.specs.Prelude.{◌≡◌, IfOk, IsOkUnless};
 ghost use Rattle.org_agenda.specs.Headings.{HaveHeads};
 ghost use Rattle.org_base.specs.Codes.{memory_fault};
 ghost use Rattle.org_base.specs.Results.{Gives};
-ghost use Rattle.org_class.specs.Sections.{sections};
 ghost use Rattle.org_rows.specs.Files.{named_text, scope_of};
-ghost use Rattle.org_rows.specs.Places.{IsPlaceOf};
+ghost use Rattle.org_kept.specs.Places.{place_at};
 ghost use Rattle.org_sum.specs.Texts.{AreOfText};
 
-use crate::place::Place;
 use org_base::{Fault, Meter, Texts};
 use org_inherit::Inherit;
-use org_kept::{File, FileOutline};
+use org_kept::{File, FileOutline, Place};
 use org_text::Text;
 use std::alloc::Global;
 use std::marker::Model;
@@ -23,7 +21,6 @@ pub struct ReadFile<T: Text> {
     path: String,
     file: File<T>,
     outline: FileOutline,
-    sections: u32,
 }
 
 impl<T: Text> Model for ReadFile<T> {
@@ -34,7 +31,7 @@ impl<T: Text> Model for ReadFile<T> {
 
     ghost view = { λ f. record { name = string_bytes f.name; path = string_bytes f.path; text = f.file.text } };
 
-    ghost invariant = { λ f. IsRead f.file f.outline f.sections };
+    ghost invariant = { λ f. IsRead f.file f.outline };
 }
 
 impl<T: Text> ReadFile<T> {
@@ -47,14 +44,12 @@ impl<T: Text> ReadFile<T> {
         let _bytes = text.len();
         let mut meter = Meter::new();
         let mut file = File::new(alloc, &mut meter, text, 0)?;
-        let sections = file.pending();
         let outline = file.outlined(alloc, &mut meter)?;
         Ok(ReadFile {
             name,
             path,
             file,
             outline,
-            sections,
         })
     }
 
@@ -85,16 +80,8 @@ impl<T: Text> ReadFile<T> {
 
     /// Where the section at a place begins; none past the last.
     pub fn place(&self, heading: usize) -> Option<Place>
-        ensures some { IfSome result (IsPlaceOf self.now.text heading) }
-        ensures none { result ≡ None → length (sections self.now.text) ≤ heading }
+        ensures value { result ≡ place_at self.now.text heading }
     {
-        if heading >= self.sections as usize {
-            return None;
-        }
-        let heading = heading as u32;
-        Some(Place {
-            at: self.file.start(heading),
-            line: self.file.line(heading),
-        })
+        self.file.place(heading)
     }
 }

@@ -1,8 +1,7 @@
 //! Rows, and the files that they are of.
 
 use crate::library::Library;
-use org_agenda::Row;
-use org_cal::{Day, Period};
+use org_cal::Day;
 use org_clocktable::TableRow;
 use org_inherit::Inherits;
 use org_text::Text;
@@ -14,16 +13,10 @@ pub struct FilesRead<'a, 'b, T: Text> {
     pub inherits: &'a Inherits<'b>,
 }
 
-/// A row, with its day where it is one of an agenda.
-#[derive(Clone, Copy, Debug, PartialEq, Eq)]
-pub struct ShownRow {
-    pub day: Option<Day>,
-    pub row: Row,
-}
-
-/// A row of a clock table, with the days of the table.
+/// A row of a clock table, with the first and the last day of its step.
 #[derive(Clone, Copy, Debug, PartialEq, Eq)]
 pub struct ShownSum {
-    pub period: Period,
+    pub first: Day,
+    pub last: Day,
     pub row: TableRow,
 }

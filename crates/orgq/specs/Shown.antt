@@ -8,8 +8,8 @@ use Rattle.org_rows.specs.declared.visible.Escape.TheVariants.{Caret}
 use Rattle.orgq.specs.declared.show.Form.{Form}
 use Rattle.orgq.specs.declared.show.Form.TheVariants.{Plain, Places, Json, Csv}
 use Rattle.orgq.specs.declared.show.Look.{Look}
-use Rattle.orgq.specs.declared.view.Line.{Line}
-use Rattle.orgq.specs.declared.view.Line.TheVariants.{Heading, Step, Row, Table}
+use Rattle.org_layout.specs.declared.shown.Line.{Line}
+use Rattle.org_layout.specs.declared.shown.Line.TheVariants.{Day, Step, Row, Table}
 
 -- the colour of a kind of rows: late ones are red, warnings yellow
 abbrev pub kind_color : RowKind → List ℕ
@@ -20,8 +20,8 @@ kind_color _ = []
 
 -- days are bold
 abbrev pub color_of : Line → List ℕ
-color_of Heading = 27 ∷ codes "[1m"
-color_of (Step period) = 27 ∷ codes "[1m"
+color_of (Day day) = 27 ∷ codes "[1m"
+color_of (Step first last) = 27 ∷ codes "[1m"
 color_of (Row shown) = kind_color shown.row.kind
 color_of (Table row) = []
 

@@ -3,11 +3,12 @@ ghost use Rattle.std.specs.Prelude.{◌≡◌, [], ◌∷◌, ◌++◌, true, If
 ghost use Rattle.org_base.specs.Results.{Adds};
 ghost use Rattle.orgq.specs.Shown.{AddsClean, AreCleanLines, IsSafe, KeepsClean, color, color_of, number_text, shown_line, shown_text};
 
-use crate::view::{Answer, Line};
+use crate::view::Answer;
 use org_agenda::RowKind;
 use org_base::Fault;
-use org_cal::Period;
+use org_cal::Day;
 use org_clocktable::Of;
+use org_layout::Line;
 use org_rows::{
     Escape, FilesRead, OneLine, ShownSum, csv_line, json_line, push_visible, table_fields,
     table_line,
@@ -49,17 +50,17 @@ pub fn printed<T: Text>(
 {
     let mut out = Vec::new(alloc);
     let mut lines = answer.lines.as_slice();
-    let mut period = None;
+    let mut days = None;
     for text in answer.text.as_str().split_inclusive('\n') {
         let Some((line, rest)) = lines.split_first() else {
             return Ok(out);
         };
         lines = rest;
-        if let Line::Step(days) = line {
-            period = Some(*days);
+        if let Line::Step(first, last) = line {
+            days = Some((*first, *last));
         }
         let text = text.trim_end_matches('\n');
-        let shown = AnswerLine { line, period, text };
+        let shown = AnswerLine { line, days, text };
         push_line(alloc, &mut out, files, &shown, look)?;
     }
     Ok(out)
@@ -69,15 +70,19 @@ pub fn printed<T: Text>(
 #[derive(Clone, Copy)]
 struct AnswerLine<'a> {
     line: &'a Line,
-    period: Option<Period>,
+    days: Option<(Day, Day)>,
     text: &'a str,
 }
 
 impl AnswerLine<'_> {
     // A row of a clock table with its days, where it is one.
     fn sum(&self) -> Option<ShownSum> {
-        match (self.line, self.period) {
-            (Line::Table(row), Some(period)) => Some(ShownSum { period, row: *row }),
+        match (self.line, self.days) {
+            (Line::Table(row), Some((first, last))) => Some(ShownSum {
+                first,
+                last,
+                row: *row,
+            }),
             _ => None,
         }
     }
@@ -134,7 +139,7 @@ fn color_of(line: &Line) -> &'static str
     ensures { result.now ≡ color_of line.now }
 {
     match line {
-        Line::Heading | Line::Step(_) => "\x1b[1m",
+        Line::Day(_) | Line::Step(..) => "\x1b[1m",
         Line::Row(shown) => match shown.row.kind {
             RowKind::LateSchedule | RowKind::LateDeadline => "\x1b[31m",
             RowKind::Warning => "\x1b[33m",
@@ -208,7 +213,7 @@ fn heading_of(line: &Line) -> Option<(usize, usize)> {
             Of::Heading(file, place, _) => Some((file, place)),
             Of::All | Of::File(_) => None,
         },
-        Line::Heading | Line::Step(_) => None,
+        Line::Day(_) | Line::Step(..) => None,
     }
 }
 
