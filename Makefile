@@ -1,11 +1,16 @@
+# SPDX-License-Identifier: Apache-2.0 OR MIT
 # orgviews: a proved Org agenda engine. `make run` builds and shows the first example, `make test` is the whole gate.
 PROGRAM = crates/orgviews/out/orgviews
 ORGQ = crates/orgq/out/orgq
 PARTS = crates/org_measure/out/org_measure
 SOURCES = $(shell find crates -name out -prune -o -type f \( -name '*.rt' -o -name '*.antt' \) -print) crates.txt
+NOTICES = contrib/out/THIRD-PARTY-NOTICES
+PACKED = $(NOTICES) contrib/out/clients
 PREFIX ?= /usr/local
+NEEDS_RT = $(if $(shell command -v rt),,$(error there is no `rt`: building wants Rattle's kit, with its folder bin in PATH; what is \
+built already is an archive or a package, see Install in README.md))
 
-.PHONY: run try build check changed test rows orgq-test faults emacs-test bench collide install deb clean
+.PHONY: run try build check changed test rows orgq-test faults emacs-test bench collide install uninstall proof dist deb package-test clean
 
 # Builds the program where it isn't fresh, and runs the first example.
 run: $(PROGRAM)
@@ -13,6 +18,7 @@ run: $(PROGRAM)
 
 # The same example without any proof, for a first look: the sources are compiled with checks and run.
 try:
+	@$(NEEDS_RT)
 	@echo "orgviews: nothing is proved here; make run and make test do that"
 	@cd crates/orgviews && rt try -- --at "2024-02-28 10:30" < ../../tests/rows/first-run
 
@@ -20,24 +26,28 @@ build: $(PROGRAM) $(ORGQ)
 
 # `rt run` proves every crate below the program before it builds it, and then runs it on no input.
 $(PROGRAM): $(SOURCES)
+	@$(NEEDS_RT)
 	@echo "orgviews: proving every crate and building the program (half an hour to an hour on four processors; later builds check only what changed)"
 	@cd crates/orgviews && rt run -- --at "2024-02-28 10:30" < /dev/null
 	@test -x $(PROGRAM) && touch $(PROGRAM)
 
 # The same for the program that answers one question and ends, over a file of its own.
 $(ORGQ): $(SOURCES)
+	@$(NEEDS_RT)
 	@echo "orgviews: proving and building orgq (some minutes, where the crates below it are proved)"
 	@cd crates/orgq && rt run -- --at "2024-02-28 10:30" -f data/home.org > /dev/null
 	@test -x $(ORGQ) && touch $(ORGQ)
 
 # Parts of the engine on their own, for the measurements, and single calls for the faults.
 $(PARTS): $(SOURCES)
+	@$(NEEDS_RT)
 	@echo "orgviews: proving and building the program that measures parts of the engine (some minutes)"
 	@cd crates/org_measure && rt run -- stamps < /dev/null > /dev/null
 	@test -x $(PARTS) && touch $(PARTS)
 
 # Every crate, over what earlier checks kept.
 check:
+	@$(NEEDS_RT)
 	rt all check
 
 # What differs from BASE (origin/main, where there is one), and what stands above it: for daily work.
@@ -46,6 +56,7 @@ changed:
 
 # The gate: proofs from nothing, must-fail edits, tests, both builds of the program; then the worked streams and the faults.
 test:
+	@$(NEEDS_RT)
 	@sh tests/gate.sh
 
 # The worked streams alone, over the programs as they were last built.
@@ -73,22 +84,41 @@ collide: $(PROGRAM)
 	@mkdir -p bench/out
 	@rustc -O -o bench/out/collide bench/collide.rs && bench/out/collide $(PROGRAM)
 
-# Both programs with their man pages, completions and the manual; prints the programs' SHA-256.
-install: $(PROGRAM) $(ORGQ)
-	@mkdir -p "$(DESTDIR)$(PREFIX)/bin" "$(DESTDIR)$(PREFIX)/share/man/man1" "$(DESTDIR)$(PREFIX)/share/doc/orgviews"
-	@mkdir -p "$(DESTDIR)$(PREFIX)/share/bash-completion/completions" "$(DESTDIR)$(PREFIX)/share/zsh/site-functions"
-	@mkdir -p "$(DESTDIR)$(PREFIX)/share/fish/vendor_completions.d"
-	@install -m 755 $(PROGRAM) $(ORGQ) contrib/orgq-notify "$(DESTDIR)$(PREFIX)/bin/"
-	@install -m 644 docs/orgviews.1 docs/orgq.1 "$(DESTDIR)$(PREFIX)/share/man/man1/"
-	@install -m 644 docs/manual.md "$(DESTDIR)$(PREFIX)/share/doc/orgviews/manual.md"
-	@install -m 644 contrib/completions/orgq.bash "$(DESTDIR)$(PREFIX)/share/bash-completion/completions/orgq"
-	@install -m 644 contrib/completions/_orgq "$(DESTDIR)$(PREFIX)/share/zsh/site-functions/_orgq"
-	@install -m 644 contrib/completions/orgq.fish "$(DESTDIR)$(PREFIX)/share/fish/vendor_completions.d/orgq.fish"
+# What contrib/files.sh lists, under PREFIX: programs, pages, completions, clients, documents, licence, notices, units that stay
+# off. Prints the programs' SHA-256.
+install: $(PROGRAM) $(ORGQ) $(PACKED)
+	@sh contrib/install.sh add "$(DESTDIR)$(PREFIX)"
 	@cd "$(DESTDIR)$(PREFIX)/bin" && sha256sum orgviews orgq
 
-# A Debian package of what `install` installs, into this folder.
-deb: $(PROGRAM) $(ORGQ)
-	@sh contrib/deb.sh $(PROGRAM) $(ORGQ)
+# Takes away what `install` put there, and nothing else.
+uninstall:
+	@sh contrib/install.sh remove "$(DESTDIR)$(PREFIX)"
+
+# The notices of the kit's libraries that are in the programs; what editors want beside the clients' own files.
+$(NOTICES): $(PROGRAM) $(ORGQ) contrib/notices.sh
+	@$(NEEDS_RT)
+	@mkdir -p contrib/out
+	@sh contrib/notices.sh > $@.new && mv $@.new $@
+
+contrib/out/clients: $(shell find clients -type f) contrib/clients.sh
+	@sh contrib/clients.sh
+
+# What was proved, for archive and package: checks each crate of the programs over what earlier checks kept (some minutes).
+proof: $(PROGRAM) $(ORGQ)
+	@$(NEEDS_RT)
+	@sh contrib/proof.sh
+
+# An archive of what `install` installs, the same to the byte whenever it is made of the same, into this folder.
+dist: $(PROGRAM) $(ORGQ) $(PACKED) proof
+	@sh contrib/dist.sh
+
+# A Debian package of it, into this folder.
+deb: $(PROGRAM) $(ORGQ) $(PACKED) proof
+	@sh contrib/deb.sh
+
+# What of all this can be tried without a proof and without root. No part of the gate.
+package-test:
+	@sh tests/package.sh
 
 clean:
-	rm -rf crates/*/out bench/out
+	rm -rf crates/*/out bench/out contrib/out

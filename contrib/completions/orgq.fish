@@ -1,3 +1,4 @@
+# SPDX-License-Identifier: Apache-2.0 OR MIT
 # Completion of orgq for fish.
 set -l commands agenda todo match clock next
 complete -c orgq -n "not __fish_seen_subcommand_from $commands" -a agenda -d 'Today, or some days from a date on'

@@ -1,3 +1,4 @@
+// SPDX-License-Identifier: Apache-2.0 OR MIT
 //! The program `orgq`: agendas, lists and clock tables of one's own files.
 #![tactic(auto)]
 

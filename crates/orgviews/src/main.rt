@@ -1,3 +1,4 @@
+// SPDX-License-Identifier: Apache-2.0 OR MIT
 //! The program `orgviews`: files from its arguments, commands from standard input, replies to standard output.
 #![tactic(auto)]
 

@@ -1,0 +1,80 @@
+#!/bin/sh
+# SPDX-License-Identifier: Apache-2.0 OR MIT
+# Makes in contrib/out what editors want beside the clients' own files, so that no editor has to be at hand: `elpa` holds the Emacs
+# packages as Emacs' own installer leaves them, with their version and needs and with what makes their commands known, and
+# `tags` is what `:helptags` writes for Vim's help.
+cd "$(dirname "$0")/.." || exit 2
+out=contrib/out
+rm -rf $out/elpa $out/tags
+mkdir -p $out || exit 1
+
+header() {
+    sed -n "s/^;; $2: *//p" "$1" | head -n 1
+}
+
+emacs_package() {
+    name=$(basename "$1" .el)
+    version=$(header "$1" Version)
+    if [ -z "$version" ]; then
+        echo "orgviews: $1 says no version" >&2
+        return 1
+    fi
+    place=$out/elpa/$name-$version
+    summary=$(sed -n "1s/ *-\*-.*//; 1s/^;;; $name\.el --- *//p" "$1")
+    mkdir -p "$place" && cp "$1" "$place/" || return 1
+    cat > "$place/$name-pkg.el" <<END
+(define-package "$name" "$version" "$summary" '$(header "$1" Package-Requires))
+;; Local Variables:
+;; no-byte-compile: t
+;; End:
+END
+    commands=$(awk -v name="$name" '
+        function known() {
+            if (command != "") print "(autoload (quote " command ") \"" name "\" nil" asked ")"
+            command = ""
+        }
+        /^[(;]/ { known() }
+        cookie && $1 != "(defun" {
+            print FILENAME ": what is known of this before it is loaded? " $0 > "/dev/stderr"
+            exit 1
+        }
+        cookie { command = $2; asked = "" }
+        / \(interactive[ )]/ || / \(interactive$/ { asked = " t" }
+        { cookie = $0 == ";;;###autoload" }
+        END { known() }
+    ' "$1") || return 1
+    cat > "$place/$name-autoloads.el" <<END
+;;; $name-autoloads.el --- what is known of $name before it is loaded  -*- lexical-binding: t -*-
+(add-to-list 'load-path (directory-file-name (file-name-directory load-file-name)))
+$commands
+;; Local Variables:
+;; no-byte-compile: t
+;; End:
+;;; $name-autoloads.el ends here
+END
+}
+
+vim_tags() {
+    for page in clients/vim/doc/*.txt; do
+        awk -v page="${page##*/}" '
+            {
+                rest = " " $0 " "
+                while (match(rest, /[ \t]\*[^ \t*|]+\*[ \t]/)) {
+                    tag = substr(rest, RSTART + 2, RLENGTH - 4)
+                    rest = substr(rest, RSTART + RLENGTH - 1)
+                    place = tag
+                    gsub(/[\\\/]/, "\\\\&", place)
+                    print tag "\t" page "\t/*" place "*"
+                }
+            }' "$page"
+    done | LC_ALL=C sort > $out/tags
+}
+
+for client in clients/emacs/*.el; do
+    case $client in
+        *-tests.el) ;;
+        *) emacs_package "$client" || exit 1 ;;
+    esac
+done
+[ ! -d clients/vim/doc ] || vim_tags
+touch $out/clients

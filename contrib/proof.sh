@@ -1,0 +1,72 @@
+#!/bin/sh
+# SPDX-License-Identifier: Apache-2.0 OR MIT
+# Writes what an archive says of the proof: version and commit, the kit and its logic, the handles that are allowed, and of each
+# crate of the programs the last line of its check, made over what earlier checks kept. Where a check doesn't end in that line,
+# there is no record. GATE names a file with what `make test` wrote: its last two lines are taken, if nothing failed there.
+# The record is kept in contrib/out/PROOF as long as no source, no kit and no commit changes.
+cd "$(dirname "$0")/.." || exit 2
+record=contrib/out/PROOF
+commit=$(git rev-parse HEAD 2> /dev/null || echo unknown)
+[ -z "$(git status --porcelain 2> /dev/null)" ] || commit="$commit, and changes that are not committed"
+sources=$({
+    echo "$commit"
+    rt version
+    cat VERSION HANDLES crates.txt ${GATE:+"$GATE"}
+    find crates -name out -prune -o -type f -print | LC_ALL=C sort | xargs sha256sum
+} | sha256sum)
+if [ -f $record ] && [ "$(cat contrib/out/proof.sum 2> /dev/null)" = "$sources" ]; then
+    exit 0
+fi
+mkdir -p contrib/out
+work=$(mktemp -d) || exit 2
+trap 'rm -rf "$work"' EXIT
+
+# The crates below the programs, and these, in the order of crates.txt.
+crates=" orgviews orgq "
+before=""
+while [ "$crates" != "$before" ]; do
+    before=$crates
+    for name in $crates; do
+        for below in $(sed -n "s/#.*//; s/^$name[^:]*://p" crates.txt); do
+            case $crates in
+                *" $below "*) ;;
+                *) ! grep -q "^$below[ :]" crates.txt || crates="$crates$below " ;;
+            esac
+        done
+    done
+done
+for name in $(sed -n 's/#.*//; s/^\([a-z_0-9]*\)[ :].*/\1/p' crates.txt); do
+    case $crates in *" $name "*) ;; *) continue ;; esac
+    echo "orgviews: the check of $name, for the record" >&2
+    (cd "crates/$name" && rt check < /dev/null > "$work/log" 2>&1)
+    status=$?
+    said=$(sed -n 's/^\(logic=proved .*functions=.*\) native=.*/\1/p' "$work/log" | tail -n 1)
+    if [ $status -ne 0 ] || [ -z "$said" ]; then
+        tail -n 5 "$work/log" >&2
+        echo "orgviews: $name isn't proved, so there is no record and no archive" >&2
+        exit 1
+    fi
+    echo "$name: $said" >> "$work/lines"
+done
+if [ -n "$GATE" ]; then
+    tail -n 2 "$GATE" > "$work/gate"
+    if ! tail -n 1 "$work/gate" | grep -qE '^[1-9][0-9]* passed, 0 failed$'; then
+        echo "orgviews: $GATE doesn't end as a gate does that all passed" >&2
+        exit 1
+    fi
+fi
+{
+    echo "orgviews $(cat VERSION)"
+    echo "commit $commit"
+    echo "kit $(rt version)"
+    cat HANDLES
+    echo
+    cat "$work/lines"
+    sed 's/.* functions=\([0-9]*\).*/\1/' "$work/lines" | awk '{ sum += $1 } END { print NR " crates, " sum " functions: all proved" }'
+    if [ -n "$GATE" ]; then
+        echo
+        echo "The gate of this commit ended with"
+        cat "$work/gate"
+    fi
+} > "$work/record"
+mv "$work/record" $record && echo "$sources" > contrib/out/proof.sum

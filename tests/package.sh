@@ -1,0 +1,266 @@
+#!/bin/sh
+# SPDX-License-Identifier: Apache-2.0 OR MIT
+# What can be tried of installing, of the archive and of the notices without a proof, without the kit and without root: copies of
+# this folder with stand-ins for the programs, for `rt` and for a kit. The last line counts.
+here=$(cd "$(dirname "$0")/.." && pwd -P) || exit 2
+work=$(mktemp -d) || exit 2
+work=$(cd "$work" && pwd -P)
+trap 'chmod -R u+w "$work"; rm -rf "$work"' EXIT
+passed=0
+failed=0
+
+# check NAME CMD..: whether it answers 0.
+check() {
+    name=$1
+    shift
+    if "$@" > "$work/said" 2>&1; then
+        passed=$((passed + 1))
+    else
+        echo "package: $name"
+        sed 's/^/    /' "$work/said"
+        failed=$((failed + 1))
+    fi
+}
+
+# refuses NAME WORD CMD..: whether it fails and says the word.
+refuses() {
+    name=$1 word=$2
+    shift 2
+    if "$@" > "$work/said" 2>&1; then
+        echo "package: $name: it wasn't refused"
+        failed=$((failed + 1))
+    elif ! grep -q "$word" "$work/said"; then
+        echo "package: $name: the refusal doesn't say $word"
+        sed 's/^/    /' "$work/said"
+        failed=$((failed + 1))
+    else
+        passed=$((passed + 1))
+    fi
+}
+
+# A kit of five libraries: one that two others stand on, one without a notice, one with a notice at the head of a source, and one
+# that no program names.
+kit=$work/kit
+for library in clap jiff memchr below unused; do
+    mkdir -p "$kit/rlibs/$library.rlib" "$kit/rattle/$library/src"
+    printf 'crate %s\n' "$library" > "$kit/rlibs/$library.rlib/format"
+    printf '//! A library.\nfn it() {}\n// The licence of no head.\n' > "$kit/rattle/$library/src/lib.rt"
+done
+echo 'rattle-kit-0 logic 00' > "$kit/KIT-ID"
+printf 'dep below\n' | tee -a "$kit/rlibs/clap.rlib/format" >> "$kit/rlibs/jiff.rlib/format"
+echo 'The terms of two.' | tee "$kit/rattle/clap/LICENSE-MIT" > "$kit/rattle/jiff/LICENSE"
+echo 'The terms of what none names.' > "$kit/rattle/unused/LICENSE"
+printf '// Under the licence of a friend.\n\nfn it() {}\n' > "$kit/rattle/below/src/more.rt"
+
+# What the scripts ask of `rt`; the check of the crate in UNPROVED ends without a proof.
+mkdir "$work/bin"
+cat > "$work/bin/rt" <<END
+#!/bin/sh
+case \$1 in
+    doc) echo "$kit/START-HERE.md" ;;
+    version) cat "$kit/KIT-ID" ;;
+    check)
+        [ "\${PWD##*/}" != "\$UNPROVED" ] || { echo "logic=open functions=3"; exit 1; }
+        echo "so far: 0 of 3 functions checked"
+        echo "logic=proved functions=3 sum=00 native=nat,char,string incremental=\$\$"
+        ;;
+    *) exit 2 ;;
+esac
+END
+chmod 755 "$work/bin/rt"
+PATH=$work/bin:$PATH
+GIT_AUTHOR_DATE='2026-01-02T03:04:05Z' GIT_COMMITTER_DATE='2026-01-02T03:04:05Z'
+GIT_AUTHOR_NAME=nobody GIT_COMMITTER_NAME=nobody GIT_AUTHOR_EMAIL=nobody@example.org GIT_COMMITTER_EMAIL=nobody@example.org
+export PATH GIT_AUTHOR_DATE GIT_COMMITTER_DATE GIT_AUTHOR_NAME GIT_COMMITTER_NAME GIT_AUTHOR_EMAIL GIT_COMMITTER_EMAIL
+unset SOURCE_DATE_EPOCH PREFIX DESTDIR GATE KIT PROOF KEEP UNPROVED MAKEFLAGS MAKELEVEL
+export GIT_CONFIG_GLOBAL=/dev/null GIT_CONFIG_SYSTEM=/dev/null
+
+# The programs that stand where the real ones would, newer than the sources.
+stand_in() {
+    for program in orgviews orgq; do
+        mkdir -p "$1/crates/$program/out"
+        printf '#!/bin/sh\necho %s\n' "$program" > "$1/crates/$program/out/$program"
+        chmod 755 "$1/crates/$program/out/$program"
+    done
+}
+
+# The folder as it stands, with what isn't committed, as a repository of one commit over three crates.
+first=$work/first
+mkdir "$first"
+(cd "$here" && git ls-files -co --exclude-standard | grep -v '^crates/' | tar -cf - -T - | tar -C "$first" -xf -) || exit 2
+cp "$here/crates/orgviews/src/main.rt" "$first/" && cp "$here/crates/orgq/src/main.rt" "$first/main-orgq.rt" || exit 2
+for crate in org_base orgviews orgq; do
+    mkdir -p "$first/crates/$crate/src"
+    echo "fn $crate() {}" > "$first/crates/$crate/src/lib.rt"
+done
+printf 'org_base: jiff # a remark\norgviews: org_base clap\norgq: org_base clap memchr\norg_tests: unused\n' > "$first/crates.txt"
+rm "$first/main.rt" "$first/main-orgq.rt"
+(cd "$first" && git init -q && git add -A && git commit -q -m first) || exit 2
+stand_in "$first"
+
+quiet_make() {
+    (cd "$1" && shift && make --no-print-directory "$@")
+}
+
+# Everything below a folder: names, modes, and what is in files.
+listing() {
+    (cd "$1" && find . -printf '%p %M\n' | LC_ALL=C sort && find . -type f | LC_ALL=C sort | xargs -r sha256sum)
+}
+
+# 1. Licence.
+spdx() {
+    missing=$(cd "$here" && git ls-files -co --exclude-standard LICENSE Makefile clients contrib crates/orgq/src/main.rt crates/orgviews/src/main.rt |
+        while read -r file; do
+            head -n 12 "$file" | grep -q 'SPDX-License-Identifier: Apache-2.0 OR MIT' || echo "$file"
+        done)
+    echo "$missing"
+    [ -z "$missing" ]
+}
+check "each program, client and script of the package has its SPDX line" spdx
+
+# 2. Without rt.
+without_rt() {
+    mkdir "$work/few"
+    for tool in sh make find dirname cat; do ln -s "$(command -v $tool)" "$work/few/"; done
+    rm -rf "$work/bare" && git clone -q "$first" "$work/bare"
+    ! (cd "$work/bare" && PATH=$work/few make > "$work/lines" 2>&1) || return 1
+    cat "$work/lines"
+    [ "$(wc -l < "$work/lines")" -eq 1 ] && grep -q 'there is no `rt`' "$work/lines"
+}
+check "make without rt says in one line what is missing" without_rt
+
+# 3. Installing and taking away.
+root=$work/root
+mkdir -p "$root/usr/bin" "$root/usr/share/man/man1" "$root/usr/share/doc/orgviews"
+echo mine > "$root/usr/bin/mine"
+echo mine > "$root/usr/share/doc/orgviews/mine"
+listing "$root" > "$work/before"
+check "make install" quiet_make "$first" install DESTDIR="$root" PREFIX=/usr
+installed() {
+    for file in bin/orgq bin/orgviews bin/orgq-notify; do
+        [ -x "$root/usr/$file" ] || { echo "no $file"; return 1; }
+    done
+    for file in share/man/man1/orgq-notify.1 share/doc/orgviews/THIRD-PARTY-NOTICES share/doc/orgviews/LICENSE \
+        share/bash-completion/completions/orgq share/zsh/site-functions/_orgq share/fish/vendor_completions.d/orgq.fish \
+        share/systemd/user/orgq-notify.timer share/doc/orgviews/manual.md; do
+        [ -s "$root/usr/$file" ] || { echo "no $file"; return 1; }
+    done
+    ls "$root"/usr/share/emacs/site-lisp/elpa/org-views-*/org-views-autoloads.el
+}
+check "all is installed" installed
+twice() {
+    listing "$root" > "$work/once"
+    quiet_make "$first" install DESTDIR="$root" PREFIX=/usr && listing "$root" | cmp - "$work/once"
+}
+check "installing twice is the same" twice
+away() {
+    quiet_make "$first" uninstall DESTDIR="$root" PREFIX=/usr && listing "$root" | diff "$work/before" -
+}
+check "uninstall leaves what was there, and nothing else" away
+refuses "uninstall where nothing is installed" "nothing that make install" quiet_make "$first" uninstall DESTDIR="$root" PREFIX=/usr
+check "that changed nothing" sh -c "cd '$root' && test -f usr/bin/mine"
+older() {
+    quiet_make "$first" install PREFIX="$work/home/.local" || return 1
+    echo old > "$work/home/.local/share/doc/orgviews/old.md"
+    echo 'file share/doc/orgviews/old.md' >> "$work/home/.local/share/orgviews/installed"
+    quiet_make "$first" install PREFIX="$work/home/.local" || return 1
+    [ ! -e "$work/home/.local/share/doc/orgviews/old.md" ] || return 1
+    quiet_make "$first" uninstall PREFIX="$work/home/.local" || return 1
+    find "$work/home/.local" -mindepth 1
+    [ -z "$(find "$work/home/.local" -mindepth 1)" ]
+}
+check "a later version takes away what only an earlier one had" older
+outside() {
+    quiet_make "$first" install PREFIX="$work/home/.local" || return 1
+    echo kept > "$work/home/kept"
+    printf 'file ../kept\nfile %s/home/kept\n' "$work" >> "$work/home/.local/share/orgviews/installed"
+    quiet_make "$first" uninstall PREFIX="$work/home/.local"
+    [ -f "$work/home/kept" ]
+}
+check "uninstall stays under its prefix" outside
+
+# 4. The archive, in two folders, at two times, under two umasks and zones.
+archive=orgviews-$(cat "$here/VERSION")-x86_64-linux
+check "make dist" quiet_make "$first" dist
+again() {
+    mkdir -p "$work/deeper" && git clone -q "$first" "$work/deeper/elsewhere" && stand_in "$work/deeper/elsewhere" || return 1
+    sleep 1
+    (umask 077; TZ=Asia/Tokyo HOME=$work quiet_make "$work/deeper/elsewhere" dist) || return 1
+    cmp "$first/$archive.tar.xz" "$work/deeper/elsewhere/$archive.tar.xz"
+}
+check "an archive that is made elsewhere is the same to the byte" again
+sums() {
+    mkdir -p "$work/unpacked" && tar -C "$work/unpacked" -xf "$first/$archive.tar.xz" || return 1
+    cd "$work/unpacked/$archive" || return 1
+    sha256sum --quiet -c SHA256SUMS || return 1
+    find . -type f ! -name SHA256SUMS | sed 's,^\./,,' | LC_ALL=C sort > "$work/there"
+    sed 's/^[0-9a-f]*  //' SHA256SUMS | diff - "$work/there"
+}
+check "SHA256SUMS names every file of the archive, rightly" sums
+plain() {
+    TZ=UTC0 tar --numeric-owner --full-time -tvf "$first/$archive.tar.xz" > "$work/table" || return 1
+    grep -v ' 0/0 .* 2026-01-02 03:04:05 ' "$work/table" | grep . && return 1
+    grep -q "^-rwxr-xr-x 0/0 .* $archive/bin/orgq$" "$work/table" && grep -q "^-rw-r--r-- .* $archive/LICENSE$" "$work/table"
+}
+check "times in it are the commit's, owner and modes are plain" plain
+record() {
+    proof=$work/unpacked/$archive/share/doc/orgviews/PROOF
+    cat "$proof"
+    grep -qx "commit $(git -C "$first" rev-parse HEAD)" "$proof" && grep -qx 'kit rattle-kit-0 logic 00' "$proof" &&
+        grep -qx 'org_base: logic=proved functions=3 sum=00' "$proof" && grep -qx '3 crates, 9 functions: all proved' "$proof" &&
+        ! grep -q org_tests "$proof"
+}
+check "it says what was proved, by what and of which commit" record
+unproved() {
+    rm -rf "$1/contrib/out" "$1"/*.tar.xz
+    UNPROVED=org_base quiet_make "$1" dist
+}
+refuses "no archive of what isn't proved" "org_base isn't proved" unproved "$work/deeper/elsewhere"
+check "none was made then" test ! -e "$work/deeper/elsewhere/$archive.tar.xz"
+gate_failed() {
+    printf 'gate: 1 crate\n5 passed, 1 failed\n' > "$work/gate"
+    GATE=$work/gate quiet_make "$first" dist
+}
+refuses "no archive with a gate that failed" "doesn't end as a gate" gate_failed
+gate_passed() {
+    printf 'gate: 1 crate\n6 passed, 0 failed\n' > "$work/gate"
+    GATE=$work/gate quiet_make "$first" dist && tar -xOf "$first/$archive.tar.xz" "$archive/share/doc/orgviews/PROOF" | tail -n 1 | grep -x '6 passed, 0 failed'
+}
+check "the gate's last lines go into the record" gate_passed
+holds_path() {
+    echo "# $work/deeper/elsewhere" >> "$work/deeper/elsewhere/crates/orgq/out/orgq"
+    quiet_make "$work/deeper/elsewhere" dist
+}
+refuses "no archive with the path of the folder in it" "path of this folder" holds_path
+changed() {
+    echo >> "$first/README.md"
+    quiet_make "$first" dist && tar -xOf "$first/$archive.tar.xz" "$archive/share/doc/orgviews/PROOF" | grep -q 'changes that are not committed'
+}
+check "an archive of more than a commit says so" changed
+
+# 5. Notices.
+notices() {
+    cat "$first/contrib/out/THIRD-PARTY-NOTICES"
+    grep -A1 -x 'clap (LICENSE-MIT),' "$first/contrib/out/THIRD-PARTY-NOTICES" | grep -qx 'jiff (LICENSE):' &&
+        [ "$(grep -cx 'The terms of two.' "$first/contrib/out/THIRD-PARTY-NOTICES")" -eq 1 ] &&
+        grep -qx 'below (at the head of src/more.rt):' "$first/contrib/out/THIRD-PARTY-NOTICES" &&
+        grep -qx 'Under the licence of a friend.' "$first/contrib/out/THIRD-PARTY-NOTICES" &&
+        grep -q 'it has no notice: memchr\.$' "$first/contrib/out/THIRD-PARTY-NOTICES" &&
+        ! grep -q -e unused -e 'what none names' -e 'of no head' "$first/contrib/out/THIRD-PARTY-NOTICES"
+}
+check "the notices are those of the libraries that the programs stand on, each text once" notices
+refuses "a library that the kit lacks" "no library memchr" sh -c "rm -r '$kit/rlibs/memchr.rlib' && sh '$first/contrib/notices.sh'"
+
+# 6. What editors want.
+editors() {
+    cd "$first/contrib/out/elpa"/org-views-* || return 1
+    cat org-views-autoloads.el org-views-pkg.el
+    version=$(sed -n 's/^;; Version: //p' org-views.el)
+    grep -q "^(define-package \"org-views\" \"$version\" \"Agendas .*[a-z]\" '((emacs \"[0-9.]*\")))\$" org-views-pkg.el &&
+        grep -qx '(autoload (quote org-views-agenda) "org-views" nil t)' org-views-autoloads.el &&
+        [ "$(grep -c '^;;;###autoload' org-views.el)" -eq "$(grep -c '^(autoload' org-views-autoloads.el)" ]
+}
+check "Emacs is told of the client's version and commands" editors
+
+echo "package: $passed passed, $failed failed"
+[ "$failed" -eq 0 ] && [ "$passed" -gt 0 ]
