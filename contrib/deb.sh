@@ -4,7 +4,7 @@
 # and the programs without their tables of symbols. What they depend on is found by dpkg-shlibdeps. The same makes the same
 # package. Wants dpkg-dev and binutils. DEBFULLNAME and DEBEMAIL are whom the package names, where they are set.
 cd "$(dirname "$0")/.." || exit 2
-version=$(cat VERSION)-1
+version=$(cat VERSION)
 architecture=$(dpkg --print-architecture) || exit 2
 SOURCE_DATE_EPOCH=${SOURCE_DATE_EPOCH:-$(git log -1 --format=%ct)}
 if [ -z "$SOURCE_DATE_EPOCH" ]; then
@@ -35,15 +35,14 @@ strip --remove-section=.comment --remove-section=.note "$tree/usr/bin/orgviews" 
     echo "/usr/share/doc/orgviews/THIRD-PARTY-NOTICES.gz."
 } > "$doc/copyright"
 rm "$doc/LICENSE"
-mv "$doc/CHANGELOG.md" "$doc/changelog"
-cat > "$doc/changelog.Debian" <<END
+cat > "$doc/changelog" <<END
 orgviews ($version) unstable; urgency=medium
 
-  * orgviews $(cat VERSION); what is new stands in changelog.gz.
+  * What is new for users stands in CHANGELOG.md.
 
  -- $maintainer  $(date -u -R -d "@$SOURCE_DATE_EPOCH")
 END
-gzip -9n "$doc/changelog" "$doc/changelog.Debian" "$doc/THIRD-PARTY-NOTICES" "$share"/man/man1/*.1 || exit 1
+gzip -9n "$doc/changelog" "$doc/THIRD-PARTY-NOTICES" "$share"/man/man1/*.1 || exit 1
 
 if [ -f contrib/lintian-overrides ]; then
     mkdir -p "$share/lintian/overrides" && install -m 644 contrib/lintian-overrides "$share/lintian/overrides/orgviews" || exit 1

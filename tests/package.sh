@@ -258,7 +258,7 @@ editors() {
     version=$(sed -n 's/^;; Version: //p' org-views.el)
     grep -q "^(define-package \"org-views\" \"$version\" \"Agendas .*[a-z]\" '((emacs \"[0-9.]*\")))\$" org-views-pkg.el &&
         grep -qx '(autoload (quote org-views-agenda) "org-views" nil t)' org-views-autoloads.el &&
-        [ "$(grep -c '^;;;###autoload' org-views.el)" -eq "$(grep -c '^(autoload' org-views-autoloads.el)" ]
+        [ "$(cat org-views*.el | grep -c '^;;;###autoload')" -eq "$(grep -c '^(autoload' org-views-autoloads.el)" ]
 }
 check "Emacs is told of the client's version and commands" editors
 
