@@ -61,7 +61,7 @@ Package: orgviews
 Version: $version
 Architecture: $architecture
 Maintainer: $maintainer
-Installed-Size: $(du -k -s --apparent-size "$tree/usr" | cut -f 1)
+Installed-Size: $(find "$tree/usr" -printf '%y %s\n' | awk '{ kib += $1 == "f" ? int(($2 + 1023) / 1024) : 1 } END { print kib }')
 Depends: $depends
 Recommends: tzdata
 Suggests: emacs (>= 1:28.1), libnotify-bin, vim

@@ -118,6 +118,13 @@ spdx() {
 }
 check "each program, client and script of the package has its SPDX line" spdx
 
+one_version() {
+    version=$(cat "$here/VERSION")
+    cd "$here" && grep -qx "pkgver=$version" contrib/aur/PKGBUILD && grep -qx "## $version" CHANGELOG.md &&
+        [ "$(grep -ohE 'orgviews[-_][0-9.]+[0-9]' README.md | sed 's/orgviews.//' | sort -u)" = "$version" ]
+}
+check "VERSION, the change log, README and the recipes say one version" one_version
+
 # 2. Without rt.
 without_rt() {
     mkdir "$work/few"
@@ -261,6 +268,45 @@ editors() {
         [ "$(cat org-views*.el | grep -c '^;;;###autoload')" -eq "$(grep -c '^(autoload' org-views-autoloads.el)" ]
 }
 check "Emacs is told of the client's version and commands" editors
+
+# 7. The Debian package, over two programs that every Debian has; lintian's word where it is there.
+if command -v dpkg-shlibdeps strip dpkg-deb > /dev/null; then
+    for folder in "$work/debian" "$work/elsewhere/debian"; do
+        git clone -q "$first" "$folder" && mkdir -p "$folder/crates/orgviews/out" "$folder/crates/orgq/out" || exit 2
+        cp /usr/bin/sort "$folder/crates/orgviews/out/orgviews"
+        cp /usr/bin/env "$folder/crates/orgq/out/orgq"
+        touch "$folder"/crates/*/out/*
+        mkdir "$folder/contrib/out" && cp "$first/contrib/out/THIRD-PARTY-NOTICES" "$folder/contrib/out/"
+    done
+    package=orgviews_$(cat "$here/VERSION")_$(dpkg --print-architecture).deb
+    check "make deb" quiet_make "$work/debian" deb
+    deb_again() {
+        (umask 077; TZ=Asia/Tokyo quiet_make "$work/elsewhere/debian" deb) && cmp "$work/debian/$package" "$work/elsewhere/debian/$package"
+    }
+    check "a package that is made elsewhere is the same to the byte" deb_again
+    deb_holds() {
+        dpkg-deb -f "$work/debian/$package" Depends | grep -E '^libc6 \(>= 2\.[0-9]+\)' || return 1
+        dpkg-deb -c "$work/debian/$package" > "$work/table" || return 1
+        for file in usr/bin/orgq usr/share/zsh/vendor-completions/_orgq usr/lib/systemd/user/orgq-notify.timer usr/share/doc/orgviews/copyright \
+            usr/share/doc/orgviews/PROOF usr/share/man/man1/orgq-notify.1.gz; do
+            grep -q " \./$file$" "$work/table" || { echo "no $file"; return 1; }
+        done
+        ! grep -v -E ' root/root .* \./(usr/.*)?$' "$work/table"
+    }
+    check "it depends on the C library, and what it holds stands where Debian looks" deb_holds
+    if command -v lintian > /dev/null; then
+        lintian_says() {
+            lintian --allow-root --no-tag-display-limit "$work/debian/$package" > "$work/lintian" 2>&1
+            cat "$work/lintian"
+            ! grep '^[EW]:' "$work/lintian"
+        }
+        check "lintian has neither error nor warning" lintian_says
+    else
+        echo "package: lintian isn't here, and was left out"
+    fi
+else
+    echo "package: dpkg-dev or binutils isn't here, and the Debian package was left out"
+fi
 
 echo "package: $passed passed, $failed failed"
 [ "$failed" -eq 0 ] && [ "$passed" -gt 0 ]
