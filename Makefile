@@ -10,7 +10,7 @@ PREFIX ?= /usr/local
 NEEDS_RT = $(if $(shell command -v rt),,$(error there is no `rt`: building wants Rattle's kit, with its folder bin in PATH; what is \
 built already is an archive or a package, see Install in README.md))
 
-.PHONY: run try build check changed test rows orgq-test faults emacs-test bench collide install uninstall proof dist deb package-test clean
+.PHONY: run try build check changed test rows orgq-test faults emacs-test bench collide install deb clean
 
 # Builds the program where it isn't fresh, and runs the first example.
 run: $(PROGRAM)
@@ -83,6 +83,8 @@ bench: $(PROGRAM) $(PARTS) $(ORGQ)
 collide: $(PROGRAM)
 	@mkdir -p bench/out
 	@rustc -O -o bench/out/collide bench/collide.rs && bench/out/collide $(PROGRAM)
+
+.PHONY: uninstall proof dist package-test
 
 # What contrib/files.sh lists, under PREFIX: programs, pages, completions, clients, documents, licence, notices, units that stay
 # off. Prints the programs' SHA-256.
