@@ -16,8 +16,8 @@ export LC_ALL
 
 # What a crate names: its line in crates.txt, or the kit's list of what the library stands on.
 below() {
-    if grep -q "^$1[ :]" crates.txt; then
-        sed -n "s/#.*//; s/^$1[^:]*://p" crates.txt
+    if grep -q "^${1}[ :]" crates.txt; then
+        sed -n "s/#.*//; s/^${1}\( [^:]*\)\{0,1\}://p" crates.txt
     elif [ -f "$kit/rlibs/$1.rlib/format" ]; then
         echo "$1" >> "$work/names"
         sed -n 's/^dep //p' "$kit/rlibs/$1.rlib/format"
@@ -33,9 +33,9 @@ while [ -n "$todo" ]; do
     for name in $todo; do
         case $seen in *" $name "*) continue ;; esac
         seen="$seen$name "
-        next="$next $(below "$name")" || exit 1
+        next="$next$(below "$name") " || exit 1
     done
-    todo=$(echo $next)
+    todo=${next% }
 done
 sort -o "$work/names" "$work/names"
 

@@ -27,10 +27,10 @@ before=""
 while [ "$crates" != "$before" ]; do
     before=$crates
     for name in $crates; do
-        for below in $(sed -n "s/#.*//; s/^$name[^:]*://p" crates.txt); do
+        for below in $(sed -n "s/#.*//; s/^${name}\( [^:]*\)\{0,1\}://p" crates.txt); do
             case $crates in
                 *" $below "*) ;;
-                *) ! grep -q "^$below[ :]" crates.txt || crates="$crates$below " ;;
+                *) ! grep -q "^${below}[ :]" crates.txt || crates="$crates$below " ;;
             esac
         done
     done

@@ -93,7 +93,7 @@ for crate in org_base orgviews orgq; do
     mkdir -p "$first/crates/$crate/src"
     echo "fn $crate() {}" > "$first/crates/$crate/src/lib.rt"
 done
-printf 'org_base: jiff # a remark\norgviews: org_base clap\norgq: org_base clap memchr\norg_tests: unused\n' > "$first/crates.txt"
+printf 'org_base: jiff # a remark\norgviews: org_base clap\norgq: org_base clap memchr\norg_base_tests: unused\n' > "$first/crates.txt"
 rm "$first/main.rt" "$first/main-orgq.rt"
 (cd "$first" && git init -q && git add -A && git commit -q -m first) || exit 2
 stand_in "$first"
@@ -110,6 +110,7 @@ listing() {
 # 1. Licence.
 spdx() {
     missing=$(cd "$here" && git ls-files -co --exclude-standard LICENSE Makefile clients contrib crates/orgq/src/main.rt crates/orgviews/src/main.rt |
+            grep -v -e '\.md$' -e '\.txt$' |
         while read -r file; do
             head -n 12 "$file" | grep -q 'SPDX-License-Identifier: Apache-2.0 OR MIT' || echo "$file"
         done)
@@ -215,7 +216,7 @@ record() {
     cat "$proof"
     grep -qx "commit $(git -C "$first" rev-parse HEAD)" "$proof" && grep -qx 'kit rattle-kit-0 logic 00' "$proof" &&
         grep -qx 'org_base: logic=proved functions=3 sum=00' "$proof" && grep -qx '3 crates, 9 functions: all proved' "$proof" &&
-        ! grep -q org_tests "$proof"
+        ! grep -q org_base_tests "$proof"
 }
 check "it says what was proved, by what and of which commit" record
 unproved() {
