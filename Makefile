@@ -22,7 +22,7 @@ try:
 	@echo "orgviews: nothing is proved here; make run and make test do that"
 	@cd crates/orgviews && rt try -- --at "2024-02-28 10:30" < ../../tests/rows/first-run
 
-build: $(PROGRAM) $(ORGQ)
+build: $(PROGRAM) $(ORGQ) $(PACKED)
 
 # `rt run` proves every crate below the program before it builds it, and then runs it on no input.
 $(PROGRAM): $(SOURCES)

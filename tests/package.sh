@@ -270,7 +270,26 @@ editors() {
 }
 check "Emacs is told of the client's version and commands" editors
 
-# 7. The Debian package, over two programs that every Debian has; lintian's word where it is there.
+# 7. The units: runs over two hours tell each minute once. Wants the program itself, as it was last built.
+orgq=$here/crates/orgq/out/orgq
+if [ -x "$orgq" ]; then
+    told_once() {
+        within=$(sed -n 's/^ExecStart=.* orgq-notify //p' "$here/contrib/systemd/orgq-notify.service")
+        first_run=$(sed -n 's,^OnCalendar=\*:\([0-9]*\)/10$,\1,p' "$here/contrib/systemd/orgq-notify.timer")
+        for minute in $(seq 0 119); do
+            printf '* %03d <2024-02-28 Wed %02d:%02d>\n' "$minute" $((10 + minute / 60)) $((minute % 60))
+        done > "$work/minutes.org"
+        for run in $(seq "$first_run" 10 119); do
+            "$orgq" --at "$(printf '2024-02-28 %02d:%02d' $((10 + run / 60)) $((run % 60)))" -f "$work/minutes.org" --csv next --within "$within"
+        done | cut -d , -f 2 | cut -d ' ' -f 1 > "$work/told"
+        seq -f %03g "$first_run" 119 | diff - "$work/told"
+    }
+    check "the units tell each minute once" told_once
+else
+    echo "package: orgq isn't built, and what the units tell was left out"
+fi
+
+# 8. The Debian package, over two programs that every Debian has; lintian's word where it is there.
 if command -v dpkg-shlibdeps strip dpkg-deb > /dev/null; then
     for folder in "$work/debian" "$work/elsewhere/debian"; do
         git clone -q "$first" "$folder" && mkdir -p "$folder/crates/orgviews/out" "$folder/crates/orgq/out" || exit 2
