@@ -76,4 +76,5 @@ Description: proved agendas, lists and clock tables of Org files
 END
 (cd "$tree" && find usr -type f | sort | xargs md5sum > DEBIAN/md5sums) || exit 1
 package=orgviews_${version}_$architecture.deb
-dpkg-deb --root-owner-group -Zxz --build "$tree" "$package" > /dev/null && sha256sum "$package"
+# One thread: how many there are would show in the package.
+DPKG_DEB_THREADS_MAX=1 dpkg-deb --root-owner-group -Zxz --build "$tree" "$package" > /dev/null && sha256sum "$package"
