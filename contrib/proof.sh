@@ -2,16 +2,28 @@
 # SPDX-License-Identifier: Apache-2.0 OR MIT
 # Writes what an archive says of the proof: version and commit, the kit and its logic, the handles that are allowed, and of each
 # crate of the programs the last line of its check, made over what earlier checks kept. Where a check doesn't end in that line,
-# there is no record. GATE names a file with what `make test` wrote: its last two lines are taken, if nothing failed there.
-# The record is kept in contrib/out/PROOF as long as no source, no kit and no commit changes.
+# or a program isn't the one that `rt` noted as built of proved crates, there is no record. GATE names a file with what `make test`
+# wrote: its last two lines are taken, if nothing failed there.
+# The record is kept in contrib/out/PROOF as long as no source, no program, no kit and no commit changes.
 cd "$(dirname "$0")/.." || exit 2
 record=contrib/out/PROOF
 commit=$(git rev-parse HEAD 2> /dev/null || echo unknown)
 [ -z "$(git status --porcelain 2> /dev/null)" ] || commit="$commit, and changes that are not committed"
+for program in orgviews orgq; do
+    built=crates/$program/out/$program
+    # What rt notes beside a program ends with the program's sum.
+    case $(cat $built.stamp 2> /dev/null) in
+        *"$(sha256sum < $built | cut -d ' ' -f 1)") ;;
+        *)
+            echo "orgviews: $built isn't a program that rt built of proved crates" >&2
+            exit 1
+            ;;
+    esac
+done
 sources=$({
     echo "$commit"
     rt version
-    cat VERSION HANDLES crates.txt ${GATE:+"$GATE"}
+    cat VERSION HANDLES crates.txt crates/orgviews/out/orgviews.stamp crates/orgq/out/orgq.stamp ${GATE:+"$GATE"}
     find crates -name out -prune -o -type f -print | LC_ALL=C sort | xargs sha256sum
 } | sha256sum)
 if [ -f $record ] && [ "$(cat contrib/out/proof.sum 2> /dev/null)" = "$sources" ]; then
@@ -60,6 +72,11 @@ fi
     echo "commit $commit"
     echo "kit $(rt version)"
     cat HANDLES
+    echo
+    echo "SHA-256 of the programs as they were built:"
+    for program in orgviews orgq; do
+        (cd crates/$program/out && sha256sum $program)
+    done
     echo
     cat "$work/lines"
     sed 's/.* functions=\([0-9]*\).*/\1/' "$work/lines" | awk '{ sum += $1 } END { print NR " crates, " sum " functions: all proved" }'

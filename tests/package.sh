@@ -75,12 +75,16 @@ export PATH GIT_AUTHOR_DATE GIT_COMMITTER_DATE GIT_AUTHOR_NAME GIT_COMMITTER_NAM
 unset SOURCE_DATE_EPOCH PREFIX DESTDIR GATE KIT PROOF KEEP UNPROVED MAKEFLAGS MAKELEVEL
 export GIT_CONFIG_GLOBAL=/dev/null GIT_CONFIG_SYSTEM=/dev/null
 
-# The programs that stand where the real ones would, newer than the sources.
+# What rt leaves of a program: the file, newer than the sources, and what it notes beside it, which ends with the program's sum.
+built() {
+    mkdir -p "$1/crates/$2/out" && cp "$3" "$1/crates/$2/out/$2" && chmod 755 "$1/crates/$2/out/$2" &&
+        printf '00%s' "$(sha256sum < "$3" | cut -d ' ' -f 1)" > "$1/crates/$2/out/$2.stamp"
+}
+
+# Scripts that stand where the real programs would.
 stand_in() {
     for program in orgviews orgq; do
-        mkdir -p "$1/crates/$program/out"
-        printf '#!/bin/sh\necho %s\n' "$program" > "$1/crates/$program/out/$program"
-        chmod 755 "$1/crates/$program/out/$program"
+        printf '#!/bin/sh\necho %s\n' "$program" > "$work/script" && built "$1" $program "$work/script" || return 1
     done
 }
 
@@ -96,7 +100,7 @@ done
 printf 'org_base: jiff # a remark\norgviews: org_base clap\norgq: org_base clap memchr\norg_base_tests: unused\n' > "$first/crates.txt"
 rm "$first/main.rt" "$first/main-orgq.rt"
 (cd "$first" && git init -q && git add -A && git commit -q -m first) || exit 2
-stand_in "$first"
+stand_in "$first" || exit 2
 
 quiet_make() {
     (cd "$1" && shift && make --no-print-directory "$@")
@@ -223,6 +227,14 @@ unproved() {
     rm -rf "$1/contrib/out" "$1"/*.tar.xz
     UNPROVED=org_base quiet_make "$1" dist
 }
+unbuilt() {
+    cp "$work/deeper/elsewhere/crates/orgq/out/orgq" "$work/orgq"
+    echo '# more' >> "$work/deeper/elsewhere/crates/orgq/out/orgq"
+    rm -f "$work/deeper/elsewhere"/*.tar.xz
+    quiet_make "$work/deeper/elsewhere" dist
+}
+refuses "no archive of a program that rt didn't build" "orgq isn't a program that rt built" unbuilt
+check "that program goes" built "$work/deeper/elsewhere" orgq "$work/orgq"
 refuses "no archive of what isn't proved" "org_base isn't proved" unproved "$work/deeper/elsewhere"
 check "none was made then" test ! -e "$work/deeper/elsewhere/$archive.tar.xz"
 gate_failed() {
@@ -236,7 +248,7 @@ gate_passed() {
 }
 check "the gate's last lines go into the record" gate_passed
 holds_path() {
-    echo "# $work/deeper/elsewhere" >> "$work/deeper/elsewhere/crates/orgq/out/orgq"
+    echo "# $work/deeper/elsewhere" > "$work/script" && built "$work/deeper/elsewhere" orgq "$work/script" || return 0
     quiet_make "$work/deeper/elsewhere" dist
 }
 refuses "no archive with the path of the folder in it" "path of this folder" holds_path
@@ -292,10 +304,7 @@ fi
 # 8. The Debian package, over two programs that every Debian has; lintian's word where it is there.
 if command -v dpkg-shlibdeps strip dpkg-deb > /dev/null; then
     for folder in "$work/debian" "$work/elsewhere/debian"; do
-        git clone -q "$first" "$folder" && mkdir -p "$folder/crates/orgviews/out" "$folder/crates/orgq/out" || exit 2
-        cp /usr/bin/sort "$folder/crates/orgviews/out/orgviews"
-        cp /usr/bin/env "$folder/crates/orgq/out/orgq"
-        touch "$folder"/crates/*/out/*
+        git clone -q "$first" "$folder" && built "$folder" orgviews /usr/bin/sort && built "$folder" orgq /usr/bin/env || exit 2
         mkdir "$folder/contrib/out" && cp "$first/contrib/out/THIRD-PARTY-NOTICES" "$folder/contrib/out/"
     done
     package=orgviews_$(cat "$here/VERSION")_$(dpkg --print-architecture).deb
