@@ -49,8 +49,7 @@ keep() {
 }
 while read -r name; do
     found=""
-    for file in "$kit/rattle/$name"/LICEN[CS]E* "$kit/rattle/$name"/COPYING* "$kit/rattle/$name"/NOTICE* "$kit/rattle/$name"/COPYRIGHT* "$kit/rattle/$name"/UNLICENSE*; do
-        [ -f "$file" ] || continue
+    for file in $(find "$kit/rattle/$name" -maxdepth 1 -type f | grep -E '/(UN)?(LICEN[CS]E|COPYING|COPYRIGHT|NOTICE)[^/]*$' | sort); do
         keep "$name (${file##*/})" "$file"
         found=yes
     done
