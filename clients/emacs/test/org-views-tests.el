@@ -1,5 +1,7 @@
 ;;; org-views-tests.el --- Tests of org-views in a real Emacs  -*- lexical-binding: t; -*-
 
+;; SPDX-License-Identifier: Apache-2.0 OR MIT
+
 ;;; Commentary:
 
 ;; Over the program that ORG_VIEWS_PROGRAM names, `orgviews' without it.
@@ -67,7 +69,10 @@ Each VARIABLE is the path of a file of its name with TEXT."
 
 (defun org-views-tests-rows (question)
   "The lines of the view that QUESTION asks."
-  (split-string (decode-coding-string (car (org-views--ask-view question)) 'utf-8-unix) "\n" t))
+  (org-views--sync)
+  (pcase (org-views--ask question)
+    (`(view ,bytes) (org-views--lines bytes))
+    (reply (user-error "%s" (org-views--why-refused question reply)))))
 
 (defun org-views-tests-file (path)
   "The engine's file at PATH."
@@ -99,7 +104,7 @@ Each VARIABLE is the path of a file of its name with TEXT."
   "The line to which the row at line ROW of the current view leads."
   (goto-char (point-min))
   (forward-line (1- row))
-  (org-views-tests-line-of (org-views--target)))
+  (org-views-tests-line-of (org-views--heading)))
 
 (defun org-views-tests-raw (line &optional payload)
   "Send LINE and PAYLOAD as another session would, and give the reply."
@@ -193,7 +198,7 @@ Each VARIABLE is the path of a file of its name with TEXT."
       (org-views-forward)
       (should (string-prefix-p "2024-03-06 Wed W10\n  a:                      fair\n" (buffer-string)))
       (goto-char (point-min))
-      (should-error (org-views--target) :type 'user-error))
+      (should-error (org-views--heading) :type 'user-error))
     (with-current-buffer (org-views-todo)
       (should-error (org-views-forward) :type 'user-error))))
 
@@ -258,12 +263,12 @@ Each VARIABLE is the path of a file of its name with TEXT."
                            "0:15     0:00       b")))
       (should (equal (org-views-tests-target 4) "* TODO a :x:"))
       (should (equal (org-views-tests-target 5) "** b"))
-      (should (equal (buffer-file-name (marker-buffer (org-views--target))) a))
+      (should (equal (buffer-file-name (marker-buffer (org-views--heading))) a))
       (should (equal (org-views-tests-target 7) "* b"))
       (should (equal (org-views-tests-target 6) "* b"))
-      (should (equal (buffer-file-name (marker-buffer (org-views--target))) b))
+      (should (equal (buffer-file-name (marker-buffer (org-views--heading))) b))
       (goto-char (point-min))
-      (should-error (org-views--target) :type 'user-error))))
+      (should-error (org-views--heading) :type 'user-error))))
 
 (ert-deftest org-views-match-lists-and-inherited-properties ()
   (org-views-tests-with ((a "* x\n:PROPERTIES:\n:owner: me\n:END:\n** TODO y\n"))
@@ -278,7 +283,7 @@ Each VARIABLE is the path of a file of its name with TEXT."
   (org-views-tests-with ((a (concat "* milk\n* TODO [#A] buy  the: milk :shop:\nDEADLINE: <2024-02-28 Wed>\n"
                                     "* 10:00 o'clock\n<2024-02-28 Wed 9:00-10:00>\n* TODO\nSCHEDULED: <2024-02-27 Tue>\n"))
                          (b "* TODO Bad [ .* \\( é\n<2024-02-28 Wed 8:00>--<2024-02-29 Thu>\n"))
-    (let ((org-views--has-places nil))
+    (progn
       (with-current-buffer (org-views-agenda)
         (let ((rows (seq-filter (lambda (it) (string-prefix-p "  " it))
                                 (split-string (buffer-string) "\n" t)))
@@ -292,7 +297,7 @@ Each VARIABLE is the path of a file of its name with TEXT."
 (ert-deftest org-views-words-of-long-headings ()
   (let ((title (mapconcat (lambda (k) (format "a: %d" k)) (number-sequence 1 2000) " ")))
     (org-views-tests-with ((a (concat "* TODO " title "\n* TODO " title " b\n* TODO b\n")))
-      (let ((org-views--has-places nil))
+      (progn
         (with-current-buffer (org-views-todo)
           (should (equal (org-views-tests-target 2) (concat "* TODO " title " b")))
           (should (equal (org-views-tests-target 3) "* TODO b"))
@@ -307,18 +312,18 @@ Each VARIABLE is the path of a file of its name with TEXT."
                                     "* TODO a\n"
                                     "CLOCK: [2024-02-28 Wed 09:00]--[2024-02-28 Wed 09:30]\n")))
     (setq org-todo-keywords '((sequence "TODO" "Wait" "|" "DONE")))
-    (let ((org-views--has-places nil))
+    (progn
       (with-current-buffer (org-views-clock "block=today maxlevel=2 match=effort=\"\"")
         (should (equal (org-views-tests-target 4) "* Wait [#A]  COMMENT a: :x:"))
         (should (equal (org-views-tests-target 5) "* TODO a"))))))
 
-(ert-deftest org-views-the-first-of-equal-headings ()
+(ert-deftest org-views-one-of-equal-headings ()
   (org-views-tests-with ((a "* TODO call\nDEADLINE: <2024-02-20 Tue>\n* TODO call\nDEADLINE: <2024-02-21 Wed>\n"))
     (with-current-buffer (org-views-agenda)
       (goto-char (point-min))
       (forward-line 2)
       (should (looking-at-p ".* 7 d\\. ago: TODO call"))
-      (should (= (marker-position (org-views--target)) (if org-views--has-places 40 1))))))
+      (should (= (marker-position (org-views--heading)) 40)))))
 
 (ert-deftest org-views-equal-headings-of-two-files ()
   (org-views-tests-with ((a "* TODO call\n") (b "* TODO call\n")
@@ -327,13 +332,13 @@ Each VARIABLE is the path of a file of its name with TEXT."
       (goto-char (point-min))
       (forward-line 1)
       (should (equal (org-views--row) "  b:          TODO call"))
-      (should (equal (buffer-file-name (marker-buffer (org-views--target))) b))
+      (should (equal (buffer-file-name (marker-buffer (org-views--heading))) b))
       ;; Of the category alone, and in no file of its name.
       (forward-line 1)
       (should (equal (org-views--row) "  b:          TODO other"))
-      (should (equal (buffer-file-name (marker-buffer (org-views--target))) c)))))
+      (should (equal (buffer-file-name (marker-buffer (org-views--heading))) c)))))
 
-(ert-deftest org-views-a-view-that-is-behind ()
+(ert-deftest org-views-a-view-that-is-out-of-date ()
   (org-views-tests-with ((a "* TODO one\n* TODO two\n"))
     (with-current-buffer (org-views-todo)
       (with-current-buffer (find-file-noselect a)
@@ -341,10 +346,9 @@ Each VARIABLE is the path of a file of its name with TEXT."
         (insert "* intro\n* TODO zero\n"))
       (goto-char (point-min))
       (search-forward "two")
-      (should (equal (org-views-tests-line-of (org-views--target)) "* TODO two"))
-      (should (= (count-lines (point-min) (point-max)) 3))
+      (should (equal (org-views-tests-line-of (org-views--heading)) "* TODO two"))
       (with-current-buffer (find-buffer-visiting a) (erase-buffer))
-      (should-error (org-views--target) :type 'user-error)
+      (should-error (org-views--heading) :type 'user-error)
       (should (equal (buffer-string) "")))))
 
 (ert-deftest org-views-shown-views-follow ()
@@ -458,7 +462,7 @@ Each VARIABLE is the path of a file of its name with TEXT."
   (org-views-tests-with ((a "* TODO one\n"))
     (with-current-buffer (find-file-noselect a)
       (org-views-tests-rows "todo")
-      ;; Of another length, of the same, and of the same with a change behind it.
+      ;; Of another length, of the same, and of the same with a change after it.
       (let ((inhibit-modification-hooks t)) (goto-char (point-max)) (insert "* TODO two\n"))
       (org-views-tests-rows "todo")
       (org-views-tests-check a)
@@ -538,7 +542,7 @@ Each VARIABLE is the path of a file of its name with TEXT."
                        '("  a:          TODO é" "  a:          TODO y" "  a:          TODO ?")))
         (with-current-buffer (org-views-todo)
           (should (equal (org-views-tests-target 2) "* TODO y")))
-        ;; Half of a character, and its other half behind it.
+        ;; Half of a character, and its other half after it.
         (erase-buffer)
         (insert "* TODO \303\n")
         (should (equal (org-views-tests-rows "todo") '("  a:          TODO ?")))
@@ -916,10 +920,17 @@ Each VARIABLE is the path of a file of its name with TEXT."
                              "set `org-views-program' to an orgviews"))))
     (let ((org-views-program '("sh" "-c" "cat")))
       (should (equal (org-views-tests-fault "todo")
-                     "`sh' doesn't answer as orgviews does (inherit): set `org-views-program' to an orgviews")))
+                     "`sh' doesn't answer as orgviews does (version): set `org-views-program' to an orgviews")))
     (let ((org-views-program '("sh" "-c" "while read -r line; do echo err 2 command; done")))
       (should (equal (org-views-tests-fault "todo")
-                     "`sh' refuses `inherit' (err 2 command): a later orgviews is needed")))
+                     "`sh' refuses `version' (err 2 command): a later orgviews is needed")))
+    ;; One that speaks the first protocol alone, and one that doesn't know the option.
+    (let ((org-views-program '("sh" "-c" "while read -r line; do printf 'view 17\\norgviews 0.4.0 1\\n'; done")))
+      (should (equal (org-views-tests-fault "todo")
+                     "`sh' refuses `version' (view orgviews 0.4.0 1): a later orgviews is needed")))
+    (let ((org-views-program '("sh" "-c" "echo \"error: unexpected argument '--protocol' found\" >&2; exit 2")))
+      (should (equal (org-views-tests-fault "todo")
+                     "`sh' doesn't know `--protocol 2': a later orgviews is needed")))
     (let ((org-views-program '("sh" "-c" "sleep 30")) (org-views--patience 0.3))
       (should (equal (org-views-tests-fault "todo")
                      "`sh' doesn't answer: set `org-views-program' to an orgviews")))
@@ -942,7 +953,7 @@ Each VARIABLE is the path of a file of its name with TEXT."
       ;; In the midst of a question.
       (signal-process org-views--process 'STOP)
       (let (answer)
-        (org-views--question "todo" (lambda (view _places) (setq answer view)))
+        (org-views--send "todo" nil (lambda (reply) (setq answer reply)))
         (signal-process org-views--process 'KILL)
         (ignore-errors (org-views--wait (lambda () answer)))
         (should (equal (car answer) 'gone))
@@ -980,7 +991,7 @@ Each VARIABLE is the path of a file of its name with TEXT."
 
 ;;;; Another session
 
-(defun org-views-tests-behind (path at del text)
+(defun org-views-tests-edit-as-another (path at del text)
   "As session 2, replace DEL bytes from AT on by TEXT in the file at PATH."
   (let ((file (org-views-tests-file path)))
     (should (eq 'ok (car (org-views-tests-raw
@@ -999,7 +1010,7 @@ Each VARIABLE is the path of a file of its name with TEXT."
   (org-views-tests-with ((a "* TODO one\n") (b "* TODO b\n"))
     (with-current-buffer (find-file-noselect a)
       (org-views-tests-rows "todo")
-      (org-views-tests-behind a 7 3 "two")
+      (org-views-tests-edit-as-another a 7 3 "two")
       (goto-char (point-max))
       (insert "* TODO mine\n")
       ;; The engine keeps what the other session wrote; other texts are followed.
@@ -1038,7 +1049,7 @@ Each VARIABLE is the path of a file of its name with TEXT."
     (setq org-todo-keywords '((sequence "TODO" "NEXT" "|" "DONE")))
     (with-current-buffer (find-file-noselect a)
       (org-views-tests-rows "todo")
-      (org-views-tests-behind a 7 3 "two")
+      (org-views-tests-edit-as-another a 7 3 "two")
       (org-views-tests-choosing ?e (org-views-resolve))
       (should (equal (buffer-string) "* TODO two\n* TODO é\n"))
       (should (buffer-modified-p))
@@ -1051,13 +1062,13 @@ Each VARIABLE is the path of a file of its name with TEXT."
 (ert-deftest org-views-another-session-and-no-buffer ()
   (org-views-tests-with ((a "* TODO one\n"))
     (org-views-tests-rows "todo")
-    (org-views-tests-behind a 7 3 "two")
+    (org-views-tests-edit-as-another a 7 3 "two")
     (org-views-tests-write "a.org" "* TODO from disk\n")
     (should (equal (org-views-tests-rows "todo") '("  a:          TODO two")))
     (should (= (length (org-views--notices)) 1))
     (org-views-tests-choosing ?m (org-views-resolve))
     (should (equal (org-views-tests-rows "todo") '("  a:          TODO from disk")))
-    (org-views-tests-behind a 7 9 "four")
+    (org-views-tests-edit-as-another a 7 9 "four")
     (org-views-tests-choosing ?e (org-views-resolve))
     (should (equal (org-views-tests-rows "todo") '("  a:          TODO four")))
     (with-current-buffer (find-buffer-visiting a)
@@ -1069,10 +1080,10 @@ Each VARIABLE is the path of a file of its name with TEXT."
     (with-current-buffer (find-file-noselect a)
       (org-views-tests-rows "todo")
       (insert "* TODO mine\n")
-      ;; It comes behind the look for others, right before the edit.
+      ;; It comes after the look for others, right before the edit.
       (let ((set (symbol-function 'org-views--set-files)))
         (cl-letf (((symbol-function 'org-views--set-files)
-                   (lambda () (org-views-tests-behind a 7 3 "two") (funcall set))))
+                   (lambda () (org-views-tests-edit-as-another a 7 3 "two") (funcall set))))
           (should (equal (org-views-tests-rows "todo") '("  a:          TODO two")))))
       (should (= (length (org-views--notices)) 1))
       (org-views-tests-choosing ?m (org-views-resolve))
@@ -1085,9 +1096,9 @@ Each VARIABLE is the path of a file of its name with TEXT."
       (insert "* TODO mine\n")
       (let ((set (symbol-function 'org-views--set-files)))
         (cl-letf (((symbol-function 'org-views--set-files)
-                   (lambda () (org-views-tests-behind a 7 3 "two") (funcall set))))
+                   (lambda () (org-views-tests-edit-as-another a 7 3 "two") (funcall set))))
           (org-views-tests-rows "todo")))
-      ;; This client's own edit came behind the other one.
+      ;; This client's own edit came after the other one.
       (org-views-tests-rows "todo")
       (should (equal (org-views--notices)
                      (list (concat (org-views--name a)
@@ -1102,7 +1113,7 @@ Each VARIABLE is the path of a file of its name with TEXT."
     (with-current-buffer (org-views-todo)
       (goto-char (point-min))
       (forward-line 1)
-      (should-error (org-views--target) :type 'user-error))
+      (should-error (org-views--heading) :type 'user-error))
     (should (eq 'ok (car (org-views-tests-raw (concat "drop " (org-views--name a))))))
     (should (equal (org-views-tests-rows "todo") '("  other:      TODO x")))
     (should (= (length (org-views--notices)) 1))
@@ -1130,39 +1141,6 @@ Each VARIABLE is the path of a file of its name with TEXT."
       (should (string-match-p "^sent anew" (with-current-buffer "*Org Views: status*" (buffer-string))))
       (org-views-tests-check a))))
 
-;;;; Places, which a later program has
-
-(defconst org-views-tests-stand-in
-  "n=0
-while IFS= read -r line; do
-  set -- $line
-  case $1 in
-    add) head -c \"$3\" > /dev/null; n=$((n + 1)); name=$2; echo ok $n ;;
-    edit)
-      if [ \"$5\" -gt 1000 ]; then echo err 9 range; continue; fi
-      head -c \"$7\" > /dev/null; n=$((n + 1)); echo ok $n ;;
-    places) places=\"-
-$name 3 15 -
-$name 1 0 -
-\"; printf 'view %d\\n%s' $((${#places} + 0)) \"$places\" ;;
-    todo) printf 'view 34\\nday\\n  a: TODO call\\n  a: TODO call\\n' ;;
-    *) echo ok $n ;;
-  esac
-done"
-  "A program that answers `places', in the stream of orgviews.")
-
-(ert-deftest org-views-places-of-the-engine ()
-  (org-views-tests-with ((a "* TODO call\né\n* TODO call\n"))
-    (let ((org-views-program (list "env" "LC_ALL=C" "sh" "-c" org-views-tests-stand-in)))
-      (with-current-buffer (org-views-todo)
-        (should (eq org-views--has-places t))
-        (goto-char (point-min))
-        (should-error (org-views--target) :type 'user-error)
-        (forward-line 1)
-        (should (= (marker-position (org-views--target)) 15))
-        (forward-line 1)
-        (should (= (marker-position (org-views--target)) 1))))))
-
 (ert-deftest org-views-is-unloaded ()
   (org-views-tests-with ((a "* TODO a\n"))
     (with-current-buffer (find-file-noselect a)
@@ -1171,13 +1149,8 @@ done"
       (should-not (org-views-unload-function))
       (should-not org-views--timer)
       (should-not (memq #'org-views--after-change after-change-functions))
-      (should-not (get-buffer " *org-views*")))))
-
-(ert-deftest org-views-places-are-asked-once ()
-  (org-views-tests-with ((a "* TODO call\n"))
-    (should (member "places todo" (org-views-tests-sent (org-views-tests-rows "todo"))))
-    (unless org-views--has-places
-      (should-not (member "places todo" (org-views-tests-sent (org-views-tests-rows "todo")))))))
+      (should-not (get-buffer " *org-views*"))
+      (load (locate-library "org-views") nil t))))
 
 ;;;; Random edits
 
