@@ -10,7 +10,7 @@ PREFIX ?= /usr/local
 NEEDS_RT = $(if $(shell command -v rt),,$(error there is no `rt`: building wants Rattle's kit, with its folder bin in PATH; what is \
 built already is an archive or a package, see Install in README.md))
 
-.PHONY: run try build check changed test rows orgq-test faults emacs-test bench collide install deb clean
+.PHONY: run try build check changed test rows orgq-test faults emacs-test vim-test bench collide install deb clean
 
 # Builds the program where it isn't fresh, and runs the first example.
 run: $(PROGRAM)
@@ -70,6 +70,11 @@ orgq-test: $(PROGRAM) $(ORGQ)
 # The Emacs client over the program as it was last built; left out where Emacs isn't installed. No part of the gate.
 emacs-test: $(PROGRAM)
 	@sh tests/clients.sh $(PROGRAM)
+
+# The clients for Vim and Neovim over both programs as they were last built; an editor that isn't installed is left out. No part
+# of the gate.
+vim-test: $(PROGRAM) $(ORGQ)
+	@sh tests/vim.sh $(ORGQ) $(PROGRAM)
 
 # What the programs do as they were last built where memory is refused, the stream is cut, and reads and writes fail.
 faults: $(PROGRAM) $(PARTS)

@@ -1,0 +1,117 @@
+-- Which files are asked about, and under which names the engine has them.
+-- SPDX-License-Identifier: Apache-2.0 OR MIT
+
+local uv = vim.uv or vim.loop
+local api = vim.api
+
+local M = {}
+
+-- The paths of the list in which orgq looks where none is named.
+local function configured()
+  local named = vim.env.ORGQ_FILES
+  if named and named ~= '' then
+    return vim.split(named, ':', { plain = true })
+  end
+  local folder = vim.env.XDG_CONFIG_HOME
+  folder = (folder and folder ~= '') and folder or vim.fn.expand('~/.config')
+  local paths = {}
+  if vim.fn.filereadable(folder .. '/orgq/files') == 1 then
+    for _, line in ipairs(vim.fn.readfile(folder .. '/orgq/files')) do
+      line = vim.trim(line)
+      if line ~= '' and not line:find('^#') then
+        table.insert(paths, line)
+      end
+    end
+  end
+  return paths
+end
+
+-- The files of a folder; none, after a line in `troubles`, where it can't be read.
+local function in_folder(path, troubles)
+  local ok, names = pcall(vim.fn.readdir, path, [[v:val =~# '^[^.].*\.org$']])
+  if not ok then
+    table.insert(troubles, path .. ": can't be read")
+    return {}
+  end
+  return vim.tbl_map(function(name)
+    return vim.fn.fnamemodify(path, ':p') .. name
+  end, names)
+end
+
+-- The files that are asked about, as real paths, each once: those of `g:orgq_files`, or of orgq's own list. What can't be looked
+-- at has a line in the second value, and takes no other file along.
+function M.wanted()
+  local given = vim.g.orgq_files
+  given = (given and #given > 0) and given or configured()
+  local paths, seen, troubles = {}, {}, {}
+  local function put(path)
+    local real = uv.fs_realpath(path) or path
+    if not seen[real] then
+      seen[real] = true
+      table.insert(paths, real)
+    end
+  end
+  for _, path in ipairs(given) do
+    path = vim.fn.fnamemodify(vim.fn.expand(path, true), ':p')
+    if vim.fn.isdirectory(path) == 1 then
+      vim.tbl_map(put, in_folder(path, troubles))
+    else
+      put(path)
+    end
+  end
+  return paths, troubles
+end
+
+-- The buffers that are loaded and show a file, by its real path.
+function M.loaded_buffers()
+  local buffers = {}
+  for _, buffer in ipairs(api.nvim_list_bufs()) do
+    if api.nvim_buf_is_loaded(buffer) and vim.bo[buffer].buftype == '' then
+      local name = api.nvim_buf_get_name(buffer)
+      if name ~= '' then
+        buffers[uv.fs_realpath(name) or name] = buffer
+      end
+    end
+  end
+  return buffers
+end
+
+local function escaped(byte)
+  return ('%%%02X'):format(byte:byte())
+end
+
+-- The characters of UTF-8 that have more than one byte.
+local characters = {
+  '[\194-\223][\128-\191]',
+  '\224[\160-\191][\128-\191]',
+  '[\225-\236\238\239][\128-\191][\128-\191]',
+  '\237[\128-\159][\128-\191]',
+  '\240[\144-\191][\128-\191][\128-\191]',
+  '[\241-\243][\128-\191][\128-\191][\128-\191]',
+  '\244[\128-\143][\128-\191][\128-\191]',
+}
+
+-- A name that isn't UTF-8 with all its bytes over 127 as a percent sign and their number.
+local function as_utf8(name)
+  local rest = name
+  for _, character in ipairs(characters) do
+    rest = rest:gsub(character, ' ')
+  end
+  return rest:find('[\128-\255]') and name:gsub('[\128-\255]', escaped) or name
+end
+
+-- The engine's name of a path that isn't `taken`: no byte below 33 stands in it, and at most 255 bytes. Its end is kept, since
+-- the category is read from there.
+function M.name_of(path, taken)
+  local name = (as_utf8(vim.fn.fnamemodify(path, ':~')))
+  name = name:gsub(' ', '\194\160'):gsub('[%z\1-\31\127]', escaped)
+  name = name:sub(-240):gsub('^[\128-\191]+', '')
+  local free, count = name, 1
+  while taken[free] do
+    count = count + 1
+    free = count .. ':' .. name
+  end
+  return free
+end
+
+return M
