@@ -57,7 +57,7 @@ function! s:command() abort
   let program = get(g:, 'orgq_command', ['orgq'])
   let command = type(program) == v:t_list ? copy(program) : [program]
   for path in get(g:, 'orgq_files', [])
-    let command += ['-f', fnamemodify(expand(path, 1), ':p')]
+    let command += ['-f', fnamemodify(path, ':p')]
   endfor
   return command + get(g:, 'orgq_options', [])
 endfunction

@@ -194,6 +194,13 @@ call s:check('commands', index(getcompletion('Orgq', 'command'), 'OrgqMatch') >=
 
 " Trouble -----------------------------------------------------------------------------------------------------------------
 
+call s:write('a[b]{c}*$HOME`touch x`.org', ['* x', '* TODO Signs'])
+let g:orgq_files = [s:folder . '/a[b]{c}*$HOME`touch x`.org']
+silent OrgqTodo
+call s:equal('a path is what it says', len(s:valid()), 1)
+call s:lead_to_their_lines('signs')
+call delete(g:orgq_files[0])
+let g:orgq_files = [s:folder]
 call writefile(["* TODO \xff"], s:folder . '/latin.org')
 call s:check('a file is left out', s:said('OrgqTodo') =~# 'latin.org')
 call s:equal('and the others stay', len(s:valid()), 8)

@@ -768,6 +768,13 @@ run('paths that are odd', function()
   vim.fn.delete(folder .. '/loop.org')
   vim.g.orgq_files = { '/no/such/folder/' }
   check('nothing at all', said('OrgviewsTodo'):find('left out: /no/such/folder') ~= nil)
+  local signs = write('a[b]{c}*$HOME`touch x`.org', '* TODO Signs\n')
+  vim.g.orgq_files = { signs }
+  vim.cmd('OrgviewsTodo')
+  equal('a path is what it says', #view_lines(), 1)
+  press('<CR>')
+  equal('and leads to its heading', api.nvim_get_current_line(), '* TODO Signs')
+  vim.fn.delete(signs)
   vim.g.orgq_files = { folder }
   local odd = write('caf\233 \1.org', '* TODO Odd\n')
   vim.cmd('OrgviewsTodo')

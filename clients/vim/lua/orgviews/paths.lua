@@ -38,8 +38,8 @@ local function in_folder(path, troubles)
   end, names)
 end
 
--- The files that are asked about, as real paths, each once: those of `g:orgq_files`, or of orgq's own list. What can't be looked
--- at has a line in the second value, and takes no other file along.
+-- The files that are asked about, as real paths, each once: those of `g:orgq_files`, or of orgq's own list. A path is what it says,
+-- but for `~/` in front. What can't be looked at has a line in the second value, and takes no other file along.
 function M.wanted()
   local given = vim.g.orgq_files
   given = (given and #given > 0) and given or configured()
@@ -52,7 +52,7 @@ function M.wanted()
     end
   end
   for _, path in ipairs(given) do
-    path = vim.fn.fnamemodify(vim.fn.expand(path, true), ':p')
+    path = vim.fn.fnamemodify(path, ':p')
     if vim.fn.isdirectory(path) == 1 then
       vim.tbl_map(put, in_folder(path, troubles))
     else
