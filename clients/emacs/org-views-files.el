@@ -102,7 +102,8 @@ engine has them; both nil where the whole text is."
   (head 0) (foot 0)
   tick                         ; of the buffer after the last change told
   own                          ; see `org-views--own'
-  keywords                     ; of the engine's text, as lists with a bar in each
+  keywords                     ; as they were told last, lists with a bar in each
+  keywords-of                  ; the serial of the text of which they were asked
   edits                        ; see `org-views--byte-now', the latest first
   trouble                      ; why the engine's text isn't the file's
   conflict)                    ; whether another session changed the text
@@ -256,10 +257,11 @@ In an Org buffer they are those that Org has there."
               (if (stringp (car value)) (list value) value)))))
 
 (defun org-views--ask-keywords ()
-  "Ask which keywords the files have of which that isn't known.
+  "Ask which keywords the files have whose texts changed.
 Nothing waits for the replies: they are here before that of a later command."
   (dolist (file org-views--files)
-    (unless (org-views--file-keywords file)
+    (unless (eql (org-views--file-keywords-of file) (org-views--file-serial file))
+      (setf (org-views--file-keywords-of file) (org-views--file-serial file))
       (org-views--send
        (concat "keywords " (org-views--file-name file)) nil
        (lambda (reply)
@@ -339,8 +341,7 @@ The text has BYTES then, TAIL after them, and OWN lines of keywords."
      (pcase reply
        (`(ok ,serial)
         (org-views--note-edit file serial at del (length payload))
-        (setf (org-views--file-serial file) serial
-              (org-views--file-keywords file) nil)
+        (setf (org-views--file-serial file) serial)
         (org-views--note-serial serial))
        (`(gone . ,_))
        (_ (org-views--refused file reply))))))
@@ -901,8 +902,7 @@ The next question sends the buffer's whole text."
   (setf (org-views--file-serial file) serial
         (org-views--file-bytes file) (length text)
         (org-views--file-tail file) ""
-        (org-views--file-conflict file) nil
-        (org-views--file-keywords file) nil)
+        (org-views--file-conflict file) nil)
   (org-views--forget-text file))
 
 ;;;###autoload

@@ -406,6 +406,7 @@ SEQUENCES are the keywords of its file."
 (defun org-views--fontify-line (line)
   "Give the line at point, of the number LINE, its faces and properties."
   (let ((place (ignore-errors (org-views--place line))))
+    (remove-text-properties (line-beginning-position) (line-end-position) '(face nil))
     (when (org-views--row-p line)
       (add-text-properties (line-beginning-position) (line-end-position)
                            '(mouse-face highlight
@@ -639,7 +640,9 @@ Point, and that of each window, stays at its heading."
     (org-views--forget-markers)
     (setq org-views--places (vconcat places)
           org-views--as-of (org-views--world))
-    (unless same
+    (if same
+        ;; Keywords may be others, and today another day.
+        (jit-lock-refontify)
       (erase-buffer)
       (insert text)
       (dolist (it windows) (apply #'org-views--restore-window it)))
