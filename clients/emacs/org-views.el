@@ -559,11 +559,15 @@ It has the line's number, its text, the column and the place."
             (push (1+ k) found)))))
     (nreverse found)))
 
-(defun org-views--line-of-heading (spot)
-  "The line nearest to SPOT's that is of its heading now, or nil."
+(defun org-views--line-of-spot (spot)
+  "The line where SPOT's row is: that of its heading, as far as that is known.
+Else it is the nearest with its text.  Where there is none, as where the heading
+isn't in the view any more, it is SPOT's line."
   (pcase-let ((`(,line ,_ ,_ (,file ,serial ,byte ,_)) spot))
     (let ((now (and byte (org-views--byte-now file serial byte))))
-      (and now (org-views--nearest line (org-views--lines-of file (car now)))))))
+      (or (if now (org-views--nearest line (org-views--lines-of file (car now)))
+            (org-views--line-of-text spot))
+          line))))
 
 (defun org-views--seek-row (text search)
   "The number of the next line that is TEXT in the direction of SEARCH, or nil."
@@ -586,11 +590,9 @@ It has the line's number, its text, the column and the place."
                             (org-views--seek-row text #'search-backward)))))))
 
 (defun org-views--goto-spot (spot)
-  "Go to the row of SPOT: that of its heading, else of its text, else that line."
+  "Go to the row of SPOT."
   (goto-char (point-min))
-  (forward-line (1- (or (org-views--line-of-heading spot)
-                        (org-views--line-of-text spot)
-                        (car spot))))
+  (forward-line (1- (org-views--line-of-spot spot)))
   (goto-char (min (+ (point) (nth 2 spot)) (line-end-position))))
 
 (defun org-views--window-spot (window)

@@ -208,6 +208,16 @@
       (org-views-tests-press "t")
       (should (equal (org-views--row) "  a:                      Scheduled: DONE one")))))
 
+(ert-deftest org-views-key-t-goes-to-no-equal-row ()
+  (org-views-tests-with ((a "* TODO call\n* TODO call\n* TODO mail\n"))
+    (org-views-tests-viewing (org-views-todo)
+      (org-views-tests-at 2)
+      (org-views-tests-press "t")
+      ;; The heading isn't in the list any more; the first row isn't its own.
+      (should (equal (org-views-tests-of a) "* TODO call\n* DONE call\n* TODO mail\n"))
+      (should (= (line-number-at-pos) 2))
+      (should (equal (org-views--row) "  a:          TODO mail")))))
+
 (ert-deftest org-views-key-t-logs-blocks-and-calls-hooks ()
   (org-views-tests-with ((a "* TODO one\n* TODO parent\n** TODO child\n"))
     (with-current-buffer (find-file-noselect a) (org-mode))

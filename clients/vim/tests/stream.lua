@@ -463,6 +463,31 @@ run('equal headings, completed', function()
   vim.fn.delete(twice)
 end)
 
+run('the cursor stays with its heading', function()
+  local path = write('same.org', ('* TODO Same\n'):rep(3) .. '* TODO Zuletzt\n')
+  vim.cmd('OrgviewsMatch ITEM={Same|Zul}')
+  api.nvim_win_set_cursor(0, { 2, 0 })
+  press('t')
+  vim.wait(2000, function()
+    return view_lines()[2]:find('DONE') ~= nil
+  end)
+  equal('the second is done, and the cursor there', { view_lines()[2]:match('DONE'), api.nvim_win_get_cursor(0)[1] }, { 'DONE', 2 })
+  -- A heading that leaves the list: the cursor stays in its row, and doesn't go to an equal one.
+  vim.cmd('only')
+  vim.cmd('OrgviewsMatch ITEM={Same|Zul}/TODO')
+  api.nvim_win_set_cursor(0, { 2, 0 })
+  press('t')
+  vim.wait(2000, function()
+    return #view_lines() == 2
+  end)
+  equal('one is gone, and the cursor is where it was', { #view_lines(), api.nvim_win_get_cursor(0)[1] }, { 2, 2 })
+  equal('the first is open', api.nvim_buf_get_lines(vim.fn.bufnr(path), 0, -1, true),
+    { '* TODO Same', '* DONE Same', '* DONE Same', '* TODO Zuletzt' })
+  vim.cmd('silent! only')
+  vim.cmd('bwipeout! same.org')
+  vim.fn.delete(path)
+end)
+
 -- A view of the headings `Call`, `count` of them, that nothing asks anew by itself; its buffer, and that of the file.
 local function calls(count)
   local path = write('calls.org', ('* TODO Call\n'):rep(count))

@@ -111,6 +111,16 @@ local function view_here()
   return view
 end
 
+-- The byte at which the heading of a view's `place` begins now; nil where that isn't known.
+local function follow(place)
+  local file = session and session.texts:named(place.name)
+  return file and (Places.byte_now(file, place.serial, place.byte)) or nil
+end
+
+local function fill(view, answer)
+  view:fill(answer, follow)
+end
+
 local function show(title, question)
   local answer = answer_of(question())
   if not answer then
@@ -119,7 +129,7 @@ local function show(title, question)
   local view = View.open(title)
   view.question = question
   views[view.buffer] = view
-  view:fill(answer)
+  fill(view, answer)
   local missing = session.texts:missing()
   if #missing > 0 then
     say('left out: ' .. table.concat(missing, ', '), 'WarningMsg')
@@ -137,7 +147,7 @@ function M.refresh()
     elseif #vim.fn.win_findbuf(buffer) > 0 and session then
       session:ask(view.question(), view.filter, function(answer)
         if not answer.refused and api.nvim_buf_is_valid(buffer) then
-          view:fill(answer)
+          fill(view, answer)
         end
       end)
     end
@@ -149,7 +159,7 @@ function M.again()
   local view = view_here()
   local answer = view and answer_of(view.question(), view.filter)
   if answer then
-    view:fill(answer)
+    fill(view, answer)
   end
 end
 
@@ -197,7 +207,7 @@ function M.move(count)
     span.date = before
     return
   end
-  view:fill(answer)
+  fill(view, answer)
   api.nvim_win_set_cursor(0, { 1, 0 })
 end
 
@@ -251,7 +261,7 @@ function M.filter(expression)
   local answer = view and answer_of(view.question(), filter)
   if answer then
     view.filter = filter
-    view:fill(answer)
+    fill(view, answer)
   end
 end
 
@@ -264,7 +274,7 @@ local function look_again(view, row, why)
   if not answer then
     return
   end
-  view:fill(answer)
+  fill(view, answer)
   local count = view:count(row)
   complain(why .. '; ' .. (count > 1 and count .. ' rows read as it did: choose one again' or 'look at what is shown now'))
 end

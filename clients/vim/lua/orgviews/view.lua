@@ -48,8 +48,19 @@ local function equal_lines(lines, text)
   return places
 end
 
+-- The one of `rows` that is nearest to `row`; nil without any.
+local function nearest(rows, row)
+  local best
+  for _, it in ipairs(rows) do
+    if not best or math.abs(it - row) < math.abs(best - row) then
+      best = it
+    end
+  end
+  return best
+end
+
 -- Where line `row` of `old` stands in `new`: of equal lines the one that is as many-th among them, where there are as many as
--- before, else the first; nil where there is none.
+-- before, else the nearest; nil where there is none.
 local function moved(old, new, row)
   local before, after = equal_lines(old, old[row]), equal_lines(new, old[row])
   if #before == #after then
@@ -59,12 +70,48 @@ local function moved(old, new, row)
       end
     end
   end
-  return after[1]
+  return nearest(after, row)
+end
+
+-- What is in a place: the file's `name` and `serial`, and of a heading its `line` from 1 and its `byte` from 0. Nil for the place of
+-- a day, a step or a total.
+local function parsed(place)
+  local name, serial, line, byte = (place or ''):match('^(%S+) (%d+) (%S+) (%S+) %S+$')
+  if not name then
+    return nil
+  end
+  return { name = name, serial = tonumber(serial), line = tonumber(line), byte = tonumber(byte) }
+end
+
+-- The rows whose places are of the heading at `byte` of the file `name`.
+local function rows_of(places, name, byte)
+  local rows = {}
+  for row, place in ipairs(places) do
+    local it = parsed(place)
+    if it and it.name == name and it.byte == byte then
+      table.insert(rows, row)
+    end
+  end
+  return rows
+end
+
+-- The row of another answer at which a cursor that was in `row` stands: that of its heading, where that can be followed, else of its
+-- text; else, as where the heading isn't in the answer any more, the same row.
+function View:row_in(answer, old, row, follow)
+  local place = parsed(self.places and self.places[row])
+  local byte = place and place.byte and follow(place)
+  local found
+  if byte then
+    found = nearest(rows_of(answer.places, place.name, byte), row)
+  else
+    found = moved(old, answer.lines, row)
+  end
+  return found or math.max(1, math.min(row, #answer.lines))
 end
 
 -- Shows another answer, its lines and their places: only the lines that differ are replaced, and the cursor of each window stays
--- at its line.
-function View:fill(answer)
+-- at its heading. `follow(place)` gives the present byte of a heading, or nil where that isn't known.
+function View:fill(answer, follow)
   local old, new = api.nvim_buf_get_lines(self.buffer, 0, -1, true), answer.lines
   if #new == 0 then
     new = { '' }
@@ -72,7 +119,7 @@ function View:fill(answer)
   local cursors = {}
   for _, window in ipairs(vim.fn.win_findbuf(self.buffer)) do
     local at = api.nvim_win_get_cursor(window)
-    cursors[window] = { moved(old, new, at[1]) or math.min(at[1], #new), at[2] }
+    cursors[window] = { self:row_in(answer, old, at[1], follow), at[2] }
   end
   local front, back = 0, 0
   while front < math.min(#old, #new) and old[front + 1] == new[front + 1] do
@@ -95,15 +142,9 @@ function View:forget_places()
   self.places = nil
 end
 
--- The place of the line under the cursor: the file's `name` and `serial`, and of a heading its `line` from 1 and its `byte` from
--- 0. Nil where the line is a day's, a step's or a total's.
+-- The place of the line under the cursor, see `parsed`.
 function View:place()
-  local words = self.places and self.places[api.nvim_win_get_cursor(0)[1]]
-  local name, serial, line, byte = (words or ''):match('^(%S+) (%d+) (%S+) (%S+) %S+$')
-  if not name then
-    return nil
-  end
-  return { name = name, serial = tonumber(serial), line = tonumber(line), byte = tonumber(byte) }
+  return parsed(self.places and self.places[api.nvim_win_get_cursor(0)[1]])
 end
 
 -- How many lines read as `text`.
