@@ -65,7 +65,7 @@ That line is nil where it is started anew.")
 
 ;;;; Its end
 
-(defun org-views--said ()
+(defun org-views--error-line ()
   "The first line that the engine wrote to standard error, or nil."
   (when (process-live-p org-views--stderr)
     (cl-loop repeat 10
@@ -80,7 +80,7 @@ That line is nil where it is started anew.")
 
 (defun org-views--how-ended (process)
   "One line on how PROCESS has ended, and what to do."
-  (let* ((said (org-views--said))
+  (let* ((said (org-views--error-line))
          (status (process-exit-status process))
          (how (concat (cond ((eq (process-status process) 'signal)
                              (format "signal %d" status))

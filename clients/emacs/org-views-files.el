@@ -110,7 +110,7 @@ engine has them; both nil where the whole text is."
 
 ;;;; Texts
 
-(defmacro org-views--widened (&rest body)
+(defmacro org-views--with-whole-text (&rest body)
   "Do BODY in the whole buffer, and keep point, narrowing and match data."
   (declare (indent 0) (debug t))
   `(save-excursion (save-restriction (widen) (save-match-data ,@body))))
@@ -281,7 +281,7 @@ Nothing waits for the replies: they are here before that of a later command."
                 "")
      2)))
 
-(defun org-views--refused (file reply)
+(defun org-views--note-refusal (file reply)
   "Note of FILE that the engine refused an edit with REPLY."
   (org-views--forget-text file)
   (pcase reply
@@ -344,12 +344,12 @@ The text has BYTES then, TAIL after them, and OWN lines of keywords."
         (setf (org-views--file-serial file) serial)
         (org-views--note-serial serial))
        (`(gone . ,_))
-       (_ (org-views--refused file reply))))))
+       (_ (org-views--note-refusal file reply))))))
 
 (defun org-views--put (file)
   "Bring the engine's text of FILE in step with the current buffer.
 By one edit, whose reply is given; by none where it is in step already."
-  (org-views--widened
+  (org-views--with-whole-text
     (let* ((size (org-views--size))
            (own (org-views--own file))
            (old-tail (org-views--file-tail file))
@@ -383,7 +383,7 @@ By one edit, whose reply is given; by none where it is in step already."
   (with-current-buffer (org-views--file-buffer file)
     (org-views--hook)
     (let ((tick (buffer-chars-modified-tick))
-          (size (org-views--widened (org-views--size))))
+          (size (org-views--with-whole-text (org-views--size))))
       ;; A change that no hook told: the buffer's tick is another one, or the
       ;; engine's text has another length.
       (unless (and (eql tick (org-views--file-tick file))
@@ -488,14 +488,14 @@ is sent."
                 (min foot (or (org-views--file-foot file) foot)))))
       (run-hooks 'org-views--change-hook))))
 
-(defun org-views--killed ()
+(defun org-views--note-kill ()
   "Follow the current buffer no longer, since it is killed."
   (let ((file org-views--file))
     (when (and file (eq (current-buffer) (org-views--file-buffer file)))
       (org-views--unfollow file)
       (run-hooks 'org-views--change-hook))))
 
-(dolist (hook '(org-views--before-change org-views--after-change org-views--killed))
+(dolist (hook '(org-views--before-change org-views--after-change org-views--note-kill))
   (put hook 'permanent-local-hook t))
 
 (defun org-views--hook ()
@@ -504,7 +504,7 @@ is sent."
                (memq #'org-views--before-change before-change-functions))
     (add-hook 'before-change-functions #'org-views--before-change nil t)
     (add-hook 'after-change-functions #'org-views--after-change nil t)
-    (add-hook 'kill-buffer-hook #'org-views--killed nil t)))
+    (add-hook 'kill-buffer-hook #'org-views--note-kill nil t)))
 
 (defun org-views--forget-text (file)
   "Note of FILE that its text has to be read anew."
@@ -535,12 +535,12 @@ It isn't sent where it is what was read from disk."
       (with-current-buffer buffer
         (remove-hook 'before-change-functions #'org-views--before-change t)
         (remove-hook 'after-change-functions #'org-views--after-change t)
-        (remove-hook 'kill-buffer-hook #'org-views--killed t)
+        (remove-hook 'kill-buffer-hook #'org-views--note-kill t)
         (kill-local-variable 'org-views--file)))
     (setf (org-views--file-buffer file) nil)
     (org-views--forget-text file)))
 
-(defun org-views--visited ()
+(defun org-views--note-visit ()
   "Follow the current buffer if it has come to visit one of the engine's files."
   (let* ((true (and buffer-file-truename (abbreviate-file-name buffer-file-truename)))
          (file (and true (cl-find true org-views--files
@@ -653,7 +653,7 @@ NAMES is a table of the names that are taken."
               (funcall org-views-files)
             org-views-files)))
 
-(defun org-views--wanted ()
+(defun org-views--wanted-files ()
   "The files that are asked about, as a list of (PATH . TRUENAME).
 Each stands once; those over the engine's number are left out."
   (let ((seen (make-hash-table :test #'equal)) (count 0) files)
@@ -679,7 +679,7 @@ Each stands once; those over the engine's number are left out."
   "Let the engine have the wanted files, in their order.
 What another session changed is neither dropped nor moved."
   (setq org-views--left-out nil)
-  (let* ((wanted (org-views--wanted))
+  (let* ((wanted (org-views--wanted-files))
          (trues (make-hash-table :test #'equal))
          (rest nil) (keep nil))
     (dolist (it wanted) (puthash (cdr it) t trues))
@@ -778,7 +778,7 @@ command then."
       (require 'org)
       (org-views--start)
       (org-views--ask-version)
-      (add-hook 'find-file-hook #'org-views--visited))
+      (add-hook 'find-file-hook #'org-views--note-visit))
     (unless idle (clrhash org-views--truenames))
     (org-views--inherit)
     ;; Replies come in order: after this one no edit of a wait that was quit
@@ -793,7 +793,7 @@ command then."
 (defun org-views--forget-files (_why)
   "Follow no buffer any more, since the engine has ended."
   (mapc #'org-views--unfollow org-views--files)
-  (remove-hook 'find-file-hook #'org-views--visited)
+  (remove-hook 'find-file-hook #'org-views--note-visit)
   (setq org-views--files nil
         org-views--left-out nil
         org-views--serial 0
@@ -832,7 +832,7 @@ command then."
   "What the engine's text of FILE should be, its tail included."
   (concat (if (org-views--file-buffer file)
               (with-current-buffer (org-views--file-buffer file)
-                (org-views--widened (org-views--bytes (point-min) (point-max))))
+                (org-views--with-whole-text (org-views--bytes (point-min) (point-max))))
             (with-temp-buffer
               (org-views--read (org-views--file-path file))
               (org-views--bytes (point-min) (point-max))))
@@ -892,7 +892,7 @@ The change can be undone, and isn't saved."
       (let ((source (current-buffer)))
         (with-current-buffer buffer
           (barf-if-buffer-read-only)
-          (org-views--widened (replace-buffer-contents source 1)))))
+          (org-views--with-whole-text (replace-buffer-contents source 1)))))
     (unless (org-views--file-buffer file) (org-views--follow file buffer))
     (org-views--accept file text serial)))
 

@@ -228,7 +228,7 @@ One of (agenda DATE DAYS), where a DATE of nil is today and DAYS may be
   "What is equal for two PLACEs, as the engine wrote them, of one heading."
   (substring place 0 (string-match " [^ ]*\\'" place)))
 
-(defun org-views--filtered (lines places held)
+(defun org-views--filter-lines (lines places held)
   "LINES and PLACES without those whose headings aren't among the places HELD.
 What is no heading's stays."
   (let ((keys (make-hash-table :test #'equal)) kept)
@@ -251,7 +251,7 @@ What is no heading's stays."
                    (mapcar (lambda (reply) (org-views--lines (cadr reply))) replies)))
         (cond ((/= (length lines) (length places))
                "The engine's places don't fit its view")
-              ((nth 2 commands) (org-views--filtered lines places held))
+              ((nth 2 commands) (org-views--filter-lines lines places held))
               (t (list lines places)))))))
 
 (defun org-views--ask-view (view &optional filter)
@@ -443,7 +443,7 @@ SEQUENCES are the keywords of its file."
 
 (defun org-views--position (byte)
   "The position of BYTE of the current buffer's text; an error without one."
-  (org-views--widened
+  (org-views--with-whole-text
     (or (byte-to-position (1+ byte))
         (user-error "The heading isn't where the engine has it: %s"
                     "M-x org-views-status compares the texts"))))
@@ -453,7 +453,7 @@ SEQUENCES are the keywords of its file."
 A buffer visits its file, and the place is one in that buffer's text."
   (pcase-let ((`(,file ,_ ,byte ,stamp) place))
     (with-current-buffer (org-views--file-buffer file)
-      (org-views--widened
+      (org-views--with-whole-text
         (goto-char (org-views--position (or byte 0)))
         (unless (or (null byte) (and (bolp) (looking-at-p "\\*+ ")))
           (user-error "The heading isn't where the engine has it: %s"
@@ -883,7 +883,7 @@ An empty one brings all rows back."
 NOW is as `org-views--byte-now' gives it; a buffer visits the file."
   (pcase-let ((`(,byte . ,same) now))
     (with-current-buffer (org-views--file-buffer file)
-      (org-views--widened
+      (org-views--with-whole-text
         (goto-char (org-views--position byte))
         (and (bolp)
              (or (null same)

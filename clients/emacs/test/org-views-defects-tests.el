@@ -11,7 +11,7 @@
 
 (require 'org-views-tests)
 
-(defun org-views-tests-visited (row)
+(defun org-views-tests-visit-row (row)
   "The file's name and the line where RET on ROW of the current view leads."
   (goto-char (point-min))
   (forward-line (1- row))
@@ -24,8 +24,8 @@
 (ert-deftest org-views-category-and-title-run-together ()
   (org-views-tests-with ((work "* Budget\n") (other "#+CATEGORY: work\n* Meeting: Budget\n"))
     (with-current-buffer (org-views-match "LEVEL>0")
-      (should (equal (org-views-tests-visited 2) '("other.org" "* Meeting: Budget")))
-      (should (equal (org-views-tests-visited 1) '("work.org" "* Budget"))))))
+      (should (equal (org-views-tests-visit-row 2) '("other.org" "* Meeting: Budget")))
+      (should (equal (org-views-tests-visit-row 1) '("work.org" "* Budget"))))))
 
 (ert-deftest org-views-equal-headings ()
   (org-views-tests-with ((a "* TODO call\n* TODO call\n"))
@@ -81,9 +81,9 @@
   (org-views-tests-with ((a (concat "* TODO " (make-string 1000000 ?x) "\n* TODO b\n"
                                     "CLOCK: [2024-02-28 Wed 09:00]--[2024-02-28 Wed 09:30]\n")))
     (with-current-buffer (org-views-clock "block=today maxlevel=1")
-      (should (equal (org-views-tests-visited 4) '("a.org" "* TODO b"))))
+      (should (equal (org-views-tests-visit-row 4) '("a.org" "* TODO b"))))
     (with-current-buffer (org-views-todo)
-      (should (equal (org-views-tests-visited 2) '("a.org" "* TODO b"))))))
+      (should (equal (org-views-tests-visit-row 2) '("a.org" "* TODO b"))))))
 
 (ert-deftest org-views-very-long-rows-have-faces ()
   (org-views-tests-with ((a (concat "* TODO " (make-string 1000000 ?x) "\n* TODO y "

@@ -42,7 +42,7 @@
   (setq last-command nil)
   (execute-kbd-macro (kbd keys)))
 
-(defun org-views-tests-refused (keys)
+(defun org-views-tests-refusal (keys)
   "What is said where KEYS are refused."
   (cadr (should-error (org-views-tests-press keys) :type 'user-error)))
 
@@ -78,7 +78,7 @@
 (ert-deftest org-views-key-ret-on-a-day ()
   (org-views-tests-with ((a "* x\n"))
     (org-views-tests-viewing (org-views-agenda)
-      (should (equal (org-views-tests-refused "RET") "No heading stands on this line")))))
+      (should (equal (org-views-tests-refusal "RET") "No heading stands on this line")))))
 
 (ert-deftest org-views-key-ret-reveals ()
   (org-views-tests-with ((a "* x\n** TODO call\ntext\n"))
@@ -140,7 +140,7 @@
   (org-views-tests-with ((a "* TODO call\n"))
     (org-views-tests-viewing (org-views-todo)
       (let ((display-buffer-overriding-action '(display-buffer-no-window (allow-no-window . t))))
-        (should (string-prefix-p "No window shows" (org-views-tests-refused "SPC")))))))
+        (should (string-prefix-p "No window shows" (org-views-tests-refusal "SPC")))))))
 
 (ert-deftest org-views-key-follow-mode ()
   (org-views-tests-with ((a "* TODO one\n* TODO two\n"))
@@ -163,7 +163,7 @@
       (should (= (line-number-at-pos) 2))
       (org-views-tests-press "N")
       (should (= (line-number-at-pos) 4))
-      (should (equal (org-views-tests-refused "N") "No more rows"))
+      (should (equal (org-views-tests-refusal "N") "No more rows"))
       (org-views-tests-press "P")
       (should (= (line-number-at-pos) 2)))))
 
@@ -347,10 +347,10 @@
                                     "* TODO two\nCLOCK: [2024-02-28 Wed 09:30]--[2024-02-28 Wed 09:45]\n")))
     (org-views-tests-viewing (org-views-clock "block=today maxlevel=1")
       (org-views-tests-at 2)
-      (should (equal (org-views-tests-refused "t") "No heading stands on this line"))
+      (should (equal (org-views-tests-refusal "t") "No heading stands on this line"))
       ;; A file's line leads to its file, and isn't its first heading.
       (org-views-tests-at 3)
-      (should (equal (org-views-tests-refused "t") "This row is a file's, not a heading's"))
+      (should (equal (org-views-tests-refusal "t") "This row is a file's, not a heading's"))
       (org-views-tests-at 5)
       (org-views-tests-press "t")
       (should (string-match-p "\\`\\* TODO one\n.*\n\\* DONE two\n" (org-views-tests-of a)))
@@ -362,7 +362,7 @@
   (org-views-tests-with ((a "* TODO one\n"))
     (with-current-buffer (find-file-noselect a) (fundamental-mode))
     (org-views-tests-viewing (org-views-todo)
-      (should (string-match-p "isn't in Org mode" (org-views-tests-refused "t")))
+      (should (string-match-p "isn't in Org mode" (org-views-tests-refusal "t")))
       (should (equal (org-views-tests-of a) "* TODO one\n")))))
 
 (ert-deftest org-views-key-undo ()
@@ -385,7 +385,7 @@
       ;; The first is gone: its row says so, and no other is touched.
       (with-current-buffer (find-file-noselect a) (delete-region 1 13))
       (org-views-tests-at 1)
-      (should (equal (org-views-tests-refused "t")
+      (should (equal (org-views-tests-refusal "t")
                      "This row has changed; 2 rows read as it did, choose one"))
       (should (equal (org-views-tests-of a) "* TODO call\n* TODO call\n"))
       ;; The rows after it lead to their own headings.
@@ -402,7 +402,7 @@
       (with-current-buffer (find-file-noselect a)
         (goto-char 8)
         (insert "number "))
-      (should (equal (org-views-tests-refused "t")
+      (should (equal (org-views-tests-refusal "t")
                      "This row has changed; look at what is shown now"))
       (should (equal (org-views-tests-of a) "* TODO number one\n* TODO two\n"))
       (should (equal (org-views--row) "  a:          TODO number one"))
@@ -414,7 +414,7 @@
     (org-views-tests-viewing (org-views-todo)
       ;; The first heading's stars now lead the second one's words.
       (with-current-buffer (find-file-noselect a) (delete-region 8 19))
-      (should (equal (org-views-tests-refused "t")
+      (should (equal (org-views-tests-refusal "t")
                      "This row has changed; look at what is shown now"))
       (should (equal (org-views-tests-of a) "* TODO two\n")))))
 
@@ -443,7 +443,7 @@
         (goto-char 1)
         (insert "x"))
       (should (string-match-p "The heading isn't where\\|This row has changed"
-                              (org-views-tests-refused "t")))
+                              (org-views-tests-refusal "t")))
       (should (equal (org-views-tests-of a) "x* TODO one\ntext\n* DONE two\n")))))
 
 (ert-deftest org-views-no-place-is-followed-past-another-session ()
@@ -468,7 +468,7 @@
     (org-views-tests-viewing (org-views-todo)
       (org-views-tests-write "a.org" "* TODO two\n* TODO one\n")
       (set-file-times a (time-add nil 10))
-      (should (equal (org-views-tests-refused "t")
+      (should (equal (org-views-tests-refusal "t")
                      "This row has changed; look at what is shown now"))
       (should (equal (org-views-tests-of a) "* TODO two\n* TODO one\n"))
       (org-views-tests-press "t")
@@ -561,7 +561,7 @@
       (with-current-buffer (find-file-noselect a)
         (goto-char (point-min))
         (insert "* TODO zero\n"))
-      (should (equal (org-views-tests-refused "t")
+      (should (equal (org-views-tests-refusal "t")
                      "The engine was started anew; look at what is shown now"))
       (should (equal (org-views-tests-of a) "* TODO zero\n* TODO one\n* TODO two\n"))
       (should (equal (org-views--row) "  a:          TODO two"))
@@ -574,7 +574,7 @@
       (org-views-tests-at 2)
       (signal-process org-views--process 'KILL)
       (with-timeout (60) (while org-views--process (accept-process-output nil 0.05)))
-      (should (equal (org-views-tests-refused "t")
+      (should (equal (org-views-tests-refusal "t")
                      "The engine was started anew; 2 rows read as it did, choose one"))
       (org-views-tests-at 2)
       (org-views-tests-press "t")
@@ -586,7 +586,7 @@
       (find-file-noselect a)
       (revert-buffer)
       (org-views-tests-edit-as-another a 0 11 "")
-      (should (string-match-p "changed by another session" (org-views-tests-refused "t")))
+      (should (string-match-p "changed by another session" (org-views-tests-refusal "t")))
       (should (equal (org-views-tests-of a) "* TODO one\n* TODO two\n")))))
 
 ;;;; Other days, filters, buffers
@@ -629,7 +629,7 @@
       (org-views-tests-press "g")
       (should (= (count-lines 1 (point-max)) 2))
       (should (string-match-p "No match expression: a<here it goes wrong> b"
-                              (org-views-tests-refused "/ a SPC b RET")))
+                              (org-views-tests-refusal "/ a SPC b RET")))
       (org-views-tests-press "/ RET")
       (should (= (count-lines 1 (point-max)) 4)))
     (org-views-tests-viewing (org-views-todo)
@@ -847,7 +847,7 @@
       ;; And goes again; a key that changes nothing of it asks nothing of other files.
       (delete-region (- (point-max) 15) (point-max))
       (should (equal (seq-filter (lambda (line) (string-prefix-p "keywords " line))
-                                 (org-views-tests-sent (org-views-tests-rows "todo")))
+                                 (org-views-tests-lines-sent (org-views-tests-rows "todo")))
                      (list (concat "keywords " (org-views--name a)))))
       (should (equal (org-views--file-keywords (org-views-tests-file a)) '(("NEXT" "|" "GONE")))))))
 

@@ -114,7 +114,7 @@ Each VARIABLE is the path of a file of its name with TEXT."
     (org-views--wait (lambda () reply))
     reply))
 
-(defmacro org-views-tests-sent (&rest body)
+(defmacro org-views-tests-lines-sent (&rest body)
   "The command lines that BODY sends."
   (declare (debug t))
   `(let (lines)
@@ -154,7 +154,7 @@ Each VARIABLE is the path of a file of its name with TEXT."
     (save-window-excursion
       (with-current-buffer (org-views-todo)
         (should (equal (org-views-tests-target 2) "* NEXT two"))
-        (should-not (org-views-tests-edits (org-views-tests-sent (revert-buffer))))))
+        (should-not (org-views-tests-edits (org-views-tests-lines-sent (revert-buffer))))))
     (should (org-views--file-buffer (org-views-tests-file a)))
     (org-views-tests-check a)
     (with-current-buffer (find-buffer-visiting a)
@@ -369,7 +369,7 @@ Each VARIABLE is the path of a file of its name with TEXT."
         ;; It isn't asked again before something is another thing.
         (let ((asked (lambda ()
                        (cl-letf (((symbol-function 'current-idle-time) (lambda () '(0 1))))
-                         (prog1 (member "todo" (org-views-tests-sent (org-views--refresh)))
+                         (prog1 (member "todo" (org-views-tests-lines-sent (org-views--refresh)))
                            (org-views--wait (lambda () (null org-views--queue))))))))
           (should-not (funcall asked))
           (cl-letf (((symbol-function 'org-views--now) (lambda () "2024-02-28 10:31")))
@@ -395,11 +395,11 @@ Each VARIABLE is the path of a file of its name with TEXT."
         (should org-views--timer)
         (cancel-timer org-views--timer)
         (should (equal (org-views-tests-edits
-                        (org-views-tests-sent (org-views-tests-rows "todo")))
+                        (org-views-tests-lines-sent (org-views-tests-rows "todo")))
                        (list (format "edit 1 %s 2 0 0 12" (org-views--name a)))))
         (org-views-tests-check a)
         (org-views-stop)
-        (should-not (memq #'org-views--visited (default-value 'find-file-hook)))))))
+        (should-not (memq #'org-views--note-visit (default-value 'find-file-hook)))))))
 
 (ert-deftest org-views-never-follow-if-so-set ()
   (org-views-tests-with ((a "* TODO one\n"))
@@ -443,19 +443,19 @@ Each VARIABLE is the path of a file of its name with TEXT."
       (dotimes (_ 100) (insert "x"))
       (delete-char -40)
       (should (equal (org-views-tests-edits
-                      (org-views-tests-sent (org-views-tests-rows "todo")))
+                      (org-views-tests-lines-sent (org-views-tests-rows "todo")))
                      (list (format "edit 1 %s %d 7 0 60" (org-views--name a)
                                    (1- (org-views--file-serial (org-views-tests-file a)))))))
-      (should-not (org-views-tests-edits (org-views-tests-sent (org-views-tests-rows "todo"))))
+      (should-not (org-views-tests-edits (org-views-tests-lines-sent (org-views-tests-rows "todo"))))
       (save-restriction
         (narrow-to-region 3 12)
         (goto-char 8)
         (insert "y"))
       (should (string-suffix-p " 7 0 1" (car (org-views-tests-edits
-                                              (org-views-tests-sent
+                                              (org-views-tests-lines-sent
                                                (org-views-tests-rows "todo"))))))
       (put-text-property 1 5 'face 'bold)
-      (should-not (org-views-tests-edits (org-views-tests-sent (org-views-tests-rows "todo"))))
+      (should-not (org-views-tests-edits (org-views-tests-lines-sent (org-views-tests-rows "todo"))))
       (org-views-tests-check a))))
 
 (ert-deftest org-views-changes-that-no-hook-tells ()
@@ -580,9 +580,9 @@ Each VARIABLE is the path of a file of its name with TEXT."
       (set-buffer-modified-p nil)
       (kill-buffer))
     (should (equal (org-views-tests-rows "todo") '("  a:          TODO two" "  b:          TODO b")))
-    (should-not (org-views-tests-edits (org-views-tests-sent (org-views-tests-rows "todo"))))
+    (should-not (org-views-tests-edits (org-views-tests-lines-sent (org-views-tests-rows "todo"))))
     (set-file-times a (time-add nil 20))
-    (should-not (org-views-tests-edits (org-views-tests-sent (org-views-tests-rows "todo"))))
+    (should-not (org-views-tests-edits (org-views-tests-lines-sent (org-views-tests-rows "todo"))))
     (should-not (find-buffer-visiting b))))
 
 (ert-deftest org-views-renamed-files ()
@@ -1021,7 +1021,7 @@ Each VARIABLE is the path of a file of its name with TEXT."
       (with-current-buffer (find-file-noselect b) (insert "* TODO c\n"))
       (insert "more")
       (should (= 1 (length (org-views-tests-edits
-                            (org-views-tests-sent (org-views-tests-rows "todo"))))))
+                            (org-views-tests-lines-sent (org-views-tests-rows "todo"))))))
       (delete-char -4)
       (should (equal (org-views-tests-rows "todo")
                      '("  a:          TODO two" "  b:          TODO c" "  b:          TODO b")))
@@ -1196,7 +1196,7 @@ Each VARIABLE is the path of a file of its name with TEXT."
           (org-views-tests-check a)
           ;; Whether the tail stands there is what a search of the whole text says.
           (should (equal (equal (org-views--file-tail (org-views-tests-file a)) "")
-                         (consp (org-views--widened (org-views--find-own)))))
+                         (consp (org-views--with-whole-text (org-views--find-own)))))
           (ert-info ((format "round %d" round))
             (should-not (org-views--notices))))))))
 

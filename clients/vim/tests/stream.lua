@@ -382,9 +382,9 @@ run('trouble', function()
   check('one without the option', said('OrgviewsTodo'):find('a later orgviews is needed') ~= nil)
   vim.g.orgviews_command = { 'sh', '-c', "read -r line; printf 'view 17\\norgviews 0.4.0 1\\n'; cat > /dev/null" }
   check('one of the first protocol', said('OrgviewsTodo'):find('a later orgviews is needed') ~= nil)
-  -- One that answers all but a list of tasks, which it answers by `reply`.
-  local function stub(reply)
-    return { 'sh', '-c', [[while IFS= read -r line; do case $line in todo) printf ']] .. reply .. [[' ;;
+  -- One that answers all but a list of tasks, which it answers by `answer`.
+  local function stub(answer)
+    return { 'sh', '-c', [[while IFS= read -r line; do case $line in todo) printf ']] .. answer .. [[' ;;
       version) printf 'view 17\norgviews 0.4.0 2\n' ;; add*) set -- $line; head -c $3 > /dev/null; echo ok 1 ;;
       places*) : ;; *) echo ok 1 ;; esac; done]] }
   end
@@ -816,8 +816,8 @@ run('differences', function()
   equal('at characters', { Bytes.difference('aéb', 'aèb') }, { 1, 2, 2 })
   equal('of what is added', { Bytes.difference('éé', 'ééé') }, { 4, 0, 2 })
   equal('of nothing', { Bytes.difference('', 'x') }, { 0, 0, 1 })
-  equal('ranges that meet', Texts.widened({ from = 5, old = 2, new = 4 }, 3, 4, 1), { from = 3, old = 4, new = 3 })
-  equal('ranges apart', Texts.widened({ from = 5, old = 0, new = 3 }, 20, 2, 2), { from = 5, old = 14, new = 17 })
+  equal('ranges that meet', Texts.widen({ from = 5, old = 2, new = 4 }, 3, 4, 1), { from = 3, old = 4, new = 3 })
+  equal('ranges apart', Texts.widen({ from = 5, old = 0, new = 3 }, 20, 2, 2), { from = 5, old = 14, new = 17 })
 end)
 
 vim.fn.delete(folder, 'rf')

@@ -7,7 +7,7 @@ local api = vim.api
 local M = {}
 
 -- The paths of the list in which orgq looks where none is named.
-local function configured()
+local function configured_paths()
   local named = vim.env.ORGQ_FILES
   if named and named ~= '' then
     return vim.split(named, ':', { plain = true })
@@ -42,7 +42,7 @@ end
 -- but for `~/` in front. What can't be looked at has a line in the second value, and takes no other file along.
 function M.wanted()
   local given = vim.g.orgq_files
-  given = (given and #given > 0) and given or configured()
+  given = (given and #given > 0) and given or configured_paths()
   local paths, seen, troubles = {}, {}, {}
   local function put(path)
     local real = uv.fs_realpath(path) or path
@@ -76,7 +76,7 @@ function M.loaded_buffers()
   return buffers
 end
 
-local function escaped(byte)
+local function escape(byte)
   return ('%%%02X'):format(byte:byte())
 end
 
@@ -97,14 +97,14 @@ local function as_utf8(name)
   for _, character in ipairs(characters) do
     rest = rest:gsub(character, ' ')
   end
-  return rest:find('[\128-\255]') and name:gsub('[\128-\255]', escaped) or name
+  return rest:find('[\128-\255]') and name:gsub('[\128-\255]', escape) or name
 end
 
 -- The engine's name of a path that isn't `taken`: no byte below 33 stands in it, and at most 255 bytes. Its end is kept, since
 -- the category is read from there.
 function M.name_of(path, taken)
   local name = (as_utf8(vim.fn.fnamemodify(path, ':~')))
-  name = name:gsub(' ', '\194\160'):gsub('[%z\1-\31\127]', escaped)
+  name = name:gsub(' ', '\194\160'):gsub('[%z\1-\31\127]', escape)
   name = name:sub(-240):gsub('^[\128-\191]+', '')
   local free, count = name, 1
   while taken[free] do

@@ -89,7 +89,7 @@ local function key(place)
 end
 
 -- The lines and places without those whose headings aren't among the places `held`. What is no heading's stays.
-local function filtered(answer, held)
+local function filter_lines(answer, held)
   local keys, kept = {}, { lines = {}, places = {} }
   for _, place in ipairs(held) do
     keys[key(place)] = true
@@ -114,7 +114,7 @@ local function answer_of(commands, replies)
   if #answer.lines ~= #answer.places then
     return { refused = commands[2], reply = { ended = "the program's places don't fit its view" } }
   end
-  return replies[3] and filtered(answer, lines_of(replies[3].view)) or answer
+  return replies[3] and filter_lines(answer, lines_of(replies[3].view)) or answer
 end
 
 -- The commands that ask `question`, of the headings alone of which the expression `filter` holds, where it is one. Tables take it

@@ -25,7 +25,7 @@ end
 
 -- The range of a file that isn't sent yet: `old` bytes of the engine's text from `from` on stand as `new` bytes in the buffer.
 -- A further change of `old` bytes at `from` widens it.
-local function widened(damage, from, old, new)
+local function widen(damage, from, old, new)
   if not damage then
     return { from = from, old = old, new = new }
   end
@@ -46,7 +46,7 @@ function Texts:follow(file, buffer)
         return true
       end
       if not file.is_applying then
-        file.damage = widened(file.damage, from, old, new)
+        file.damage = widen(file.damage, from, old, new)
       end
       self.on_change()
     end,
@@ -335,6 +335,6 @@ function Texts:stop()
   end
 end
 
-Texts.widened = widened
+Texts.widen = widen
 
 return Texts

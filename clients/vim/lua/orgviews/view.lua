@@ -61,7 +61,7 @@ end
 
 -- Where line `row` of `old` stands in `new`: of equal lines the one that is as many-th among them, where there are as many as
 -- before, else the nearest; nil where there is none.
-local function moved(old, new, row)
+local function row_of_text(old, new, row)
   local before, after = equal_lines(old, old[row]), equal_lines(new, old[row])
   if #before == #after then
     for number, place in ipairs(before) do
@@ -75,7 +75,7 @@ end
 
 -- What is in a place: the file's `name` and `serial`, and of a heading its `line` from 1 and its `byte` from 0. Nil for the place of
 -- a day, a step or a total.
-local function parsed(place)
+local function parse(place)
   local name, serial, line, byte = (place or ''):match('^(%S+) (%d+) (%S+) (%S+) %S+$')
   if not name then
     return nil
@@ -87,7 +87,7 @@ end
 local function rows_of(places, name, byte)
   local rows = {}
   for row, place in ipairs(places) do
-    local it = parsed(place)
+    local it = parse(place)
     if it and it.name == name and it.byte == byte then
       table.insert(rows, row)
     end
@@ -98,13 +98,13 @@ end
 -- The row of another answer at which a cursor that was in `row` stands: that of its heading, where that can be followed, else of its
 -- text; else, as where the heading isn't in the answer any more, the same row.
 function View:row_in(answer, old, row, follow)
-  local place = parsed(self.places and self.places[row])
+  local place = parse(self.places and self.places[row])
   local byte = place and place.byte and follow(place)
   local found
   if byte then
     found = nearest(rows_of(answer.places, place.name, byte), row)
   else
-    found = moved(old, answer.lines, row)
+    found = row_of_text(old, answer.lines, row)
   end
   return found or math.max(1, math.min(row, #answer.lines))
 end
@@ -142,9 +142,9 @@ function View:forget_places()
   self.places = nil
 end
 
--- The place of the line under the cursor, see `parsed`.
+-- The place of the line under the cursor, see `parse`.
 function View:place()
-  return parsed(self.places and self.places[api.nvim_win_get_cursor(0)[1]])
+  return parse(self.places and self.places[api.nvim_win_get_cursor(0)[1]])
 end
 
 -- How many lines read as `text`.
