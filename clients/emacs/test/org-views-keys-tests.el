@@ -156,6 +156,13 @@
         (org-views-tests-press "F n")
         (should (= (window-point shown) 1))))))
 
+(ert-deftest org-views-follow-mode-stays ()
+  (org-views-tests-with ((a "* TODO one\n"))
+    (org-views-tests-viewing (org-views-todo)
+      (org-views-tests-press "F")
+      (should (eq (org-views-todo) view))
+      (should (buffer-local-value 'org-views-follow-mode view)))))
+
 (ert-deftest org-views-key-next-rows ()
   (org-views-tests-with ((a "* one\n<2024-02-28 Wed>\n* two\n<2024-02-29 Thu>\n"))
     (org-views-tests-viewing (org-views-agenda 3)
@@ -445,6 +452,20 @@
       (should (string-match-p "The heading isn't where\\|This row has changed"
                               (org-views-tests-refusal "t")))
       (should (equal (org-views-tests-of a) "x* TODO one\ntext\n* DONE two\n")))))
+
+(ert-deftest org-views-places-of-a-chain-of-serials ()
+  (let ((file (org-views--make-file :serial 6 :edits '((5 6 0 0 3) (2 5 20 1 0) (1 2 8 2 2)))))
+    (should (equal (org-views--byte-now file 6 10) '(10)))
+    (should (equal (org-views--byte-now file 5 10) '(13)))
+    (should (equal (org-views--byte-now file 2 10) '(13 . 10)))
+    (should (equal (org-views--byte-now file 1 10) '(13 . 10)))
+    (should (equal (org-views--byte-now file 1 7) '(10 . 1)))
+    (should-not (org-views--byte-now file 1 9))
+    ;; A serial that isn't in the chain, and a chain with a gap.
+    (should-not (org-views--byte-now file 3 10))
+    (setf (org-views--file-edits file) '((5 6 0 0 3) (1 2 8 2 2)))
+    (should (equal (org-views--byte-now file 5 10) '(13)))
+    (should-not (org-views--byte-now file 1 10))))
 
 (ert-deftest org-views-no-place-is-followed-past-another-session ()
   (org-views-tests-with ((a "* TODO one\n* TODO two\n"))
