@@ -290,6 +290,39 @@ run('edits at random', function()
   equal('no file is refused', { file_of(home).refused, #texts:missing() }, { nil, 0 })
 end)
 
+-- The same in a buffer that isn't the current one, as other plugins change it: Neovim counts its bytes otherwise.
+run('edits from another window', function()
+  local path = write('far.org', ('* TODO Far é\nText 日本.\n'):rep(50))
+  vim.cmd('edit ' .. vim.fn.fnameescape(path))
+  local buffer = api.nvim_get_current_buf()
+  vim.cmd('OrgviewsTodo')
+  math.randomseed(11)
+  local pieces = { 'a', 'é', '日', '\n', '\n* TODO x\n', '🙂 :x:' }
+  local same = 0
+  local sent = sent_by(function()
+    for _ = 1, 100 do
+      for _ = 1, math.random(3) do
+        local count = api.nvim_buf_line_count(buffer)
+        local row = math.random(count) - 1
+        local line = api.nvim_buf_get_lines(buffer, row, row + 1, true)[1]
+        local from = vim.fn.byteidx(line, math.random(0, vim.fn.strchars(line)))
+        if math.random(4) > 1 then
+          local piece = pieces[math.random(#pieces)]
+          api.nvim_buf_set_text(buffer, row, from, row, from, vim.split(piece, '\n', { plain = true }))
+        else
+          api.nvim_buf_set_text(buffer, row, 0, math.min(row + 1, count - 1), 0, { 'ü' })
+        end
+      end
+      same = orgviews.engine_text(path) == buffer_text(buffer) and same + 1 or same
+    end
+  end)
+  equal('the engine has each text', same, 100)
+  equal('by edits', { sent.text, sent.edit > 90 }, { 100, true })
+  vim.cmd('bwipeout! far.org')
+  vim.fn.delete(path)
+  vim.cmd('silent! only')
+end)
+
 run('other kinds of text', function()
   local dos = write('dos.org', '* TODO One\r\n* TODO Zwei ü\r\n')
   local bare = write('bare.org', '* TODO No end')

@@ -10,14 +10,23 @@ function M.of_buffer(buffer)
   return table.concat(api.nvim_buf_get_lines(buffer, 0, -1, true), '\n') .. '\n'
 end
 
--- How many bytes that are, without making it.
+-- Has Neovim count all bytes of a buffer. Where it isn't the current one, the line that was changed last is left out until
+-- another line is read.
+local function count_all(buffer)
+  api.nvim_buf_get_lines(buffer, 0, 1, false)
+  api.nvim_buf_get_lines(buffer, -2, -1, false)
+end
+
+-- How many bytes a buffer's text has, without making it.
 function M.length(buffer)
+  count_all(buffer)
   local last = api.nvim_buf_line_count(buffer) - 1
   return api.nvim_buf_get_offset(buffer, last) + #api.nvim_buf_get_lines(buffer, last, last + 1, true)[1] + 1
 end
 
 -- The row of a buffer, from 0, in which a byte of its text stands, and that byte's place in the row.
 function M.row_at(buffer, byte)
+  count_all(buffer)
   local low, high = 0, api.nvim_buf_line_count(buffer)
   while high - low > 1 do
     local middle = math.floor((low + high) / 2)
