@@ -4,6 +4,7 @@
 local uv = vim.uv or vim.loop
 local api = vim.api
 local Places = require('orgviews.places')
+local Questions = require('orgviews.questions')
 local Session = require('orgviews.session')
 local Texts = require('orgviews.texts')
 local View = require('orgviews.view')
@@ -67,29 +68,6 @@ end
 
 -- Views --------------------------------------------------------------------------------------------------------------------
 
-local refusals = {
-  date = 'no such day',
-  days = 'days are 1 to 366',
-  option = 'no such block or option of a clock table',
-  regexp = 'a pattern that is none',
-}
-
--- What a person reads where an answer is a refusal.
-local function refusal(answer)
-  local reply, asked = answer.reply, answer.refused
-  if reply.ended then
-    return reply.ended
-  end
-  if reply.err == 'match' then
-    local expression = asked:gsub('^places ', ''):gsub('^match ', ''):gsub('^clock .-match=', '')
-    return 'no expression: ' .. expression:sub(1, reply.more) .. ' >' .. expression:sub(reply.more + 1)
-  end
-  if reply.err == 'command' then
-    return 'words that are none: ' .. asked
-  end
-  return refusals[reply.err] or reply.err
-end
-
 -- The answer to `question`, of the headings alone of which `filter` holds; nil after a message where there is none.
 local function answer_of(question, filter)
   if not start() then
@@ -97,7 +75,7 @@ local function answer_of(question, filter)
   end
   local answer = session:ask_now(question, filter)
   if answer.refused then
-    return complain(refusal(answer))
+    return complain(Questions.refusal(answer))
   end
   return answer
 end
@@ -171,26 +149,13 @@ end
 -- The agenda of `words`: a number of days, the first day as YYYY-MM-DD, both or none. Without a day it begins today, also when
 -- tomorrow has come.
 function M.agenda(words)
-  local span = { days = '1' }
-  for _, word in ipairs(words or {}) do
-    if word:match('^%d+$') and #word <= 3 then
-      span.days = word
-    else
-      span.date = word
-    end
-  end
+  local span = Questions.span(words or {})
   local view = show(vim.trim('agenda ' .. span.days .. ' ' .. (span.date or '')), function()
     return ('agenda %s %s'):format(span.date or Session.moment():sub(1, 10), span.days)
   end)
   if view then
     view.span, view.filter = span, nil
   end
-end
-
--- The day `count` days after `date`, or before it.
-local function days_later(date, count)
-  local year, month, day = date:match('^(%d+)-(%d+)-(%d+)')
-  return os.date('%Y-%m-%d', os.time({ year = year, month = month, day = day + count, hour = 12 }))
 end
 
 -- Shows the agenda that lies so many times its days ahead, or back; today's for 0.
@@ -201,7 +166,7 @@ function M.move(count)
     return view and say('this is no agenda')
   end
   local before = span.date
-  span.date = count ~= 0 and days_later(before or Session.moment(), count * tonumber(span.days)) or nil
+  span.date = count ~= 0 and Questions.days_later(before or Session.moment(), count * tonumber(span.days)) or nil
   local answer = answer_of(view.question(), view.filter)
   if not answer then
     span.date = before
@@ -228,27 +193,7 @@ end
 
 -- A clock table. `words` is a block (thisweek) and options as orgq has them; what stands after --match is one expression.
 function M.clock(words)
-  local front, expression = words:match('^(.-)%s*%-%-match[= ]%s*(.*)$')
-  local block, level, rest = 'thisweek', '2', ''
-  local given = vim.split((front or words):gsub('(%-%-%l+)=', '%1 '), '%s+', { trimempty = true })
-  local place = 1
-  while given[place] do
-    local word = given[place]
-    if word == '--level' then
-      place = place + 1
-      level = given[place] or ''
-    elseif word == '--step' then
-      place = place + 1
-      rest = rest .. ' step=' .. (given[place] or '')
-    elseif word == '--effort' then
-      rest = rest .. ' effort'
-    else
-      block = word
-    end
-    place = place + 1
-  end
-  local question = ('clock block=%s maxlevel=%s%s'):format(block, level, rest)
-  question = expression and question .. ' match=' .. expression or question
+  local question = Questions.clock(words)
   show('clock ' .. words, function()
     return question
   end)
@@ -393,19 +338,6 @@ end
 
 -- Completion -----------------------------------------------------------------------------------------------------------------
 
-local function words_of(sequences)
-  local words, seen = {}, { ['|'] = true }
-  for _, sequence in ipairs(sequences) do
-    for _, word in ipairs(sequence) do
-      if not seen[word] then
-        seen[word] = true
-        table.insert(words, word)
-      end
-    end
-  end
-  return words
-end
-
 -- All keywords of the files that are asked about; of the row's file alone where `is_here`.
 function M.keywords(is_here)
   if not start() or not session:settle() then
@@ -414,23 +346,13 @@ function M.keywords(is_here)
   local view = is_here and views[api.nvim_get_current_buf()]
   local place = view and view:place()
   local file = place and session.texts:named(place.name)
-  return words_of(session:keywords(file and { file } or session.texts.files))
+  return Questions.words_of(session:keywords(file and { file } or session.texts.files))
 end
 
 -- All tags that headings have, inherited ones too.
 function M.tags()
   local answer = start() and session:ask_now('match {.}') or {}
-  local tags, seen = {}, {}
-  for _, line in ipairs(answer.lines or {}) do
-    for tag in (line:match(' :(%S+):$') or ''):gmatch('[^:]+') do
-      if not seen[tag] then
-        seen[tag] = true
-        table.insert(tags, tag)
-      end
-    end
-  end
-  table.sort(tags)
-  return tags
+  return Questions.tags_of(answer.lines or {})
 end
 
 -- What runs --------------------------------------------------------------------------------------------------------------------
