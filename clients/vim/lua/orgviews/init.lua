@@ -108,10 +108,10 @@ local function show(title, question)
   view.question = question
   views[view.buffer] = view
   fill(view, answer)
-  local missing = session.texts:missing()
+  local missing = session and session.texts:missing() or {}
   if #missing > 0 then
     say('left out: ' .. table.concat(missing, ', '), 'WarningMsg')
-  elseif #session.texts.files == 0 then
+  elseif session and #session.texts.files == 0 then
     say('no files (see g:orgq_files)', 'WarningMsg')
   end
   return view
@@ -340,13 +340,14 @@ end
 
 -- All keywords of the files that are asked about; of the row's file alone where `is_here`.
 function M.keywords(is_here)
-  if not start() or not session:settle() then
+  local mine = start() and session
+  if not mine or not mine:settle() then
     return {}
   end
   local view = is_here and views[api.nvim_get_current_buf()]
   local place = view and view:place()
-  local file = place and session.texts:named(place.name)
-  return Questions.words_of(session:keywords(file and { file } or session.texts.files))
+  local file = place and mine.texts:named(place.name)
+  return Questions.words_of(mine:keywords(file and { file } or mine.texts.files))
 end
 
 -- All tags that headings have, inherited ones too.
