@@ -1,11 +1,11 @@
 -- What is shown has no control character, and a text without one stands.
 use Rattle.std.proofs.Common.{◌≡◌, ◌∙◌, ℕ, ◌+◌, ◌-◌, ◌/◌, ◌%◌, ◌<◌, ◌≤◌, Bool, true, false, cond, not, List, [], ◌∷◌, ◌++◌, refl, sym, ap, subst, arith, append-nil}
-use Rattle.std.specs.Prelude.{◌&&◌, ◌||◌, ◌==◌, nat_le, nat_lt}
+use Rattle.std.specs.Prelude.{◌&&◌, ◌||◌, ◌==◌, nat_lt}
 use Rattle.std.proofs.lemmas.Bool.{and_parts}
 use Rattle.std.proofs.lemmas.Bool.Decides.{nat_tests}
 use Rattle.org_rows.specs.Clean.{IsClean, is_clean_behind, is_control, is_second}
 use Rattle.org_rows.specs.Laws.{CleanStands, VisibleIsClean}
-use Rattle.org_rows.specs.Visible.{control, field_byte, hex, other, single, visible, visible_behind, written}
+use Rattle.org_rows.specs.Visible.{control, hex, other, single, visible_behind, written}
 use Rattle.org_rows.specs.declared.visible.Escape.{Escape}
 use Rattle.org_rows.specs.declared.visible.Escape.TheVariants.{Json, Caret, Field}
 use Rattle.org_rows.specs.declared.visible.TheConstants.{LEAD}

@@ -1,6 +1,6 @@
 -- The row that comes of a stamp is that of the first day that has one.
-use Rattle.std.proofs.Common.{◌≡◌, ◌∙◌, ℕ, zero, suc, ◌+◌, ◌<◌, ◌≤◌, Bool, true, false, cond, List, [], ◌∷◌, ◌++◌, refl, sym, ap, subst, arith, not, ◌⊎◌, inl, inr}
-use Rattle.std.specs.Prelude.{Some, ◌&&◌, ◌||◌, ◌==◌, slice_get, fold}
+use Rattle.std.proofs.Common.{◌≡◌, ◌∙◌, ℕ, zero, suc, ◌+◌, ◌<◌, ◌≤◌, Bool, true, false, cond, List, [], ◌∷◌, ◌++◌, refl, sym, subst, arith, not}
+use Rattle.std.specs.Prelude.{Some, ◌&&◌, ◌==◌, slice_get, fold}
 use Rattle.std.specs.List.{list_any, range_with_len}
 use Rattle.std.proofs.lemmas.Bool.{and_parts}
 use Rattle.std.proofs.lemmas.Bool.Decides.{nat_tests}

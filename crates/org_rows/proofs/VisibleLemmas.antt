@@ -2,7 +2,7 @@
 use Rattle.std.proofs.Common.{◌≡◌, ◌∙◌, ℕ, ◌+◌, ◌<◌, ◌≤◌, Bool, List, [], ◌∷◌, ◌++◌, length, drop, get_or, ap, sym, append_assoc}
 use Rattle.std.specs.Prelude.{◌==◌}
 use Rattle.std.proofs.lemmas.List.{drop_all, drop_more}
-use Rattle.org_rows.specs.Visible.{control, visible, visible_behind, written}
+use Rattle.org_rows.specs.Visible.{visible, visible_behind, written}
 use Rattle.org_rows.specs.declared.visible.Escape.{Escape}
 use Rattle.org_rows.specs.declared.visible.TheConstants.{LEAD}
 
