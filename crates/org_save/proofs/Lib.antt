@@ -1,0 +1,4 @@
+mod EventLemmas
+mod FinishLemmas
+mod RecordLemmas
+mod StopLemmas

@@ -1,0 +1,4 @@
+pub mod Events
+pub mod Contents
+pub mod Calls
+pub mod Replacing
