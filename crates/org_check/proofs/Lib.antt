@@ -1,0 +1,6 @@
+pub mod CleanLemmas
+pub mod ClockLemmas
+pub mod MarkedLemmas
+pub mod SaidLemmas
+pub mod UnclosedLemmas
+pub mod UnreadLemmas

@@ -1,0 +1,9 @@
+pub mod Clean
+pub mod Clocks
+pub mod Examples
+pub mod Looks
+pub mod Marked
+pub mod Marks
+pub mod Said
+pub mod Unclosed
+pub mod UnreadStamps

@@ -1,0 +1,145 @@
+//! Clocks that count nothing, and clocks that overlap.
+ghost use Rattle.std.specs.Prelude.{◌≡◌};
+ghost use Rattle.org_check.specs.Clocks.{counts_nothing};
+
+use crate::beside_kinds::BesideKind;
+use crate::finding::Cause;
+use crate::here::Here;
+use crate::notes::{Note, Notes};
+use crate::unread_kinds::MinutesKind;
+use crate::unread_lines::past_spaces;
+use org_base::words::{first_word, trimmed};
+use org_cal::{MINUTES_PER_DAY, Minute};
+use org_drawer::{ClockLine, read_clock};
+use org_stamp::leading_spaces;
+use std::alloc::{AllocError, Global};
+
+// A clock that ends after it begins, by its minutes, and where it stands.
+#[derive(Clone, Copy, PartialEq, Eq, PartialOrd, Ord)]
+struct Closed {
+    from: u64,
+    to: u64,
+    line_at: u32,
+    place: usize,
+    len: usize,
+    line: u32,
+}
+
+// The clocks of a file that count.
+#[derive(Drop)]
+pub(crate) struct Clocks {
+    list: Vec<Closed>,
+}
+
+impl Clocks {
+    // None.
+    pub(crate) fn new(alloc: Global) -> Clocks {
+        Clocks {
+            list: Vec::new(alloc),
+        }
+    }
+
+    // Keeps the clock of a clock line, if it ends after it begins.
+    pub(crate) fn push(&mut self, here: Here, line: &[u8]) -> Result<(), AllocError> {
+        let Some(ClockLine { from, to: Some(to) }) = read_clock(line) else {
+            return Ok(());
+        };
+        if to.number() <= from.number() {
+            return Ok(());
+        }
+        self.list.push(Closed {
+            from: from.number(),
+            to: to.number(),
+            line_at: here.at,
+            place: leading_spaces(line),
+            len: trimmed(line).len(),
+            line: here.number,
+        })?;
+        Ok(())
+    }
+
+    // Puts each clock that begins before an earlier one has ended.
+    pub(crate) fn push_overlaps(&mut self, notes: &mut Notes) -> Result<(), AllocError> {
+        self.list.sort()?;
+        let mut end = 0;
+        let mut end_line = 0;
+        for clock in self.list.as_slice() {
+            if clock.from < end {
+                notes.push(overlap(*clock, end_line))?;
+            }
+            if clock.to > end {
+                end = clock.to;
+                end_line = clock.line;
+            }
+        }
+        Ok(())
+    }
+}
+
+fn overlap(clock: Closed, other: u32) -> Note {
+    Note {
+        line_at: clock.line_at,
+        place: clock.place,
+        len: clock.len,
+        line: clock.line,
+        kind: BesideKind::OverlappingClocks,
+        cause: Some(Cause::Other(other)),
+    }
+}
+
+/// Whether a clock has no minute in any period: it runs still, or ends no later than it begins.
+pub fn counts_nothing(clock: &ClockLine) -> bool
+    ensures value { result ≡ counts_nothing clock.now }
+{
+    let ClockLine { from, to } = *clock;
+    match to {
+        None => true,
+        Some(to) => to.number() <= from.number(),
+    }
+}
+
+// Why the clock of a clock line counts nothing.
+pub(crate) fn minutes_kind(line: &[u8], now: Option<Minute>) -> MinutesKind {
+    let Some(clock) = read_clock(line) else {
+        return MinutesKind::EmptyClock;
+    };
+    let from = clock.from.number();
+    match clock.to {
+        None => running_kind(from, now),
+        Some(to) if to.number() < from => MinutesKind::ReversedClock,
+        Some(_) => MinutesKind::EmptyClock,
+    }
+}
+
+// Whether a running clock has run for more than a day, as it is taken to have where no moment is known.
+fn running_kind(from: u64, now: Option<Minute>) -> MinutesKind {
+    match now {
+        Some(now) if now.number() <= from.saturating_add(MINUTES_PER_DAY) => MinutesKind::OpenClock,
+        _ => MinutesKind::RunningClock,
+    }
+}
+
+// Puts a clock in a list.
+pub(crate) fn push_clock_item(
+    notes: &mut Notes,
+    here: Here,
+    line: &[u8],
+) -> Result<(), AllocError> {
+    if !is_clock_item(line) {
+        return Ok(());
+    }
+    notes.push(here.note(
+        BesideKind::ClockInList,
+        leading_spaces(line),
+        trimmed(line).len(),
+    ))
+}
+
+// Whether a clock stands after the bullet of a list.
+fn is_clock_item(line: &[u8]) -> bool {
+    let text = past_spaces(line);
+    let [b'-' | b'+' | b'*', rest @ ..] = text else {
+        return false;
+    };
+    first_word(text).len() == 1 && read_clock(rest).is_some()
+}

@@ -1,0 +1,103 @@
+//! Property drawers that aren't read.
+ghost use Rattle.std.specs.Prelude.{◌+◌, ◌≤◌, length};
+
+use crate::finding::Cause;
+use crate::here::Here;
+use crate::unread_kinds::DrawerKind;
+use org_base::{Fault, Span};
+use org_class::is_drawer_end;
+use org_drawer::is_node;
+use org_lines::Lines;
+use org_text::Text;
+use std::alloc::Global;
+
+// What comes first, after a line of a section, of what decides whether a drawer that begins there ends: it is the same for
+// each line up to that one.
+#[derive(Clone, Copy)]
+pub(crate) struct Ahead {
+    // The first line that ends a drawer or gives no property.
+    line: u32,
+    stop: Stop,
+    // The section's last line that ends a drawer, 0 where none does.
+    last_end: u32,
+}
+
+#[derive(Clone, Copy)]
+enum Stop {
+    End,
+    Other,
+    Nothing,
+}
+
+// What comes after a line of a section, where it is known of an earlier line, or of none.
+pub(crate) fn look_ahead<T: Text>(
+    alloc: Global,
+    text: &T,
+    here: Here,
+    known: Option<Ahead>,
+) -> Result<Ahead, Fault>
+    requires within { here.rest.at + here.rest.len ≤ length (T.content text.now) }
+{
+    let last_end = match known {
+        Some(ahead) if here.number < ahead.line => return Ok(ahead),
+        Some(ahead) => ahead.last_end,
+        None => last_end(alloc, text, here.rest, here.number)?,
+    };
+    let (line, stop) = first_stop(alloc, text, here.rest, here.number)?;
+    Ok(Ahead {
+        line,
+        stop,
+        last_end,
+    })
+}
+
+// The first line that ends a drawer or gives no property, of those that come after a line of this number.
+fn first_stop<T: Text>(
+    alloc: Global,
+    text: &T,
+    rest: Span,
+    number: u32,
+) -> Result<(u32, Stop), Fault>
+    requires within { rest.at + rest.len ≤ length (T.content text.now) }
+{
+    let mut here = number;
+    for line in Lines::new(alloc, text, rest) {
+        let line = line?;
+        let line = line.bytes.as_slice();
+        here = here.saturating_add(1);
+        if is_drawer_end(line) {
+            return Ok((here, Stop::End));
+        }
+        if !is_node(line) {
+            return Ok((here, Stop::Other));
+        }
+    }
+    Ok((u32::MAX, Stop::Nothing))
+}
+
+// The last line that ends a drawer, of those that come after a line of this number; 0 where none does.
+fn last_end<T: Text>(alloc: Global, text: &T, rest: Span, number: u32) -> Result<u32, Fault>
+    requires within { rest.at + rest.len ≤ length (T.content text.now) }
+{
+    let mut here = number;
+    let mut last = 0;
+    for line in Lines::new(alloc, text, rest) {
+        let line = line?;
+        here = here.saturating_add(1);
+        if is_drawer_end(line.bytes.as_slice()) {
+            last = here;
+        }
+    }
+    Ok(last)
+}
+
+// Why a line `:PROPERTIES:` begins no drawer, and what stands in its way.
+pub(crate) fn stray_drawer(here: Here, ahead: Ahead) -> (DrawerKind, Option<Cause>) {
+    match ahead.stop {
+        Stop::End => (DrawerKind::StrayDrawer, here.above.below),
+        Stop::Other if here.number < ahead.last_end => {
+            (DrawerKind::DrawerLine, Some(Cause::Other(ahead.line)))
+        }
+        Stop::Other | Stop::Nothing => (DrawerKind::UnclosedDrawer, None),
+    }
+}

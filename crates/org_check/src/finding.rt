@@ -1,0 +1,76 @@
+//! What was found.
+ghost use Rattle.std.specs.Prelude.{◌≡◌};
+ghost use Rattle.org_check.specs.Said.{mark_of};
+
+use crate::kind::Kind;
+use crate::look::Mark;
+
+/// What stands in the way, where the kind doesn't say it: the line that a remedy names, from 1.
+#[derive(Clone, Copy, Debug, PartialEq, Eq, PartialOrd, Ord)]
+pub enum Cause {
+    /// A blank line.
+    Blank(u32),
+    /// A drawer.
+    Drawer(u32),
+    /// Another planning line.
+    Planning(u32),
+    /// A line of text.
+    Text(u32),
+    /// Another line that the finding speaks of.
+    Other(u32),
+    /// No heading stands above.
+    NoHeading,
+}
+
+/// Something that looks planned and will not show, or shows otherwise than it is written.
+#[derive(Clone, Copy, Debug, PartialEq, Eq, PartialOrd, Ord)]
+pub struct Finding {
+    /// Where its line begins in the text, in bytes.
+    pub line_at: u32,
+    /// Where it begins in its line, in bytes.
+    pub place: usize,
+    /// How long it is, in bytes.
+    pub len: usize,
+    /// Its line, from 1.
+    pub line: u32,
+    /// What it is.
+    pub kind: Kind,
+    /// What stands in its way.
+    pub cause: Option<Cause>,
+}
+
+impl Finding {
+    /// Where it begins in the text, in bytes.
+    pub fn at(&self) -> usize {
+        self.place.saturating_add(self.line_at as usize)
+    }
+
+    /// The byte of the line with which it begins, from 1.
+    pub fn column(&self) -> usize {
+        self.place.saturating_add(1)
+    }
+
+    /// The line that the remedy names, from 1.
+    pub fn other_line(&self) -> Option<u32> {
+        match self.cause? {
+            Cause::Blank(line)
+            | Cause::Drawer(line)
+            | Cause::Planning(line)
+            | Cause::Text(line)
+            | Cause::Other(line) => Some(line),
+            Cause::NoHeading => None,
+        }
+    }
+
+    /// What the place looked like, where the finding says that it isn't read so.
+    pub fn mark(&self) -> Option<Mark>
+        ensures value { result ≡ mark_of self.now }
+    {
+        let look = self.kind.look()?;
+        Some(Mark {
+            line_at: self.line_at,
+            place: self.place,
+            look,
+        })
+    }
+}

@@ -1,0 +1,61 @@
+//! What looks planned in a file and will not show.
+//!
+//! A finding says where it stands, of what kind it is, and what stands in its way. A missed deadline is mostly no wrong sum
+//! but a line that looks like planning and isn't: these are such lines. Whatever looks planned and isn't read so has its
+//! finding, and beside these stand tests of what was read and counts for something else.
+#![tactic(auto)]
+
+mod beside_kinds;
+mod blocks;
+mod clean;
+mod clocks;
+mod day_names;
+mod draft;
+mod drawers;
+mod file;
+mod finding;
+mod findings;
+mod headings;
+mod here;
+mod kind;
+pub mod laws;
+mod line;
+mod look;
+mod looks;
+mod marks;
+mod notes;
+mod planning;
+mod properties;
+mod quotes;
+mod read_stamps;
+mod section;
+mod seen;
+mod select;
+mod sentence;
+mod settings;
+mod show;
+mod stamp_kind;
+mod stamps;
+mod table;
+mod unread;
+mod unread_kinds;
+mod unread_lines;
+
+pub use beside_kinds::BesideKind;
+pub use clean::CleanLine;
+pub use clocks::counts_nothing;
+pub use file::{About, checks};
+pub use finding::{Cause, Finding};
+pub use findings::Findings;
+pub use kind::{ALL_KINDS, Kind};
+pub use look::{Look, Mark};
+pub use looks::looks_like_stamp;
+pub use select::{Selection, kind_names, unknown_kind};
+pub use show::{Form, Wanted, finding_line, report};
+pub use table::Severity;
+pub use unread::next_look;
+pub use unread_kinds::{DrawerKind, MinutesKind, PlanningKind, StampKind};
+pub use unread_lines::{
+    counts_nothing_in, has_stamps, is_stray_drawer, is_stray_planning, is_unclosed_block,
+    is_unread_clock,
+};

@@ -1,0 +1,125 @@
+//! The findings of a line that explain its marks.
+ghost use Rattle.std.specs.Prelude.{◌≡◌, ◌+◌, ◌≤◌, length};
+ghost use Rattle.org_check.specs.Marks.{counts_nothing_in, indent, is_stray_drawer, is_stray_planning, is_unclosed_block, is_unread_clock, line_marks, mark_if};
+ghost use Rattle.org_check.specs.Said.{Says};
+ghost use Rattle.org_check.specs.declared.look.Look.TheVariants as look;
+
+use crate::clocks::minutes_kind;
+use crate::drawers::{look_ahead, stray_drawer};
+use crate::finding::Cause;
+use crate::findings::{Findings, Found};
+use crate::here::Here;
+use crate::kind::Kind;
+use crate::planning::stray_planning;
+use crate::seen::Seen;
+use crate::stamps::push_unread_stamps;
+use crate::unread_lines::{
+    counts_nothing_in, is_stray_drawer, is_stray_planning, is_unclosed_block, is_unread_clock,
+};
+use org_base::Fault;
+use org_base::words::trimmed;
+use org_cal::Minute;
+use org_stamp::leading_spaces;
+use org_text::Text;
+use std::alloc::AllocError;
+
+// What was found of a whole line, without the white space at its ends.
+fn whole_line(line: &[u8], kind: Kind, cause: Option<Cause>) -> Found
+    ensures kind { result.kind ≡ kind }
+    ensures place { result.place ≡ indent line.now }
+{
+    Found {
+        kind,
+        place: leading_spaces(line),
+        len: trimmed(line).len(),
+        cause,
+    }
+}
+
+// Puts a line that looks like a planning line and is none.
+fn push_planning(findings: &mut Findings, here: Here, line: &[u8]) -> Result<(), AllocError>
+    ensures said { Says result findings.old findings.new (mark_if (is_stray_planning here.class line.now) look.Planning here.at (indent line.now)) }
+{
+    if !is_stray_planning(here.class, line) {
+        return Ok(());
+    }
+    let kind = Kind::Planning(stray_planning(here, line));
+    findings.push(here, whole_line(line, kind, here.above.first))
+}
+
+// Puts a line that looks as if a property drawer began there, and none does.
+fn push_drawer<T: Text>(
+    text: &T,
+    here: Here,
+    line: &[u8],
+    seen: &mut Seen<'_>,
+    findings: &mut Findings,
+) -> Result<(), Fault>
+    requires within { here.rest.at + here.rest.len ≤ length (T.content text.now) }
+    ensures said { Says result findings.old findings.new (mark_if (is_stray_drawer here.class line.now) look.Drawer here.at (indent line.now)) }
+{
+    if !is_stray_drawer(here.class, line) {
+        return Ok(());
+    }
+    let ahead = look_ahead(seen.alloc, text, here, seen.ahead)?;
+    seen.ahead = Some(ahead);
+    let (kind, cause) = stray_drawer(here, ahead);
+    findings.push(here, whole_line(line, Kind::Drawer(kind), cause))?;
+    Ok(())
+}
+
+// Puts a line that looks as if a block began there, and none does.
+fn push_block(findings: &mut Findings, here: Here, line: &[u8]) -> Result<(), AllocError>
+    ensures said { Says result findings.old findings.new (mark_if (is_unclosed_block here.class line.now) look.Block here.at (indent line.now)) }
+{
+    if !is_unclosed_block(here.class, line) {
+        return Ok(());
+    }
+    findings.push(here, whole_line(line, Kind::UnclosedBlock, None))
+}
+
+// Puts a line that looks like a clock line and is none.
+fn push_clock(findings: &mut Findings, here: Here, line: &[u8]) -> Result<(), AllocError>
+    ensures said { Says result findings.old findings.new (mark_if (is_unread_clock here.class line.now) look.Clock here.at (indent line.now)) }
+{
+    if !is_unread_clock(here.class, line) {
+        return Ok(());
+    }
+    findings.push(here, whole_line(line, Kind::UnreadClock, None))
+}
+
+// Puts a clock that counts nothing.
+fn push_minutes(
+    findings: &mut Findings,
+    here: Here,
+    line: &[u8],
+    now: Option<Minute>,
+) -> Result<(), AllocError>
+    ensures said { Says result findings.old findings.new (mark_if (counts_nothing_in here.class line.now) look.Minutes here.at (indent line.now)) }
+{
+    if !counts_nothing_in(here.class, line) {
+        return Ok(());
+    }
+    let kind = Kind::Minutes(minutes_kind(line, now));
+    findings.push(here, whole_line(line, kind, None))
+}
+
+// Puts a finding for each mark of a line: for whatever looks planned in it and isn't read so.
+pub(crate) fn push_line_marks<T: Text>(
+    text: &T,
+    here: Here,
+    line: &[u8],
+    seen: &mut Seen<'_>,
+    findings: &mut Findings,
+) -> Result<(), Fault>
+    requires within { here.rest.at + here.rest.len ≤ length (T.content text.now) }
+    ensures said { Says result findings.old findings.new (line_marks here.class here.at line.now) }
+{
+    push_planning(findings, here, line)?;
+    push_drawer(text, here, line, seen, findings)?;
+    push_block(findings, here, line)?;
+    push_clock(findings, here, line)?;
+    push_minutes(findings, here, line, seen.about.now)?;
+    push_unread_stamps(findings, here, line)?;
+    Ok(())
+}

@@ -1,0 +1,121 @@
+//! Which findings are wanted.
+
+use crate::finding::Finding;
+use crate::kind::{ALL_KINDS, Kind};
+use crate::table::Severity;
+use std::alloc::{AllocError, Global};
+
+/// Which kinds of findings are wanted: the usual ones, all, or some, without others, and from a severity on.
+#[derive(Debug, Drop)]
+pub struct Selection {
+    only: Vec<Kind>,
+    without: Vec<Kind>,
+    all: bool,
+    least: Severity,
+}
+
+impl Selection {
+    /// The usual kinds.
+    pub fn new(alloc: Global) -> Selection {
+        Selection {
+            only: Vec::new(alloc),
+            without: Vec::new(alloc),
+            all: false,
+            least: Severity::Note,
+        }
+    }
+
+    /// All kinds in the place of the usual ones.
+    pub fn take_all(&mut self) {
+        self.all = true;
+    }
+
+    /// In the place of the usual ones those of these names, with commas between, and those that were taken so before. A
+    /// name that no kind has is left out: `unknown_kind` finds it.
+    pub fn take(&mut self, names: &str) -> Result<(), AllocError> {
+        add_named(&mut self.only, names)
+    }
+
+    /// Leaves out the kinds of these names, with commas between.
+    pub fn leave_out(&mut self, names: &str) -> Result<(), AllocError> {
+        add_named(&mut self.without, names)
+    }
+
+    /// Leaves out what is less severe.
+    pub fn set_least(&mut self, least: Severity) {
+        self.least = least;
+    }
+
+    /// Whether a kind is wanted.
+    pub fn has(&self, kind: Kind) -> bool {
+        kind.severity() >= self.least
+            && !holds(self.without.as_slice(), kind)
+            && self.is_taken(kind)
+    }
+
+    /// Whether one of the findings is wanted.
+    pub fn has_any(&self, findings: &[Finding]) -> bool {
+        for finding in findings {
+            if self.has(finding.kind) {
+                return true;
+            }
+        }
+        false
+    }
+
+    fn is_taken(&self, kind: Kind) -> bool {
+        if self.only.is_empty() {
+            self.all || kind.is_usual()
+        } else {
+            holds(self.only.as_slice(), kind)
+        }
+    }
+}
+
+fn holds(kinds: &[Kind], kind: Kind) -> bool {
+    for one in kinds {
+        if *one == kind {
+            return true;
+        }
+    }
+    false
+}
+
+// Puts the kinds of the names at the end that aren't there.
+fn add_named(kinds: &mut Vec<Kind>, names: &str) -> Result<(), AllocError> {
+    for name in names.split(',') {
+        if let Some(kind) = Kind::named(name) {
+            add(kinds, kind)?;
+        }
+    }
+    Ok(())
+}
+
+fn add(kinds: &mut Vec<Kind>, kind: Kind) -> Result<(), AllocError> {
+    if !holds(kinds.as_slice(), kind) {
+        kinds.push(kind)?;
+    }
+    Ok(())
+}
+
+/// The first of some names, with commas between, that no kind has.
+pub fn unknown_kind(names: &str) -> Option<&str> {
+    for name in names.split(',') {
+        if Kind::named(name).is_none() {
+            return Some(name);
+        }
+    }
+    None
+}
+
+/// The names of all kinds, with a comma and a space between, as a refusal of a name lists them.
+pub fn kind_names(alloc: Global) -> Result<String, AllocError> {
+    let mut names = String::new(alloc);
+    for kind in &ALL_KINDS {
+        if !names.is_empty() {
+            names.push_str(", ")?;
+        }
+        names.push_str(kind.name())?;
+    }
+    Ok(names)
+}

@@ -1,0 +1,71 @@
+//! What is said of a finding.
+
+use crate::draft::Draft;
+use crate::finding::{Cause, Finding};
+use std::alloc::AllocError;
+
+// The most bytes of a text that a sentence quotes.
+pub(crate) const LONGEST_QUOTE: usize = 80;
+
+// Puts a sentence at the end that says what is wrong and names the remedy. The bytes are those of the finding's place, of a
+// long one its front.
+pub(crate) fn push_sentence(
+    out: &mut Draft,
+    finding: &Finding,
+    bytes: &[u8],
+) -> Result<(), AllocError> {
+    let entry = finding.kind.entry();
+    if entry.quotes {
+        push_quote(out, bytes)?;
+        out.push_str(": ")?;
+    }
+    out.push_str(entry.sentence)?;
+    match finding.cause {
+        Some(cause) => push_cause(out, cause),
+        None => Ok(()),
+    }
+}
+
+// Puts a text, of a long one its front.
+fn push_quote(out: &mut Draft, text: &[u8]) -> Result<(), AllocError> {
+    if text.len() <= LONGEST_QUOTE {
+        return out.push(text);
+    }
+    let end = quote_end(text).min(text.len());
+    out.push(&text[..end])?;
+    out.push_str("...")
+}
+
+// Where the front of a long text ends that is shown: where no character is cut, if there is such a place.
+fn quote_end(text: &[u8]) -> usize {
+    for end in [LONGEST_QUOTE, LONGEST_QUOTE - 1, LONGEST_QUOTE - 2] {
+        if begins_character(text, end) {
+            return end;
+        }
+    }
+    LONGEST_QUOTE - 3
+}
+
+fn begins_character(text: &[u8], at: usize) -> bool {
+    match text.get(at) {
+        Some(byte) => *byte < 0x80 || *byte >= 0xC0,
+        None => true,
+    }
+}
+
+fn push_cause(out: &mut Draft, cause: Cause) -> Result<(), AllocError> {
+    match cause {
+        Cause::Blank(line) => push_line(out, "; line ", line, " is blank"),
+        Cause::Drawer(line) => push_line(out, "; a drawer begins in line ", line, ""),
+        Cause::Planning(line) => push_line(out, "; line ", line, " is the planning line"),
+        Cause::Text(line) => push_line(out, "; line ", line, " stands between"),
+        Cause::Other(line) => push_line(out, " (line ", line, ")"),
+        Cause::NoHeading => out.push_str("; no heading stands above"),
+    }
+}
+
+fn push_line(out: &mut Draft, before: &str, line: u32, after: &str) -> Result<(), AllocError> {
+    out.push_str(before)?;
+    out.push_number(u64::from(line))?;
+    out.push_str(after)
+}

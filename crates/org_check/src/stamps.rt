@@ -1,0 +1,108 @@
+//! Places of lines that look like stamps and are none.
+ghost use Rattle.std.specs.Prelude.{◌≡◌, ◌+◌, ◌≤◌, true, map, length, drop};
+ghost use Rattle.std.specs.List.{position_or_len};
+ghost use Rattle.org_stamp.specs.Stamp.{is_close};
+ghost use Rattle.org_check.specs.Looks.{looks_like_stamp};
+ghost use Rattle.org_check.specs.Marks.{has_stamps, mark_at, mark_if, stamp_marks};
+ghost use Rattle.org_check.specs.Said.{Says};
+ghost use Rattle.org_check.specs.UnreadStamps.{is_unread, unread_in};
+ghost use Rattle.org_check.specs.declared.look.Look.TheVariants.{Stamp};
+
+use crate::findings::{Findings, Found};
+use crate::here::Here;
+use crate::kind::Kind;
+use crate::quotes::Quotes;
+use crate::stamp_kind::{Candidate, unread_kind};
+use crate::unread::next_look;
+use crate::unread_kinds::StampKind;
+use crate::unread_lines::has_stamps;
+use org_base::words::trim_end;
+use org_stamp::{first_close, next_close, stamp_at};
+use std::alloc::AllocError;
+
+// Puts the places of a line at which stamps are looked for and that look like one and are none.
+pub(crate) fn push_unread_stamps(
+    findings: &mut Findings,
+    here: Here,
+    line: &[u8],
+) -> Result<(), AllocError>
+    ensures said { Says result findings.old findings.new (stamp_marks (has_stamps here.class) here.at line.now) }
+{
+    if has_stamps(here.class) {
+        push_unread(findings, here, line)
+    } else {
+        Ok(())
+    }
+}
+
+// The same of a line at which stamps are looked for.
+fn push_unread(findings: &mut Findings, here: Here, line: &[u8]) -> Result<(), AllocError>
+    ensures said { Says result findings.old findings.new (map (mark_at Stamp here.at) (unread_in line.now)) }
+{
+    let mut quotes = Quotes::new(here.class);
+    let mut close = first_close(line);
+    let mut from = 0;
+    while from < line.len() {
+        let Some(place) = next_look(line, from) else {
+            return Ok(());
+        };
+        close = next_close(line, place, close);
+        push_if_none(
+            findings,
+            here,
+            line,
+            Candidate { place, close },
+            &mut quotes,
+        )?;
+        from = place + 1;
+    }
+    Ok(())
+}
+
+// Puts what looks like a stamp, if it is none.
+fn push_if_none(
+    findings: &mut Findings,
+    here: Here,
+    line: &[u8],
+    candidate: Candidate,
+    quotes: &mut Quotes,
+) -> Result<(), AllocError>
+    requires within { candidate.place ≤ length line.now }
+    requires close { candidate.close ≡ candidate.place + position_or_len is_close (drop candidate.place line.now) }
+    requires looks { looks_like_stamp (drop candidate.place line.now) ≡ true }
+    ensures said { Says result findings.old findings.new (mark_if (is_unread (drop candidate.place line.now)) Stamp here.at candidate.place) }
+{
+    let Candidate { place, close } = candidate;
+    if stamp_at(line, place, close).is_some() {
+        return Ok(());
+    }
+    let found = Found {
+        kind: Kind::Stamp(kind_at(line, candidate, quotes)),
+        place,
+        len: shown_len(line, candidate),
+        cause: None,
+    };
+    findings.push(here, found)
+}
+
+// How much of a text is shown that looks like a stamp: up to the next closing bracket, or to the end of the line.
+fn shown_len(line: &[u8], candidate: Candidate) -> usize {
+    let Candidate { place, close } = candidate;
+    if close < line.len() {
+        close.saturating_sub(place).saturating_add(1)
+    } else {
+        trim_end(line).len().saturating_sub(place)
+    }
+}
+
+// Why what looks like a stamp is none.
+fn kind_at(line: &[u8], candidate: Candidate, quotes: &mut Quotes) -> StampKind {
+    let place = candidate.place;
+    if quotes.holds(line, place) {
+        return StampKind::QuotedStamp;
+    }
+    match line.get(place) {
+        Some(b'[') if !quotes.whole(line).counts_inactive => StampKind::UnreadInactiveStamp,
+        _ => unread_kind(line, candidate),
+    }
+}

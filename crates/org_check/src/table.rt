@@ -1,0 +1,92 @@
+//! What is said of a kind of findings.
+
+/// How much a finding matters.
+#[derive(Clone, Copy, Debug, PartialEq, Eq, PartialOrd, Ord)]
+pub enum Severity {
+    /// It is rarely meant so.
+    Note,
+    /// It shows otherwise than it is written, or it is a guess that something else was meant.
+    Warning,
+    /// What is written there isn't read, or counts nothing.
+    Error,
+}
+
+impl Severity {
+    /// Its name, as compilers write it.
+    pub fn name(self) -> &'static str {
+        match self {
+            Severity::Note => "note",
+            Severity::Warning => "warning",
+            Severity::Error => "error",
+        }
+    }
+
+    /// The severity of this name.
+    pub fn named(name: &str) -> Option<Severity> {
+        let all = [Severity::Note, Severity::Warning, Severity::Error];
+        for severity in all {
+            if severity.name() == name {
+                return Some(severity);
+            }
+        }
+        None
+    }
+}
+
+// What is said of a kind.
+#[derive(Clone, Copy)]
+pub(crate) struct Entry {
+    // The name under which it is asked for and left out.
+    pub name: &'static str,
+    pub severity: Severity,
+    // Whether it is looked for where nothing is said of kinds.
+    pub is_usual: bool,
+    // Whether its sentence begins with the text that it is about.
+    pub quotes: bool,
+    // What is wrong, and the remedy.
+    pub sentence: &'static str,
+}
+
+impl Entry {
+    pub(crate) fn error(name: &'static str, sentence: &'static str) -> Entry {
+        Entry {
+            name,
+            severity: Severity::Error,
+            is_usual: true,
+            quotes: false,
+            sentence,
+        }
+    }
+
+    pub(crate) fn warning(name: &'static str, sentence: &'static str) -> Entry {
+        let entry = Entry::error(name, sentence);
+        Entry {
+            severity: Severity::Warning,
+            ..entry
+        }
+    }
+
+    pub(crate) fn note(name: &'static str, sentence: &'static str) -> Entry {
+        let entry = Entry::error(name, sentence);
+        Entry {
+            severity: Severity::Note,
+            ..entry
+        }
+    }
+
+    // The same, not looked for where nothing is said of kinds.
+    pub(crate) fn rare(self) -> Entry {
+        Entry {
+            is_usual: false,
+            ..self
+        }
+    }
+
+    // The same, with the text that it is about in front of the sentence.
+    pub(crate) fn quoting(self) -> Entry {
+        Entry {
+            quotes: true,
+            ..self
+        }
+    }
+}
