@@ -1,13 +1,16 @@
 -- What findings say of marks, one by one.
-use Rattle.std.proofs.Common.{◌≡◌, ◌⊎◌, ℕ, zero, suc, ◌+◌, ◌<◌, ◌≤◌, inl, inr, List, [], ◌∷◌, ◌++◌, map, length, drop, refl, sym, ap, ◌∙◌, subst, arith, append_assoc, append-nil}
+use Rattle.std.proofs.Common.{◌≡◌, ◌⊎◌, ℕ, zero, suc, ◌+◌, ◌-◌, ◌<◌, ◌≤◌, inl, inr, List, [], ◌∷◌, ◌++◌, map, length, drop, refl, sym, ap, ◌∙◌, subst, arith, append_assoc, append-nil}
 use Rattle.std.specs.Cow.{cow_slice_items}
 use Rattle.std.specs.Prelude.{◌↔◌, Option, Some, None, Contains, slice_get, slice_index_or}
+use Rattle.std.specs.List.{position_or_len}
 use Rattle.std.specs.List.Sorted.{IsPermutation}
 use Rattle.std.proofs.lemmas.Bool.{cases_Bool}
 use Rattle.std.proofs.lemmas.List.Sorted.{Contains-permutation, IsPermutation-sym}
 use Rattle.org_class.specs.declared.class.Class.{Class}
 use Rattle.org_lines.specs.Cuts.{Cut}
 use Rattle.org_lines.specs.declared.lines.Line.{Line}
+use Rattle.org_stamp.specs.Stamp.{is_close}
+use Rattle.org_stamp.proofs.LineLemmas.{close_later}
 use Rattle.org_check.specs.Marked.{IsMarkOf}
 use Rattle.org_check.specs.Marks.{cut_marks, mark_at, mark_if, marks_if, marks_in_line}
 use Rattle.org_check.specs.Said.{AreSaid, mark_of, option_list, said}
@@ -139,3 +142,10 @@ stamps_end done all at from line none so_far =
 
 pub stamps_past : (done all : List Mark) (at from : ℕ) (line : List ℕ) → length line ≤ from → done ++ map (mark_at look.Stamp at) (unread_from (drop from line) from) ≡ all → done ≡ all
 stamps_past done all at from line past so_far = stamps_end done all at from line (none_left line from past) so_far
+
+-- a closing bracket that is known from one place on is known from a later place on
+pub close_from : (line : List ℕ) (from place close : ℕ) → from ≤ place → (from ≤ close → close ≡ from + position_or_len is_close (drop from line)) → place ≤ close → close ≡ place + position_or_len is_close (drop place line)
+close_from line from place close le known far =
+    let k = place - from in
+    let same : from + k ≡ place = omega (arith, le) in
+    subst (λ (p : ℕ). close ≡ p + position_or_len is_close (drop p line)) same (close_later line from k close (known (omega (arith, le, far))) (omega (arith, same, far)))
