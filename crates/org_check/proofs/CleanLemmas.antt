@@ -1,5 +1,5 @@
 -- What is shown of bytes has no control character.
-use Rattle.std.proofs.Common.{◌≡◌, ℕ, inl, inr, List, [], ◌∷◌, ◌++◌, refl, sym, ap, ◌∙◌, append_assoc}
+use Rattle.std.proofs.Common.{◌≡◌, ℕ, inl, inr, List, [], ◌∷◌, ◌++◌, refl, ap, ◌∙◌, append_assoc}
 use Rattle.std.specs.Prelude.{Bool, true, false, ◌||◌, ◌==◌, slice_index}
 use Rattle.std.proofs.lemmas.Bool.{cases_Bool}
 use Rattle.org_check.specs.Clean.{IsClean, clean_byte, cleaned, cleaned_after, ends_control, is_clean_after, is_control}
@@ -13,7 +13,7 @@ masked : (before : ℕ) (bs : List ℕ) → is_clean_after 63 bs ≡ true → (i
 masked before bs later =
     elim (cases_Bool (before == 194)) [
       | inl is ↦ (rw is later, later)
-      | inr no ↦ (rw no later, later)
+      | inr isnt ↦ (rw isnt later, later)
     ]
 
 kept : (before b : ℕ) (bs : List ℕ) → is_control b ≡ false → ends_control before b ≡ false → is_clean_after b bs ≡ true → (is_clean_after before (b ∷ bs) ≡ true) × (is_clean_after 63 (b ∷ bs) ≡ true)
@@ -26,10 +26,10 @@ shown before (b ∷ bs) =
     let later = shown b bs in
     elim (cases_Bool (is_control b || (ends_control before b || ends_control b (slice_index bs 0)))) [
       | inl is ↦ rw is (masked before (cleaned_after b bs) later.1)
-      | inr no ↦
-          let parts = neither (is_control b) (ends_control before b || ends_control b (slice_index bs 0)) no in
+      | inr isnt ↦
+          let parts = neither (is_control b) (ends_control before b || ends_control b (slice_index bs 0)) isnt in
           let ends = neither (ends_control before b) (ends_control b (slice_index bs 0)) parts.1 in
-          rw no (kept before b (cleaned_after b bs) parts.0 ends.0 later.0)
+          rw isnt (kept before b (cleaned_after b bs) parts.0 ends.0 later.0)
     ]
 
 pub clean_all : (bytes : List ℕ) → IsClean (cleaned bytes)

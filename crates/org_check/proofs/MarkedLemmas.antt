@@ -1,11 +1,7 @@
 -- Marks among marks.
-use Rattle.std.proofs.Common.{◌≡◌, ◌≢◌, ◌⊎◌, ℕ, zero, suc, inl, inr, List, [], ◌∷◌, ◌++◌, map, length, refl, sym, ap, ◌∙◌, subst, arith}
-use Rattle.std.specs.Prelude.{Bool, true, false, ◌&&◌, not, ◌==◌, Option, Some, None, codes, nat_eq, is_some}
-use Rattle.std.specs.List.{starts_with}
+use Rattle.std.proofs.Common.{◌≡◌, ◌≢◌, ◌⊎◌, ℕ, inl, inr, List, [], ◌∷◌, ◌++◌, map, length, refl, sym, ap, ◌∙◌, subst, arith}
+use Rattle.std.specs.Prelude.{Bool, true, false, not, ◌==◌, Option, Some, None}
 use Rattle.std.proofs.lemmas.Bool.{and_parts, and_from, ne_eqb}
-use Rattle.org_stamp.specs.Pair.{past_spaces, word_at}
-use Rattle.org_class.specs.Blocks.{block_name}
-use Rattle.org_class.specs.Drawers.{is_drawer_open}
 use Rattle.org_class.specs.declared.class.Class.{Class}
 use Rattle.org_class.specs.declared.class.Class.TheVariants as class
 use Rattle.org_drawer.specs.Clock.{clock_of}
@@ -14,9 +10,9 @@ use Rattle.org_lines.specs.Cuts.{Cut}
 use Rattle.org_check.specs.declared.look.Look.{Look}
 use Rattle.org_check.specs.declared.look.Look.TheVariants as look
 use Rattle.org_check.specs.declared.look.Mark.{Mark}
-use Rattle.org_check.specs.Marks.{counts_nothing_in, cut_marks, has_stamps, indent, is_clock_class, is_nothing, is_stray_drawer, is_stray_planning, is_text, is_unclosed_block, is_unread_clock, line_marks, mark_at, mark_if, stamp_marks}
+use Rattle.org_check.specs.Marks.{counts_nothing_in, cut_marks, has_stamps, indent, is_clock_class, is_nothing, is_stray_drawer, is_stray_planning, is_unclosed_block, is_unread_clock, line_marks, mark_at, mark_if, stamp_marks}
 use Rattle.org_check.specs.Marked.{CountsNothing, IsLineOf, IsMarkOf, IsOfLine, LooksLost}
-use Rattle.org_check.specs.UnreadStamps.{IsAmong, LooksLikeStampAndIsNone, unread_in}
+use Rattle.org_check.specs.UnreadStamps.{IsAmong, unread_in}
 use Rattle.org_check.proofs.ClockLemmas.{these_count_nothing}
 use Rattle.org_check.proofs.UnreadLemmas.{unread_are_found}
 
@@ -71,8 +67,18 @@ is_named (b ∷ bs) is = λ e. absurd (cc)
 
 -- a clock of a line that counts nothing in any period
 is_clock : (c : Class) → is_clock_class c ≡ true → c ≡ class.Clock
+is_clock class.Heading is = absurd (let never : false ≡ true = is in cc)
+is_clock class.Planning is = absurd (let never : false ≡ true = is in cc)
+is_clock class.DrawerOpen is = absurd (let never : false ≡ true = is in cc)
+is_clock class.Node is = absurd (let never : false ≡ true = is in cc)
+is_clock class.DrawerEnd is = absurd (let never : false ≡ true = is in cc)
 is_clock class.Clock is = refl
-is_clock c is = cc
+is_clock class.Setting is = absurd (let never : false ≡ true = is in cc)
+is_clock class.Comment is = absurd (let never : false ≡ true = is in cc)
+is_clock class.BlockOpen is = absurd (let never : false ≡ true = is in cc)
+is_clock class.Verbatim is = absurd (let never : false ≡ true = is in cc)
+is_clock class.BlockEnd is = absurd (let never : false ≡ true = is in cc)
+is_clock class.Plain is = absurd (let never : false ≡ true = is in cc)
 
 counted : (line : List ℕ) (o : Option ClockLine) → clock_of line ≡ o → is_nothing o ≡ true → CountsNothing line
 counted line None read is = absurd (let never : false ≡ true = is in cc)

@@ -1,7 +1,7 @@
 -- What findings say of marks, one by one.
 use Rattle.std.proofs.Common.{◌≡◌, ◌⊎◌, ℕ, zero, suc, ◌+◌, ◌-◌, ◌<◌, ◌≤◌, inl, inr, List, [], ◌∷◌, ◌++◌, map, length, drop, refl, sym, ap, ◌∙◌, subst, arith, append_assoc, append-nil}
 use Rattle.std.specs.Cow.{cow_slice_items}
-use Rattle.std.specs.Prelude.{◌↔◌, Option, Some, None, Contains, slice_get, slice_index_or}
+use Rattle.std.specs.Prelude.{Option, Some, None, Contains, slice_get, slice_index_or}
 use Rattle.std.specs.List.{position_or_len}
 use Rattle.std.specs.List.Sorted.{IsPermutation}
 use Rattle.std.proofs.lemmas.Bool.{cases_Bool}
@@ -82,10 +82,11 @@ moved m xs ys same has =
     let there = Contains-permutation xs ys found.0 same found.1 in
     explains m ys found.0 there.0 there.1 there.2 found.2
 
--- findings in another order explain the same marks
-pub said_in_order : (marks : List Mark) (fs gs : List Finding) → said fs ≡ marks → IsPermutation fs gs → AreSaid marks gs
-said_in_order marks fs gs is same =
-    λ m. ((λ has. moved m fs gs same (subst (IsMarkOf m) (sym is) has)), (λ has. subst (IsMarkOf m) is (moved m gs fs (IsPermutation-sym fs gs same) has)))
+-- findings that explain just some marks explain them in any order
+pub said_in_order : (marks : List Mark) (start fs gs : List Finding) → start ≡ [] → said fs ≡ said start ++ marks → IsPermutation fs gs → AreSaid marks gs
+said_in_order marks start fs gs empty is same =
+    let all : said fs ≡ marks = is ∙ ap (λ x. said x ++ marks) empty in
+    λ m. ((λ has. moved m fs gs same (subst (IsMarkOf m) (sym all) has)), (λ has. subst (IsMarkOf m) all (moved m gs fs (IsPermutation-sym fs gs same) has)))
 
 no_classes : (ls : List Cut) → cut_marks ls [] ≡ []
 no_classes [] = refl
@@ -128,9 +129,9 @@ stamp_step done new all at from p line lt pushed skipped so_far =
           ∙ ap (λ x. done ++ map (mark_at look.Stamp at) x) (sym (one_here line p lt is))
           ∙ ap (λ x. done ++ map (mark_at look.Stamp at) x) (sym skipped)
           ∙ so_far
-      | inr no ↦
-          ap (λ x. x ++ later) (pushed ∙ ap (λ t. done ++ mark_if t look.Stamp at p) no ∙ append-nil done)
-          ∙ ap (λ x. done ++ map (mark_at look.Stamp at) x) (sym (none_here line p lt no))
+      | inr isnt ↦
+          ap (λ x. x ++ later) (pushed ∙ ap (λ t. done ++ mark_if t look.Stamp at p) isnt ∙ append-nil done)
+          ∙ ap (λ x. done ++ map (mark_at look.Stamp at) x) (sym (none_here line p lt isnt))
           ∙ ap (λ x. done ++ map (mark_at look.Stamp at) x) (sym skipped)
           ∙ so_far
     ]

@@ -1,13 +1,12 @@
 -- Places that look like a stamp and are none, step by step.
-use Rattle.std.proofs.Common.{◌≡◌, ◌⊎◌, ℕ, zero, suc, ◌+◌, ◌-◌, ◌<◌, ◌≤◌, inl, inr, List, [], ◌∷◌, ◌++◌, length, take, drop, get_or, refl, sym, ◌∙◌, ap, subst, arith}
+use Rattle.std.proofs.Common.{◌≡◌, ◌⊎◌, ℕ, zero, suc, ◌+◌, ◌<◌, ◌≤◌, inl, inr, List, [], ◌∷◌, ◌++◌, length, take, drop, get_or, refl, sym, ◌∙◌, ap, subst, arith}
 use Rattle.std.proofs.Math.Seq.{drop-cons}
-use Rattle.std.specs.Prelude.{◌↔◌, Option, Some, None, Bool, true, false, ◌&&◌, if◌then◌else◌, is_none, IsSomeAnd}
+use Rattle.std.specs.Prelude.{◌↔◌, Option, Some, None, Bool, true, false, if◌then◌else◌, is_none, IsSomeAnd}
 use Rattle.std.proofs.lemmas.Bool.{cases_Bool, and_parts, and_from, false_from_ne_true}
 use Rattle.std.proofs.lemmas.List.Sums.{position_or_len_is}
 use Rattle.memchr.specs.Find.{NoneBefore, Nowhere, Passes, is_byte2}
 use Rattle.std.proofs.lemmas.List.{drop-drop, drop_all, take-append-drop}
 use Rattle.org_stamp.specs.Read.{stamp_of}
-use Rattle.org_stamp.specs.Stamp.{IsStamp}
 use Rattle.org_stamp.specs.declared.stamp.Stamp.{Stamp}
 use Rattle.org_stamp.proofs.ReadLemmas.{stamp_found, stamp_longest}
 use Rattle.std.specs.List.{position_or_len}
@@ -89,7 +88,7 @@ skip_to_open line at place is =
 
 -- what doesn't look like a stamp isn't unread
 pub no_look : (bytes : List ℕ) → looks_like_stamp bytes ≡ false → is_unread bytes ≡ false
-no_look bytes no = rw no refl
+no_look bytes isnt = rw isnt refl
 
 -- a place so far from the first byte at which an unread text stands
 abbrev FoundFrom : List ℕ → ℕ → ℕ → Type 0

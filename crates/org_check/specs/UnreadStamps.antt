@@ -1,5 +1,5 @@
 -- Places of a line that look like a stamp and are none (Org manual 9.6, "Timestamps"; what looks so: profile).
-use Rattle.std.specs.Prelude.{◌≡◌, ◌↔◌, ◌⊎◌, ℕ, ◌+◌, ◌≤◌, ◌<◌, Bool, true, false, ◌&&◌, if◌then◌else◌, List, [], ◌∷◌, ◌++◌, length, drop, Option, Some, None, MatchOption, is_none}
+use Rattle.std.specs.Prelude.{◌≡◌, ◌↔◌, ◌⊎◌, ℕ, ◌+◌, ◌≤◌, ◌<◌, Bool, true, ◌&&◌, if◌then◌else◌, List, [], ◌∷◌, ◌++◌, length, drop, Option, MatchOption, is_none}
 use Rattle.org_stamp.specs.Read.{stamp_of}
 use Rattle.org_stamp.specs.Stamp.{IsStamp}
 use Rattle.org_stamp.specs.declared.stamp.Stamp.{Stamp}

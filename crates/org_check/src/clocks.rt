@@ -41,20 +41,10 @@ impl Clocks {
 
     // Keeps the clock of a clock line, if it ends after it begins.
     pub(crate) fn push(&mut self, here: Here, line: &[u8]) -> Result<(), AllocError> {
-        let Some(ClockLine { from, to: Some(to) }) = read_clock(line) else {
+        let Some(clock) = closed_clock(here, line) else {
             return Ok(());
         };
-        if to.number() <= from.number() {
-            return Ok(());
-        }
-        self.list.push(Closed {
-            from: from.number(),
-            to: to.number(),
-            line_at: here.at,
-            place: leading_spaces(line),
-            len: trimmed(line).len(),
-            line: here.number,
-        })?;
+        self.list.push(clock)?;
         Ok(())
     }
 
@@ -74,6 +64,24 @@ impl Clocks {
         }
         Ok(())
     }
+}
+
+// The clock of a clock line, if it ends after it begins.
+fn closed_clock(here: Here, line: &[u8]) -> Option<Closed> {
+    let clock = read_clock(line)?;
+    let to = clock.to?.number();
+    let from = clock.from.number();
+    if to <= from {
+        return None;
+    }
+    Some(Closed {
+        from,
+        to,
+        line_at: here.at,
+        place: leading_spaces(line),
+        len: trimmed(line).len(),
+        line: here.number,
+    })
 }
 
 fn overlap(clock: Closed, other: u32) -> Note {

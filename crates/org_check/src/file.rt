@@ -29,11 +29,11 @@ pub struct About<'a> {
 /// What looks planned in a text and will not show, or shows otherwise than it is written, in the order of the places. Each
 /// place and line that looks planned and isn't read so has its finding, and each finding of such a kind is of one. The meter
 /// counts one classified section for each section. Want of memory is the only refusal.
-pub fn checks<T: Text>(
+pub fn checks<'a, T: Text>(
     alloc: Global,
     meter: &mut Meter,
     text: &T,
-    about: &About<'_>,
+    about: &'a About<'a>,
 ) -> Result<Findings, Fault>
     ensures marks { IfOk result (MarksAreSaid (T.run_len text.now) (T.content text.now)) }
 {
@@ -44,11 +44,11 @@ pub fn checks<T: Text>(
 }
 
 // Puts the findings of a text, its marks in their order, then all else.
-fn check_text<T: Text>(
+fn check_text<'a, T: Text>(
     alloc: Global,
     meter: &mut Meter,
     text: &T,
-    about: &About<'_>,
+    about: &'a About<'a>,
     findings: &mut Findings,
 ) -> Result<(), Fault>
     ensures said { Says result findings.old findings.new (text_marks (T.run_len text.now) (T.content text.now)) }

@@ -46,7 +46,7 @@ pub(crate) fn check_line(seen: &mut Seen<'_>, here: Here, line: &[u8]) -> Result
 
 fn check_heading(seen: &mut Seen<'_>, here: Here, line: &[u8]) -> Result<bool, Fault> {
     push_heading_planning(&mut seen.notes, here, line)?;
-    push_heading(seen.alloc, &mut seen.notes, &seen.about, here, line)
+    push_heading(seen.alloc, &mut seen.notes, seen.about, here, line)
 }
 
 fn check_clock(seen: &mut Seen<'_>, here: Here, line: &[u8]) -> Result<(), Fault> {

@@ -12,7 +12,7 @@ use std::alloc::{AllocError, Global};
 #[derive(Drop)]
 pub(crate) struct Seen<'a> {
     pub alloc: Global,
-    pub about: About<'a>,
+    pub about: &'a About<'a>,
     // What was found that explains no mark.
     pub notes: Notes,
     // The clocks that count.
@@ -33,10 +33,10 @@ pub(crate) struct Seen<'a> {
 
 impl<'a> Seen<'a> {
     // Nothing was seen yet.
-    pub(crate) fn new(alloc: Global, about: &About<'a>) -> Seen<'a> {
+    pub(crate) fn new(alloc: Global, about: &'a About<'a>) -> Seen<'a> {
         Seen {
             alloc,
-            about: *about,
+            about,
             notes: Notes::new(alloc),
             clocks: Clocks::new(alloc),
             lines: 0,

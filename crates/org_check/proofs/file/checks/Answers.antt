@@ -1,8 +1,6 @@
 -- Findings in another order explain the same marks.
-use Rattle.std.proofs.Common.{arith}
-use Rattle.org_check.specs.Said.{said}
 use Rattle.org_check.proofs.SaidLemmas.{said_in_order}
 use Rattle.org_check.proofs.file.checks.Goals as goal
 
 pub returns : goal.returns
-returns g c = record { marks = said_in_order _ _ _ c.in_ok-check_text.ensures.said c.in_ok-sort.ensures.same }
+returns g c = record { marks = said_in_order _ _ _ _ c.new-findings.ensures.value c.in_ok-check_text.ensures.said c.in_ok-sort.ensures.same }

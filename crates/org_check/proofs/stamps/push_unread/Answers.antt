@@ -9,9 +9,6 @@ pub next_close-close-requires-clause-known : goal.next_close-close-requires-clau
 next_close-close-requires-clause-known c =
     λ le. close_from c.args.line.now c.loop-from.from c.in-Some.place c.loop-from.close c.in-Some.ensures.value.from c.loop-from.invariant.close_is le
 
-pub returns-in-None : goal.returns-in-None
-returns-in-None c = record { said = stamps_end (said c.loop-from.findings) _ c.args.here.at c.loop-from.from c.args.line.now c.in-None.ensures.value c.loop-from.invariant.all }
-
 pub loop-from-preserved : goal.loop-from-preserved
 loop-from-preserved c = record {
   within = omega (arith, c.in-Some.ensures.value.within);
@@ -21,3 +18,6 @@ loop-from-preserved c = record {
 
 pub returns : goal.returns
 returns c = record { said = stamps_past (said c.loop-from.findings) _ c.args.here.at c.loop-from.from c.args.line.now (omega arith) c.loop-from.invariant.all }
+
+pub returns-in_default : goal.returns-in_default
+returns-in_default c = record { said = stamps_end (said c.loop-from.findings) _ c.args.here.at c.loop-from.from c.args.line.now c.in_default.ensures.value c.loop-from.invariant.all }

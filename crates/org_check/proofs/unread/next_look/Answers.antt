@@ -1,4 +1,4 @@
-use Rattle.std.proofs.Common.{◌∙◌, sym, arith}
+use Rattle.std.proofs.Common.{◌∙◌, ◌+◌, drop, sym, arith}
 use Rattle.org_check.proofs.UnreadLemmas.{no_look, none_here, none_left, skip_to_open}
 use Rattle.org_check.proofs.unread.next_look.Goals as goal
 
@@ -25,7 +25,7 @@ loop-place-preserved c = record {
   within = c.next_open-place-in-loop-place.ensures.within;
   left =
       c.loop-place.invariant.left
-      ∙ none_here c.args.line.now c.loop-place.place (omega arith) (no_look _ (sym c.looks_at.ensures.value ∙ c.if-looks_at.false))
+      ∙ none_here c.args.line.now c.loop-place.place (omega arith) (no_look (drop c.loop-place.place c.args.line.now) (sym c.looks_at.ensures.value ∙ c.if-looks_at.false))
       ∙ skip_to_open c.args.line.now (c.loop-place.place + 1) c.next_open-place-in-loop-place.result c.next_open-place-in-loop-place.ensures.value;
 }
 
