@@ -24,7 +24,7 @@ sys.dont_write_bytecode = True
 TICKS = os.sysconf("SC_CLK_TCK")
 PAGE = os.sysconf("SC_PAGE_SIZE")
 # The most memory that a check with one job has been seen to take: docs/new-code.md says which, and how it was measured.
-MOST = 4_200_000_000
+MOST = 5_800_000_000
 KINDS = ("proofs", "edits", "tests", "builds")
 LINE = rf"\w+ ({'|'.join(KINDS)}) [0-9.]+ [0-9]+"
 
