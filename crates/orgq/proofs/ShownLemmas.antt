@@ -6,9 +6,9 @@ use Rattle.org_rows.specs.Visible.{visible}
 use Rattle.org_rows.specs.declared.visible.Escape.TheVariants.{Caret}
 use Rattle.org_rows.proofs.CleanLemmas.{clean_append, clean_byte, clean_front, visible_is_clean}
 use Rattle.org_rows.proofs.JsonLemmas.{decimal_clean}
-use Rattle.orgq.specs.Shown.{AddsClean, AreCleanLines, one_more, IsCleanLine, IsColor, color, color_of, number_text, shown_line, shown_text}
+use Rattle.orgq.specs.Shown.{AddsClean, AreCleanLines, no_line, one_more, IsCleanLine, IsColor, color, color_of, number_text, shown_line, shown_text}
 use Rattle.orgq.specs.declared.show.Look.{Look}
-use Rattle.orgq.specs.declared.view.Line.{Line}
+use Rattle.org_layout.specs.declared.shown.Line.{Line}
 
 ours : (look : Look) (line : Line) → IsColor (color look line)
 ours look line = by look.is_colored
@@ -31,6 +31,9 @@ fronted look line front text is_seen on clean = record {
   clean_text = visible_is_clean Caret text;
   made = ap (λ t. front ++ shown_line (color look line) t text) on;
 }
+
+pub no_lines : AreCleanLines []
+no_lines = no_line
 
 pub keeps_text : (look : Look) (line : Line) (text old new : List ℕ) → look.is_seen ≡ true → new ≡ old ++ shown_line (color look line) look.is_seen text → AreCleanLines old → AreCleanLines new
 keeps_text look line text old new on added = more old (shown_line (color look line) look.is_seen text) new (fronted look line [] text look.is_seen on refl) added

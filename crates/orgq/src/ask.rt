@@ -125,10 +125,18 @@ pub fn check(alloc: Global, question: &Question<'_, '_>) -> Result<(), Fault> {
             let _ = read_expression(alloc, expression)?;
         }
         Asked::Clock(options, _) => {
-            let _ = read_options(alloc, options.as_str(), question.moment)?;
+            check_options(alloc, options.as_str(), question.moment.day)?;
         }
         Asked::Agenda(_) | Asked::Todo(_) | Asked::Next(..) => {}
     }
+    Ok(())
+}
+
+fn check_options(alloc: Global, options: &str, today: Day) -> Result<(), Fault> {
+    if options.len() > LONGEST {
+        return Err(Fault::Plain(Code::Long));
+    }
+    let _ = TableSpec::read(alloc, options, today)?;
     Ok(())
 }
 
@@ -137,13 +145,6 @@ fn read_expression(alloc: Global, expression: &str) -> Result<Match, Fault> {
         return Err(Fault::Plain(Code::Long));
     }
     Match::read(alloc, expression)
-}
-
-fn read_options(alloc: Global, options: &str, now: Moment) -> Result<TableSpec<'_>, Fault> {
-    if options.len() > LONGEST {
-        return Err(Fault::Plain(Code::Long));
-    }
-    TableSpec::read(alloc, options, now.day)
 }
 
 /// The answer over files that were read.
@@ -191,6 +192,9 @@ fn clock(
 ) -> Result<Answer, Fault>
     requires read { AreRead inherits.now }
 {
-    let spec = read_options(alloc, options, now)?;
+    if options.len() > LONGEST {
+        return Err(Fault::Plain(Code::Long));
+    }
+    let spec = TableSpec::read(alloc, options, now.day)?;
     clock_table(alloc, inherits, &spec, now)
 }

@@ -1,6 +1,6 @@
 //! The moment at which is asked.
 
-use crate::environment::variable;
+use crate::environment::{Variable, value_of};
 use crate::files::{LeftOut, read_whole};
 use crate::problem::Problem;
 use jiff::tz::{SystemTimeZone, TimeZoneDatabase};
@@ -43,12 +43,12 @@ impl From<Error> for Problem {
 // zone, the system's reading of `TZ` stands.
 fn named_zone<R: AllocGlobal + Files + Env>(rt: &R) -> Result<TimeZoneDatabase, Problem> {
     let mut zones = TimeZoneDatabase::new(rt.alloc());
-    let Some(name) = variable(rt, "TZ", "TZ isn't UTF-8")? else {
+    let Some(name) = value_of(rt, Variable::Zone)? else {
         return Ok(zones);
     };
     let name = name.as_str().trim_start_matches(':');
     if name.split('/').any(|part| part == "..") {
-        return Err(Problem::Environment("TZ leads out of the folder of time zones"));
+        return Err(Problem::Zone);
     }
     if let Some(bytes) = zone_bytes(rt, name)? {
         if let Err(Error::OutOfMemory) = zones.insert(name, bytes.as_slice()) {
@@ -63,7 +63,7 @@ fn zone_bytes<R: AllocGlobal + Files + Env>(
     rt: &R,
     name: &str,
 ) -> Result<Option<Vec<u8>>, Problem> {
-    let path = match variable(rt, "TZDIR", "TZDIR isn't UTF-8")? {
+    let path = match value_of(rt, Variable::Zones)? {
         Some(folder) if !folder.as_str().is_empty() => format!(in rt.alloc(); "{folder}/{name}")?,
         _ => format!(in rt.alloc(); "/usr/share/zoneinfo/{name}")?,
     };

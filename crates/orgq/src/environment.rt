@@ -6,16 +6,54 @@ use std::env;
 use std::env::VarError;
 use std::rt::Env;
 
-/// What a variable of the environment says; none where it isn't set. The sentence is what is said where it isn't UTF-8.
-pub fn variable<R: AllocGlobal + Env>(
+/// A variable that is looked at.
+#[derive(Clone, Copy, Debug)]
+pub enum Variable {
+    Colors,
+    Config,
+    Files,
+    Home,
+    Terminal,
+    Zone,
+    Zones,
+}
+
+impl Variable {
+    fn name(self) -> &'static str {
+        match self {
+            Variable::Colors => "NO_COLOR",
+            Variable::Config => "XDG_CONFIG_HOME",
+            Variable::Files => "ORGQ_FILES",
+            Variable::Home => "HOME",
+            Variable::Terminal => "TERM",
+            Variable::Zone => "TZ",
+            Variable::Zones => "TZDIR",
+        }
+    }
+
+    /// What is said where it isn't UTF-8.
+    pub fn why(self) -> &'static str {
+        match self {
+            Variable::Colors => "NO_COLOR isn't UTF-8",
+            Variable::Config => "XDG_CONFIG_HOME isn't UTF-8",
+            Variable::Files => "ORGQ_FILES isn't UTF-8",
+            Variable::Home => "HOME isn't UTF-8",
+            Variable::Terminal => "TERM isn't UTF-8",
+            Variable::Zone => "TZ isn't UTF-8",
+            Variable::Zones => "TZDIR isn't UTF-8",
+        }
+    }
+}
+
+/// What a variable says; none where it isn't set.
+pub fn value_of<R: AllocGlobal + Env>(
     rt: &R,
-    name: &str,
-    why: &'static str,
+    variable: Variable,
 ) -> Result<Option<String>, Problem> {
-    match env::var(rt, name) {
+    match env::var(rt, variable.name()) {
         Ok(value) => Ok(Some(value)),
         Err(VarError::NotPresent) => Ok(None),
-        Err(VarError::NotUnicode) => Err(Problem::Environment(why)),
+        Err(VarError::NotUnicode) => Err(Problem::Environment(variable)),
         Err(VarError::OutOfMemory) => Err(Problem::from(AllocError)),
     }
 }

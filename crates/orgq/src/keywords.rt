@@ -4,7 +4,7 @@ use crate::say::say_of;
 use org_base::{Fault, Texts};
 use org_inherit::Inherits;
 use org_rows::ReadFile;
-use org_text::Whole;
+use org_text::{Text, Whole};
 use std::alloc::{AllocError, Global};
 use std::str;
 

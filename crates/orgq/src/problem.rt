@@ -1,5 +1,6 @@
 //! Why nothing is answered.
 
+use crate::environment::Variable;
 use crate::exit::BAD_ARGUMENTS;
 use crate::say::{out_of_memory, say, seen};
 use org_base::{Code, Fault};
@@ -16,11 +17,12 @@ pub enum Problem {
     Days,
     DaysOf,
     /// A variable of the environment isn't UTF-8.
-    Environment(&'static str),
+    Environment(Variable),
     Files,
     List,
     Moment,
     Step,
+    Zone,
     Fault(Fault),
 }
 
@@ -48,13 +50,14 @@ impl Problem {
             Problem::Date => "no such date: a date is written as 2024-02-28",
             Problem::Days => "days past 9999-12-31",
             Problem::DaysOf => "-d is an option of agenda and next",
-            Problem::Environment(why) => why,
+            Problem::Environment(variable) => variable.why(),
             Problem::Files => "no files: name them by -f, ORGQ_FILES or ~/.config/orgq/files",
             Problem::List => {
                 "the list of files, orgq/files in XDG_CONFIG_HOME or ~/.config, can't be read as a file of UTF-8"
             }
             Problem::Moment => "no such moment: --at takes one as \"2024-02-28 10:30\"",
             Problem::Step => "--step is day or week",
+            Problem::Zone => "TZ leads out of the folder of time zones",
             Problem::Fault(fault) => why_code(fault.code()),
         }
     }

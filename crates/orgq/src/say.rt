@@ -43,6 +43,7 @@ fn say_line<R: Eprint + AllocGlobal>(rt: &R, line: &str) {
 }
 
 /// A text without control characters; none where memory is refused.
+#[tactic(auto, using(org_rows::proofs::CleanLemmas::visible_is_clean))]
 pub fn seen(alloc: Global, text: &str) -> Option<String>
     ensures value { IfSome result (λ seen. string_bytes seen ≡ visible Escape.Caret text.now) }
     ensures clean { IfSome result (λ seen. IsClean (string_bytes seen)) }

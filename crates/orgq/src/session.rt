@@ -2,7 +2,7 @@
 
 use crate::ask::{Asked, Question, answer, check, read_question};
 use crate::clock::{moment, now};
-use crate::environment::variable;
+use crate::environment::{Variable, value_of};
 use crate::exit::{STOPPED, status_of};
 use crate::keywords::say_unknown;
 use crate::options::{form, is_colored, profile, texts};
@@ -62,9 +62,9 @@ fn colored<R: AllocGlobal + Env>(
     matches: &ArgMatches<'_>,
     on_terminal: bool,
 ) -> Result<bool, Problem> {
-    let unwanted = variable(rt, "NO_COLOR", "NO_COLOR isn't UTF-8")?;
+    let unwanted = value_of(rt, Variable::Colors)?;
     let is_unwanted = unwanted.is_some_and(|value| !value.as_str().is_empty());
-    let term = variable(rt, "TERM", "TERM isn't UTF-8")?;
+    let term = value_of(rt, Variable::Terminal)?;
     let is_dumb = term.is_none_or(|term| term.as_str() == "dumb");
     match is_colored(
         matches.get_str("color"),
@@ -103,12 +103,11 @@ fn over_files<R: AllocGlobal + Files + Env + Print + Eprint + Clone + Drop>(
     let left_out = load_all(rt, &mut library, paths.as_slice(), keywords)?;
     match text_of(rt, &library, question, look) {
         Ok((has_row, text)) => {
-            let wanted = if matches.get_flag("quiet") {
-                &[]
-            } else {
-                text.as_slice()
-            };
-            Ok(print_all(rt, wanted, status_of(has_row, left_out)))
+            let status = status_of(has_row, left_out);
+            if matches.get_flag("quiet") {
+                return Ok(status);
+            }
+            Ok(print_all(rt, text.as_slice(), status))
         }
         Err(fault) => {
             let expression = question.asked.expression();

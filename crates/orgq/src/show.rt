@@ -40,6 +40,7 @@ pub struct Look {
 }
 
 /// The bytes of an answer, line by line.
+#[tactic(auto, using(crate::proofs::ShownLemmas::no_lines))]
 pub fn printed<T: Text>(
     alloc: Global,
     files: &FilesRead<'_, '_, T>,
@@ -56,14 +57,24 @@ pub fn printed<T: Text>(
             return Ok(out);
         };
         lines = rest;
-        if let Line::Step(first, last) = line {
-            days = Some((*first, *last));
-        }
         let text = text.trim_end_matches('\n');
-        let shown = AnswerLine { line, days, text };
+        let shown = AnswerLine {
+            line,
+            days: days_at(line, days),
+            text,
+        };
         push_line(alloc, &mut out, files, &shown, look)?;
+        days = shown.days;
     }
     Ok(out)
+}
+
+// The days of the clock table that a line is of: its own where it begins one, else those of the line before.
+fn days_at(line: &Line, before: Option<(Day, Day)>) -> Option<(Day, Day)> {
+    match line {
+        Line::Step(first, last) => Some((*first, *last)),
+        Line::Day(_) | Line::Row(_) | Line::Table(_) => before,
+    }
 }
 
 // A line of an answer: what it stands for, the days of its clock table, and its text.
@@ -88,6 +99,7 @@ impl AnswerLine<'_> {
     }
 }
 
+#[tactic(auto, using(crate::proofs::ShownLemmas::keeps_text))]
 fn push_line<T: Text>(
     alloc: Global,
     out: &mut Vec<u8>,
@@ -166,6 +178,7 @@ fn push_placed<T: Text>(
 
 // Appends the file and the line of a row's heading; before a row of a clock table, which begins with a number, a space, so
 // that editors take no number of it as a column.
+#[tactic(auto, using(crate::proofs::ShownLemmas::places_alone, crate::proofs::ShownLemmas::places_named, crate::proofs::ShownLemmas::places_nothing))]
 fn push_place<T: Text>(
     alloc: Global,
     out: &mut Vec<u8>,
@@ -255,7 +268,6 @@ fn push_csv<T: Text>(
 }
 
 // Appends a line, which has no control character, and a line feed.
-#[tactic(auto, using(crate::proofs::ShownLemmas::keeps_row))]
 fn push_whole(out: &mut Vec<u8>, line: &OneLine) -> Result<(), AllocError>
     ensures value { Adds result out.old out.new (line.now ++ 10 ∷ []) }
     ensures clean { KeepsClean result out.old out.new }

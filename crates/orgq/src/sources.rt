@@ -1,6 +1,6 @@
 //! Which files are asked, and what comes of loading them.
 
-use crate::environment::variable;
+use crate::environment::{Variable, value_of};
 use crate::files::{LeftOut, Named, load, push_paths, read_whole, real_path};
 use crate::options::is_path;
 use crate::problem::Problem;
@@ -44,7 +44,7 @@ fn joined(alloc: Global, named: &[&str], bare: &[&str]) -> Result<Vec<String>, A
 
 // The paths of `ORGQ_FILES`, else of the configuration folder's list.
 fn listed<R: AllocGlobal + Files + Env>(rt: &R) -> Result<Vec<String>, Problem> {
-    match variable(rt, "ORGQ_FILES", "ORGQ_FILES isn't UTF-8")? {
+    match value_of(rt, Variable::Files)? {
         Some(paths) => Ok(split(rt.alloc(), paths.as_str(), ':', "")?),
         None => in_list(rt),
     }
@@ -52,7 +52,7 @@ fn listed<R: AllocGlobal + Files + Env>(rt: &R) -> Result<Vec<String>, Problem> 
 
 // The paths of the configuration folder's list; none where there is no list.
 fn in_list<R: AllocGlobal + Files + Env>(rt: &R) -> Result<Vec<String>, Problem> {
-    let home = match variable(rt, "HOME", "HOME isn't UTF-8")? {
+    let home = match value_of(rt, Variable::Home)? {
         Some(home) => home,
         None => String::new(rt.alloc()),
     };
@@ -65,7 +65,7 @@ fn in_list<R: AllocGlobal + Files + Env>(rt: &R) -> Result<Vec<String>, Problem>
 
 // The path of the list.
 fn list_of<R: AllocGlobal + Env>(rt: &R, home: &str) -> Result<String, Problem> {
-    let folder = variable(rt, "XDG_CONFIG_HOME", "XDG_CONFIG_HOME isn't UTF-8")?;
+    let folder = value_of(rt, Variable::Config)?;
     match folder {
         Some(folder) if !folder.as_str().is_empty() => {
             Ok(format!(in rt.alloc(); "{folder}/orgq/files")?)
