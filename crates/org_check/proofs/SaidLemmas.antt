@@ -7,12 +7,12 @@ use Rattle.std.specs.List.Sorted.{IsPermutation}
 use Rattle.std.proofs.lemmas.Bool.{cases_Bool}
 use Rattle.std.proofs.lemmas.List.Sorted.{Contains-permutation, IsPermutation-sym}
 use Rattle.org_class.specs.declared.class.Class.{Class}
-use Rattle.org_lines.specs.Cuts.{Cut}
+use Rattle.org_lines.specs.Cuts.{Cut, cuts}
 use Rattle.org_lines.specs.declared.lines.Line.{Line}
 use Rattle.org_stamp.specs.Stamp.{is_close}
 use Rattle.org_stamp.proofs.LineLemmas.{close_later}
 use Rattle.org_check.specs.Marked.{IsMarkOf}
-use Rattle.org_check.specs.Marks.{cut_marks, mark_at, mark_if, marks_if, marks_in_line}
+use Rattle.org_check.specs.Marks.{cut_marks, line_marks, mark_at, mark_if, marks_if, marks_in_line}
 use Rattle.org_check.specs.Said.{AreSaid, mark_of, option_list, said}
 use Rattle.org_check.specs.UnreadStamps.{is_unread, unread_from}
 use Rattle.org_check.specs.declared.finding.Finding.{Finding}
@@ -91,6 +91,12 @@ said_in_order marks start fs gs empty is same =
 no_classes : (ls : List Cut) → cut_marks ls [] ≡ []
 no_classes [] = refl
 no_classes (l ∷ ls) = refl
+
+-- marks don't depend on how a text lends its lines
+pub same_marks : (run : ℕ → ℕ) (at : ℕ) (ls : List (List ℕ)) (cs : List Class) → cut_marks (cuts run at ls) cs ≡ cut_marks (cuts (λ a. 0) at ls) cs
+same_marks run at [] cs = refl
+same_marks run at (l ∷ ls) [] = refl
+same_marks run at (l ∷ ls) (c ∷ cs) = ap (λ ms. line_marks c at l ++ ms) (same_marks run (at + length l) ls cs)
 
 -- the first line, by the class at its place, and the others
 first_marks : (cs : List Class) (n : ℕ) (l : Cut) (ls : List Cut) → cut_marks (l ∷ ls) (drop n cs) ≡ marks_if (slice_get cs n) l.at l.bytes ++ cut_marks ls (drop (suc n) cs)

@@ -1,11 +1,11 @@
 -- The marks of lines that look planned and aren't read so (Org Syntax, "Planning"; "Property Drawers"; "Blocks"; "Clocks";
 -- what looks so: profile).
 use Rattle.std.specs.Cow.{cow_slice_items}
-use Rattle.std.specs.Prelude.{ℕ, Option, Some, None, Bool, true, false, ◌&&◌, not, ◌==◌, List, [], ◌∷◌, ◌++◌, map, flat_map, length, codes, nat_eq, is_some}
+use Rattle.std.specs.Prelude.{ℕ, Option, Some, None, Bool, true, false, ◌&&◌, not, ◌==◌, List, [], ◌∷◌, ◌++◌, map, flat_map, drop, length, codes, nat_eq, is_some}
 use Rattle.std.specs.List.{prefix_len, starts_with}
 use Rattle.org_base.specs.Words.{is_space}
 use Rattle.org_base.specs.declared.span.Span.{Span}
-use Rattle.org_lines.specs.Cuts.{Cut, cuts_in}
+use Rattle.org_lines.specs.Cuts.{Cut, cuts, lines_in}
 use Rattle.org_lines.specs.declared.lines.Line.{Line}
 use Rattle.org_stamp.specs.Pair.{past_spaces, word_at}
 use Rattle.org_class.specs.Blocks.{block_name}
@@ -17,7 +17,7 @@ use Rattle.org_class.specs.declared.class.Class.TheVariants.{Clock, Heading, Pla
 use Rattle.org_drawer.specs.Clock.{clock_of}
 use Rattle.org_drawer.specs.declared.clock.ClockLine.{ClockLine}
 use Rattle.org_check.specs.Clocks.{counts_nothing}
-use Rattle.org_check.specs.UnreadStamps.{unread_in}
+use Rattle.org_check.specs.UnreadStamps.{is_unread, unread_in}
 use Rattle.org_check.specs.declared.look.Look.{Look}
 use Rattle.org_check.specs.declared.look.Look.TheVariants as look
 use Rattle.org_check.specs.declared.look.Mark.{Mark}
@@ -80,20 +80,48 @@ abbrev pub mark_if : Bool → Look → ℕ → ℕ → List Mark
 mark_if true what at p = mark_at what at p ∷ []
 mark_if false what at p = []
 
--- those of the stamps of a line that aren't read, if they are looked for
+-- those of lines that look planned and aren't read so
+abbrev pub planning_marks : Class → ℕ → List ℕ → List Mark
+planning_marks class at line = mark_if (is_stray_planning class line) look.Planning at (indent line)
+
+abbrev pub drawer_marks : Class → ℕ → List ℕ → List Mark
+drawer_marks class at line = mark_if (is_stray_drawer class line) look.Drawer at (indent line)
+
+abbrev pub block_marks : Class → ℕ → List ℕ → List Mark
+block_marks class at line = mark_if (is_unclosed_block class line) look.Block at (indent line)
+
+abbrev pub clock_marks : Class → ℕ → List ℕ → List Mark
+clock_marks class at line = mark_if (is_unread_clock class line) look.Clock at (indent line)
+
+abbrev pub minutes_marks : Class → ℕ → List ℕ → List Mark
+minutes_marks class at line = mark_if (counts_nothing_in class line) look.Minutes at (indent line)
+
+-- those of the stamps of a line that aren't read
+abbrev pub unread_marks : ℕ → List ℕ → List Mark
+unread_marks at line = map (mark_at look.Stamp at) (unread_in line)
+
+-- the same, if they are looked for
 abbrev pub stamp_marks : Bool → ℕ → List ℕ → List Mark
-stamp_marks true at line = map (mark_at look.Stamp at) (unread_in line)
+stamp_marks true at line = unread_marks at line
 stamp_marks false at line = []
+
+-- that of a place of a line, if what stands there isn't read
+abbrev pub place_marks : ℕ → ℕ → List ℕ → List Mark
+place_marks at p line = mark_if (is_unread (drop p line)) look.Stamp at p
+
+-- those of the stamps of a line of a class
+abbrev pub class_stamp_marks : Class → ℕ → List ℕ → List Mark
+class_stamp_marks class at line = stamp_marks (has_stamps class) at line
 
 -- the marks of a line of a class that begins at a place: of the line, then of its stamps
 abbrev pub line_marks : Class → ℕ → List ℕ → List Mark
 line_marks class at line =
-    mark_if (is_stray_planning class line) look.Planning at (indent line)
-    ++ mark_if (is_stray_drawer class line) look.Drawer at (indent line)
-    ++ mark_if (is_unclosed_block class line) look.Block at (indent line)
-    ++ mark_if (is_unread_clock class line) look.Clock at (indent line)
-    ++ mark_if (counts_nothing_in class line) look.Minutes at (indent line)
-    ++ stamp_marks (has_stamps class) at line
+    planning_marks class at line
+    ++ drawer_marks class at line
+    ++ block_marks class at line
+    ++ clock_marks class at line
+    ++ minutes_marks class at line
+    ++ class_stamp_marks class at line
 
 -- the marks of a line of a class, if there is one
 abbrev pub marks_if : Option Class → ℕ → List ℕ → List Mark
@@ -111,13 +139,13 @@ cut_marks (l ∷ ls) [] = []
 cut_marks (l ∷ ls) (c ∷ cs) = line_marks c l.at l.bytes ++ cut_marks ls cs
 
 -- the marks of a part of a text whose lines are of these classes
-abbrev pub marks_in : (ℕ → ℕ) → List ℕ → Span → List Class → List Mark
-marks_in run content part classes = cut_marks (cuts_in run content part) classes
+abbrev pub marks_in : List ℕ → Span → List Class → List Mark
+marks_in content part classes = cut_marks (cuts (λ at. 0) part.at (lines_in content part)) classes
 
 -- the marks of a section of a text
-abbrev pub section_marks : (ℕ → ℕ) → List ℕ → Span → List Mark
-section_marks run content section = marks_in run content section (classes_in content section)
+abbrev pub section_marks : List ℕ → Span → List Mark
+section_marks content section = marks_in content section (classes_in content section)
 
 -- the marks of a text: those of its sections
-abbrev pub text_marks : (ℕ → ℕ) → List ℕ → List Mark
-text_marks run content = flat_map (section_marks run content) (spans_from 0 (sections content))
+abbrev pub text_marks : List ℕ → List Mark
+text_marks content = flat_map (section_marks content) (spans_from 0 (sections content))

@@ -47,5 +47,5 @@ abbrev pub AreSaid : List Mark → List Finding → Type 0
 AreSaid marks fs = (m : Mark) → IsMarkOf m marks ↔ IsMarkOf m (said fs)
 
 -- just the marks of a text are explained
-abbrev pub MarksAreSaid : (ℕ → ℕ) → List ℕ → List Finding → Type 0
-MarksAreSaid run content fs = AreSaid (text_marks run content) fs
+abbrev pub MarksAreSaid : List ℕ → List Finding → Type 0
+MarksAreSaid content fs = AreSaid (text_marks content) fs

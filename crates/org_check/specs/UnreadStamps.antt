@@ -1,7 +1,8 @@
 -- Places of a line that look like a stamp and are none (Org manual 9.6, "Timestamps"; what looks so: profile).
+use Rattle.std.specs.List.{position_or_len}
 use Rattle.std.specs.Prelude.{◌≡◌, ◌↔◌, ◌⊎◌, ℕ, ◌+◌, ◌≤◌, ◌<◌, Bool, true, ◌&&◌, if◌then◌else◌, List, [], ◌∷◌, ◌++◌, length, drop, Option, MatchOption, is_none}
 use Rattle.org_stamp.specs.Read.{stamp_of}
-use Rattle.org_stamp.specs.Stamp.{IsStamp}
+use Rattle.org_stamp.specs.Stamp.{IsStamp, is_close}
 use Rattle.org_stamp.specs.declared.stamp.Stamp.{Stamp}
 use Rattle.org_check.specs.Looks.{looks_like_stamp}
 
@@ -46,3 +47,7 @@ pub record LooksLikeStampAndIsNone (line : List ℕ) (p : ℕ) : Type 0 where
 -- just those places of a line are found
 abbrev pub UnreadAreFound : Type 0
 UnreadAreFound = (line : List ℕ) (p : ℕ) → IsAmong p (unread_in line) ↔ LooksLikeStampAndIsNone line p
+
+-- a place is that of the first closing bracket of a line from another place on, or the line's length
+abbrev pub IsNextClose : List ℕ → ℕ → ℕ → Type 0
+IsNextClose line at close = close ≡ at + position_or_len is_close (drop at line)

@@ -1,5 +1,6 @@
 //! Property drawers that aren't read.
-ghost use Rattle.std.specs.Prelude.{◌+◌, ◌≤◌, length};
+ghost use Rattle.std.specs.Prelude.{◌+◌, ◌≤◌, length, IsOkUnless};
+ghost use Rattle.org_base.specs.Codes.{memory_fault};
 
 use crate::finding::Cause;
 use crate::here::Here;
@@ -37,6 +38,7 @@ pub(crate) fn look_ahead<T: Text>(
     known: Option<Ahead>,
 ) -> Result<Ahead, Fault>
     requires within { here.rest.at + here.rest.len ≤ length (T.content text.now) }
+    ensures memory { IsOkUnless result memory_fault }
 {
     let last_end = match known {
         Some(ahead) if here.number < ahead.line => return Ok(ahead),
@@ -59,6 +61,7 @@ fn first_stop<T: Text>(
     number: u32,
 ) -> Result<(u32, Stop), Fault>
     requires within { rest.at + rest.len ≤ length (T.content text.now) }
+    ensures memory { IsOkUnless result memory_fault }
 {
     let mut here = number;
     for line in Lines::new(alloc, text, rest) {
@@ -78,6 +81,7 @@ fn first_stop<T: Text>(
 // The last line that ends a drawer, of those that come after a line of this number; 0 where none does.
 fn last_end<T: Text>(alloc: Global, text: &T, rest: Span, number: u32) -> Result<u32, Fault>
     requires within { rest.at + rest.len ≤ length (T.content text.now) }
+    ensures memory { IsOkUnless result memory_fault }
 {
     let mut here = number;
     let mut last = 0;

@@ -1,5 +1,6 @@
 //! The findings of a file.
-ghost use Rattle.std.specs.Prelude.{◌≡◌, ◌+◌, ◌≤◌, length, IfOk};
+ghost use Rattle.std.specs.Prelude.{◌≡◌, ◌+◌, ◌≤◌, length, IfOk, IsOkUnless};
+ghost use Rattle.org_base.specs.Codes.{memory_fault};
 ghost use Rattle.org_check.specs.Marks.{section_marks, text_marks};
 ghost use Rattle.org_check.specs.Said.{MarksAreSaid, Says};
 
@@ -27,15 +28,16 @@ pub struct About<'a> {
 }
 
 /// What looks planned in a text and will not show, or shows otherwise than it is written, in the order of the places. Each
-/// place and line that looks planned and isn't read so has its finding, and each finding of such a kind is of one. The meter
-/// counts one classified section for each section. Want of memory is the only refusal.
+/// place and line that looks planned and isn't read so has its finding, and each finding of such a kind is of one. Want of
+/// memory is the only refusal.
 pub fn checks<'a, T: Text>(
     alloc: Global,
     meter: &mut Meter,
     text: &T,
     about: &'a About<'a>,
 ) -> Result<Findings, Fault>
-    ensures marks { IfOk result (MarksAreSaid (T.run_len text.now) (T.content text.now)) }
+    ensures marks { IfOk result (MarksAreSaid (T.content text.now)) }
+    ensures memory { IsOkUnless result memory_fault }
 {
     let mut findings = Findings::new(alloc);
     check_text(alloc, meter, text, about, &mut findings)?;
@@ -49,15 +51,16 @@ fn check_text<'a, T: Text>(
     meter: &mut Meter,
     text: &T,
     about: &'a About<'a>,
-    findings: &mut Findings,
+    found: &mut Findings,
 ) -> Result<(), Fault>
-    ensures said { Says result findings.old findings.new (text_marks (T.run_len text.now) (T.content text.now)) }
+    ensures said { Says result found.old found.new (text_marks (T.content text.now)) }
+    ensures memory { IsOkUnless result memory_fault }
 {
     let mut seen = Seen::new(alloc, about);
     push_byte_order_mark(&mut seen, text)?;
-    check_sections(meter, text, &mut seen, findings)?;
+    check_sections(meter, text, &mut seen, found)?;
     seen.end()?;
-    findings.push_notes(seen.notes.as_slice())?;
+    found.push_notes(seen.notes.as_slice())?;
     Ok(())
 }
 
@@ -80,13 +83,14 @@ fn check_sections<T: Text>(
     meter: &mut Meter,
     text: &T,
     seen: &mut Seen<'_>,
-    findings: &mut Findings,
+    found: &mut Findings,
 ) -> Result<(), Fault>
-    ensures said { Says result findings.old findings.new (text_marks (T.run_len text.now) (T.content text.now)) }
+    ensures said { Says result found.old found.new (text_marks (T.content text.now)) }
+    ensures memory { IsOkUnless result memory_fault }
 {
     let spans = sections(seen.alloc, text)?;
     for span in spans.as_slice() {
-        check_one(meter, text, *span, seen, findings)?;
+        check_one(meter, text, *span, seen, found)?;
     }
     Ok(())
 }
@@ -97,11 +101,12 @@ fn check_one<T: Text>(
     text: &T,
     section: Span,
     seen: &mut Seen<'_>,
-    findings: &mut Findings,
+    found: &mut Findings,
 ) -> Result<(), Fault>
     requires within { section.at + section.len ≤ length (T.content text.now) }
-    ensures said { Says result findings.old findings.new (section_marks (T.run_len text.now) (T.content text.now) section) }
+    ensures said { Says result found.old found.new (section_marks (T.content text.now) section) }
+    ensures memory { IsOkUnless result memory_fault }
 {
     let classes = classify(seen.alloc, meter, text, section)?;
-    check_section(text, section, classes.as_slice(), seen, findings)
+    check_section(text, section, classes.as_slice(), seen, found)
 }

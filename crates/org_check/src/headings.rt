@@ -1,5 +1,6 @@
 //! Headings that don't say what they look like.
-ghost use Rattle.std.specs.Prelude.{◌+◌, ◌≤◌, ◌<◌, ◌^◌, length};
+ghost use Rattle.std.specs.Prelude.{◌+◌, ◌≤◌, ◌<◌, ◌^◌, length, IsOkUnless};
+ghost use Rattle.org_base.specs.Codes.{memory_fault};
 ghost use Rattle.org_head.specs.Head.{AreInside};
 
 use crate::beside_kinds::BesideKind;
@@ -22,7 +23,9 @@ pub(crate) fn push_heading(
     about: &About<'_>,
     here: Here,
     line: &[u8],
-) -> Result<bool, Fault> {
+) -> Result<bool, Fault>
+    ensures memory { IsOkUnless result memory_fault }
+{
     if line.len() >= u32::MAX as usize {
         return Ok(false);
     }

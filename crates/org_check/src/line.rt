@@ -1,4 +1,6 @@
 //! What a line says beside its marks.
+ghost use Rattle.std.specs.Prelude.{IsOkUnless};
+ghost use Rattle.org_base.specs.Codes.{memory_fault};
 
 use crate::beside_kinds::BesideKind;
 use crate::blocks::{
@@ -19,7 +21,9 @@ use org_class::Class;
 use org_stamp::leading_spaces;
 
 // Puts what a line says that explains no mark; answers what is known after it.
-pub(crate) fn check_line(seen: &mut Seen<'_>, here: Here, line: &[u8]) -> Result<Above, Fault> {
+pub(crate) fn check_line(seen: &mut Seen<'_>, here: Here, line: &[u8]) -> Result<Above, Fault>
+    ensures memory { IsOkUnless result memory_fault }
+{
     if has_stamps(here.class) {
         push_read_stamps(&mut seen.notes, here, line)?;
     }
@@ -44,12 +48,16 @@ pub(crate) fn check_line(seen: &mut Seen<'_>, here: Here, line: &[u8]) -> Result
     Ok(above.after(here.class, line, here.number))
 }
 
-fn check_heading(seen: &mut Seen<'_>, here: Here, line: &[u8]) -> Result<bool, Fault> {
+fn check_heading(seen: &mut Seen<'_>, here: Here, line: &[u8]) -> Result<bool, Fault>
+    ensures memory { IsOkUnless result memory_fault }
+{
     push_heading_planning(&mut seen.notes, here, line)?;
     push_heading(seen.alloc, &mut seen.notes, seen.about, here, line)
 }
 
-fn check_clock(seen: &mut Seen<'_>, here: Here, line: &[u8]) -> Result<(), Fault> {
+fn check_clock(seen: &mut Seen<'_>, here: Here, line: &[u8]) -> Result<(), Fault>
+    ensures memory { IsOkUnless result memory_fault }
+{
     if here.above.headed {
         seen.clocks.push(here, line)?;
         return Ok(());
@@ -62,7 +70,9 @@ fn check_clock(seen: &mut Seen<'_>, here: Here, line: &[u8]) -> Result<(), Fault
     Ok(())
 }
 
-fn check_text(seen: &mut Seen<'_>, here: Here, line: &[u8]) -> Result<(), Fault> {
+fn check_text(seen: &mut Seen<'_>, here: Here, line: &[u8]) -> Result<(), Fault>
+    ensures memory { IsOkUnless result memory_fault }
+{
     check_blocks(seen, here, line)?;
     seen.category = push_setting(&mut seen.notes, here, line, seen.category)?;
     push_planning_case(&mut seen.notes, here, line)?;
@@ -72,7 +82,9 @@ fn check_text(seen: &mut Seen<'_>, here: Here, line: &[u8]) -> Result<(), Fault>
 }
 
 // Counts blocks that say that they begin, and puts an end for which none says so.
-fn check_blocks(seen: &mut Seen<'_>, here: Here, line: &[u8]) -> Result<(), Fault> {
+fn check_blocks(seen: &mut Seen<'_>, here: Here, line: &[u8]) -> Result<(), Fault>
+    ensures memory { IsOkUnless result memory_fault }
+{
     if is_unclosed_block(here.class, line) {
         seen.open_blocks = seen.open_blocks.saturating_add(1);
     } else if is_block_end(here.class, line) {

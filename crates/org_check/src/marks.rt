@@ -1,8 +1,8 @@
 //! The findings of a line that explain its marks.
-ghost use Rattle.std.specs.Prelude.{◌≡◌, ◌+◌, ◌≤◌, length};
-ghost use Rattle.org_check.specs.Marks.{counts_nothing_in, indent, is_stray_drawer, is_stray_planning, is_unclosed_block, is_unread_clock, line_marks, mark_if};
+ghost use Rattle.std.specs.Prelude.{◌≡◌, ◌+◌, ◌≤◌, length, IsOkUnless};
+ghost use Rattle.org_base.specs.Codes.{memory_fault};
+ghost use Rattle.org_check.specs.Marks.{block_marks, clock_marks, drawer_marks, indent, line_marks, minutes_marks, planning_marks};
 ghost use Rattle.org_check.specs.Said.{Says};
-ghost use Rattle.org_check.specs.declared.look.Look.TheVariants as look;
 
 use crate::clocks::minutes_kind;
 use crate::drawers::{look_ahead, stray_drawer};
@@ -37,14 +37,14 @@ fn whole_line(line: &[u8], kind: Kind, cause: Option<Cause>) -> Found
 }
 
 // Puts a line that looks like a planning line and is none.
-fn push_planning(findings: &mut Findings, here: Here, line: &[u8]) -> Result<(), AllocError>
-    ensures said { Says result findings.old findings.new (mark_if (is_stray_planning here.class line.now) look.Planning here.at (indent line.now)) }
+fn push_planning(found: &mut Findings, here: Here, line: &[u8]) -> Result<(), AllocError>
+    ensures said { Says result found.old found.new (planning_marks here.class here.at line.now) }
 {
     if !is_stray_planning(here.class, line) {
         return Ok(());
     }
     let kind = Kind::Planning(stray_planning(here, line));
-    findings.push(here, whole_line(line, kind, here.above.first))
+    found.push(here, whole_line(line, kind, here.above.first))
 }
 
 // Puts a line that looks as if a property drawer began there, and none does.
@@ -53,10 +53,11 @@ fn push_drawer<T: Text>(
     here: Here,
     line: &[u8],
     seen: &mut Seen<'_>,
-    findings: &mut Findings,
+    found: &mut Findings,
 ) -> Result<(), Fault>
     requires within { here.rest.at + here.rest.len ≤ length (T.content text.now) }
-    ensures said { Says result findings.old findings.new (mark_if (is_stray_drawer here.class line.now) look.Drawer here.at (indent line.now)) }
+    ensures said { Says result found.old found.new (drawer_marks here.class here.at line.now) }
+    ensures memory { IsOkUnless result memory_fault }
 {
     if !is_stray_drawer(here.class, line) {
         return Ok(());
@@ -64,44 +65,44 @@ fn push_drawer<T: Text>(
     let ahead = look_ahead(seen.alloc, text, here, seen.ahead)?;
     seen.ahead = Some(ahead);
     let (kind, cause) = stray_drawer(here, ahead);
-    findings.push(here, whole_line(line, Kind::Drawer(kind), cause))?;
+    found.push(here, whole_line(line, Kind::Drawer(kind), cause))?;
     Ok(())
 }
 
 // Puts a line that looks as if a block began there, and none does.
-fn push_block(findings: &mut Findings, here: Here, line: &[u8]) -> Result<(), AllocError>
-    ensures said { Says result findings.old findings.new (mark_if (is_unclosed_block here.class line.now) look.Block here.at (indent line.now)) }
+fn push_block(found: &mut Findings, here: Here, line: &[u8]) -> Result<(), AllocError>
+    ensures said { Says result found.old found.new (block_marks here.class here.at line.now) }
 {
     if !is_unclosed_block(here.class, line) {
         return Ok(());
     }
-    findings.push(here, whole_line(line, Kind::UnclosedBlock, None))
+    found.push(here, whole_line(line, Kind::UnclosedBlock, None))
 }
 
 // Puts a line that looks like a clock line and is none.
-fn push_clock(findings: &mut Findings, here: Here, line: &[u8]) -> Result<(), AllocError>
-    ensures said { Says result findings.old findings.new (mark_if (is_unread_clock here.class line.now) look.Clock here.at (indent line.now)) }
+fn push_clock(found: &mut Findings, here: Here, line: &[u8]) -> Result<(), AllocError>
+    ensures said { Says result found.old found.new (clock_marks here.class here.at line.now) }
 {
     if !is_unread_clock(here.class, line) {
         return Ok(());
     }
-    findings.push(here, whole_line(line, Kind::UnreadClock, None))
+    found.push(here, whole_line(line, Kind::UnreadClock, None))
 }
 
 // Puts a clock that counts nothing.
 fn push_minutes(
-    findings: &mut Findings,
+    found: &mut Findings,
     here: Here,
     line: &[u8],
     now: Option<Minute>,
 ) -> Result<(), AllocError>
-    ensures said { Says result findings.old findings.new (mark_if (counts_nothing_in here.class line.now) look.Minutes here.at (indent line.now)) }
+    ensures said { Says result found.old found.new (minutes_marks here.class here.at line.now) }
 {
     if !counts_nothing_in(here.class, line) {
         return Ok(());
     }
     let kind = Kind::Minutes(minutes_kind(line, now));
-    findings.push(here, whole_line(line, kind, None))
+    found.push(here, whole_line(line, kind, None))
 }
 
 // Puts a finding for each mark of a line: for whatever looks planned in it and isn't read so.
@@ -110,16 +111,17 @@ pub(crate) fn push_line_marks<T: Text>(
     here: Here,
     line: &[u8],
     seen: &mut Seen<'_>,
-    findings: &mut Findings,
+    found: &mut Findings,
 ) -> Result<(), Fault>
     requires within { here.rest.at + here.rest.len ≤ length (T.content text.now) }
-    ensures said { Says result findings.old findings.new (line_marks here.class here.at line.now) }
+    ensures said { Says result found.old found.new (line_marks here.class here.at line.now) }
+    ensures memory { IsOkUnless result memory_fault }
 {
-    push_planning(findings, here, line)?;
-    push_drawer(text, here, line, seen, findings)?;
-    push_block(findings, here, line)?;
-    push_clock(findings, here, line)?;
-    push_minutes(findings, here, line, seen.about.now)?;
-    push_unread_stamps(findings, here, line)?;
+    push_planning(found, here, line)?;
+    push_drawer(text, here, line, seen, found)?;
+    push_block(found, here, line)?;
+    push_clock(found, here, line)?;
+    push_minutes(found, here, line, seen.about.now)?;
+    push_unread_stamps(found, here, line)?;
     Ok(())
 }

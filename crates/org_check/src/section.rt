@@ -1,5 +1,6 @@
 //! The findings of a section.
-ghost use Rattle.std.specs.Prelude.{◌≡◌, ◌+◌, ◌≤◌, length, slice_get};
+ghost use Rattle.std.specs.Prelude.{◌≡◌, ◌+◌, ◌≤◌, length, slice_get, IsOkUnless};
+ghost use Rattle.org_base.specs.Codes.{memory_fault};
 ghost use Rattle.org_check.specs.Marks.{marks_in, marks_in_line};
 ghost use Rattle.org_check.specs.Said.{Says};
 
@@ -26,17 +27,18 @@ pub(crate) fn check_section<T: Text>(
     section: Span,
     classes: &[Class],
     seen: &mut Seen<'_>,
-    findings: &mut Findings,
+    found: &mut Findings,
 ) -> Result<(), Fault>
     requires within { section.at + section.len ≤ length (T.content text.now) }
-    ensures said { Says result findings.old findings.new (marks_in (T.run_len text.now) (T.content text.now) section classes.now) }
+    ensures said { Says result found.old found.new (marks_in (T.content text.now) section classes.now) }
+    ensures memory { IsOkUnless result memory_fault }
 {
     seen.ahead = None;
     seen.above = Above::new();
     let mut place = 0;
     for line in Lines::new(seen.alloc, text, section) {
         let class = class_at(classes, place);
-        check_in(text, LineIn { section, class }, line?, seen, findings)?;
+        check_in(text, LineIn { section, class }, line?, seen, found)?;
         place += 1;
     }
     Ok(())
@@ -55,10 +57,11 @@ fn check_in<T: Text>(
     of: LineIn,
     line: Line<'_>,
     seen: &mut Seen<'_>,
-    findings: &mut Findings,
+    found: &mut Findings,
 ) -> Result<(), Fault>
     requires within { of.section.at + of.section.len ≤ length (T.content text.now) }
-    ensures said { Says result findings.old findings.new (marks_in_line of.class line.entry) }
+    ensures said { Says result found.old found.new (marks_in_line of.class line.entry) }
+    ensures memory { IsOkUnless result memory_fault }
 {
     let Some(class) = of.class else {
         return Ok(());
@@ -71,7 +74,7 @@ fn check_in<T: Text>(
         above: seen.above,
     };
     let bytes = line.bytes.as_slice();
-    push_line_marks(text, here, bytes, seen, findings)?;
+    push_line_marks(text, here, bytes, seen, found)?;
     seen.above = check_line(seen, here, bytes)?;
     Ok(())
 }

@@ -1,12 +1,9 @@
 //! Places of lines that look like stamps and are none.
-ghost use Rattle.std.specs.Prelude.{◌≡◌, ◌+◌, ◌≤◌, true, map, length, drop};
-ghost use Rattle.std.specs.List.{position_or_len};
-ghost use Rattle.org_stamp.specs.Stamp.{is_close};
+ghost use Rattle.std.specs.Prelude.{◌≡◌, ◌≤◌, true, length, drop};
 ghost use Rattle.org_check.specs.Looks.{looks_like_stamp};
-ghost use Rattle.org_check.specs.Marks.{has_stamps, mark_at, mark_if, stamp_marks};
+ghost use Rattle.org_check.specs.Marks.{class_stamp_marks, place_marks, unread_marks};
 ghost use Rattle.org_check.specs.Said.{Says};
-ghost use Rattle.org_check.specs.UnreadStamps.{is_unread, unread_in};
-ghost use Rattle.org_check.specs.declared.look.Look.TheVariants.{Stamp};
+ghost use Rattle.org_check.specs.UnreadStamps.{IsNextClose};
 
 use crate::findings::{Findings, Found};
 use crate::here::Here;
@@ -22,22 +19,22 @@ use std::alloc::AllocError;
 
 // Puts the places of a line at which stamps are looked for and that look like one and are none.
 pub(crate) fn push_unread_stamps(
-    findings: &mut Findings,
+    found: &mut Findings,
     here: Here,
     line: &[u8],
 ) -> Result<(), AllocError>
-    ensures said { Says result findings.old findings.new (stamp_marks (has_stamps here.class) here.at line.now) }
+    ensures said { Says result found.old found.new (class_stamp_marks here.class here.at line.now) }
 {
     if has_stamps(here.class) {
-        push_unread(findings, here, line)
+        push_unread(found, here, line)
     } else {
         Ok(())
     }
 }
 
 // The same of a line at which stamps are looked for.
-fn push_unread(findings: &mut Findings, here: Here, line: &[u8]) -> Result<(), AllocError>
-    ensures said { Says result findings.old findings.new (map (mark_at Stamp here.at) (unread_in line.now)) }
+fn push_unread(found: &mut Findings, here: Here, line: &[u8]) -> Result<(), AllocError>
+    ensures said { Says result found.old found.new (unread_marks here.at line.now) }
 {
     let mut quotes = Quotes::new(here.class);
     let mut close = first_close(line);
@@ -47,13 +44,7 @@ fn push_unread(findings: &mut Findings, here: Here, line: &[u8]) -> Result<(), A
             return Ok(());
         };
         close = next_close(line, place, close);
-        push_if_none(
-            findings,
-            here,
-            line,
-            Candidate { place, close },
-            &mut quotes,
-        )?;
+        push_if_none(found, here, line, Candidate { place, close }, &mut quotes)?;
         from = place + 1;
     }
     Ok(())
@@ -61,28 +52,28 @@ fn push_unread(findings: &mut Findings, here: Here, line: &[u8]) -> Result<(), A
 
 // Puts what looks like a stamp, if it is none.
 fn push_if_none(
-    findings: &mut Findings,
+    found: &mut Findings,
     here: Here,
     line: &[u8],
     candidate: Candidate,
     quotes: &mut Quotes,
 ) -> Result<(), AllocError>
     requires within { candidate.place ≤ length line.now }
-    requires close { candidate.close ≡ candidate.place + position_or_len is_close (drop candidate.place line.now) }
+    requires close { IsNextClose line.now candidate.place candidate.close }
     requires looks { looks_like_stamp (drop candidate.place line.now) ≡ true }
-    ensures said { Says result findings.old findings.new (mark_if (is_unread (drop candidate.place line.now)) Stamp here.at candidate.place) }
+    ensures said { Says result found.old found.new (place_marks here.at candidate.place line.now) }
 {
     let Candidate { place, close } = candidate;
     if stamp_at(line, place, close).is_some() {
         return Ok(());
     }
-    let found = Found {
+    let one = Found {
         kind: Kind::Stamp(kind_at(line, candidate, quotes)),
         place,
         len: shown_len(line, candidate),
         cause: None,
     };
-    findings.push(here, found)
+    found.push(here, one)
 }
 
 // How much of a text is shown that looks like a stamp: up to the next closing bracket, or to the end of the line.

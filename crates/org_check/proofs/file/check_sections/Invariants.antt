@@ -7,5 +7,5 @@ use Rattle.org_check.proofs.file.check_sections.Given as goal
 
 abbrev pub invariant-loop-span : goal.invariant-loop-span
 invariant-loop-span g l =
-    said l.findings ++ flat_map (section_marks (g.T.Text.run_len l.text) (g.T.Text.content l.text)) (drop l.span-index l.span-items)
-    ≡ said l.fn.findings ++ text_marks (g.T.Text.run_len l.text) (g.T.Text.content l.text)
+    said l.found ++ flat_map (section_marks (g.T.Text.content l.text)) (drop l.span-index l.span-items)
+    ≡ said l.fn.found ++ text_marks (g.T.Text.content l.text)

@@ -2,5 +2,5 @@
 use Rattle.org_check.proofs.SaidLemmas.{said_in_order}
 use Rattle.org_check.proofs.file.checks.Goals as goal
 
-pub returns : goal.returns
-returns g c = record { marks = said_in_order _ _ _ _ c.new-findings.ensures.value c.in_ok-check_text.ensures.said c.in_ok-sort.ensures.same }
+pub returns-clause-marks : goal.returns-clause-marks
+returns-clause-marks g c = said_in_order _ _ _ _ c.new-findings.ensures.value c.in_ok-check_text.ensures.said c.in_ok-sort.ensures.same

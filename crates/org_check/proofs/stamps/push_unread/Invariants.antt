@@ -12,7 +12,7 @@ abbrev pub invariant-loop-from : goal.invariant-loop-from
 invariant-loop-from l = record {
   within : l.from ≤ length l.line;
   close_is : l.from ≤ l.close → l.close ≡ l.from + position_or_len is_close (drop l.from l.line);
-  all : said l.findings ++ map (mark_at Stamp l.here.at) (unread_from (drop l.from l.line) l.from) ≡ said l.fn.findings ++ map (mark_at Stamp l.here.at) (unread_in l.line);
+  all : said l.found ++ map (mark_at Stamp l.here.at) (unread_from (drop l.from l.line) l.from) ≡ said l.fn.found ++ map (mark_at Stamp l.here.at) (unread_in l.line);
 }
 
 abbrev pub decreases-loop-from : goal.decreases-loop-from
