@@ -76,10 +76,12 @@ emacs-test: $(PROGRAM)
 vim-test: $(PROGRAM) $(ORGQ)
 	@sh tests/vim.sh $(ORGQ) $(PROGRAM)
 
-# What the programs do as they were last built where memory is refused, the stream is cut, and reads and writes fail.
+# What the programs do as they were last built where memory is refused, the stream is cut, reads and writes fail, and a file
+# is replaced on a real disk.
 faults: $(PROGRAM) $(PARTS)
 	@sh tests/refused.sh $(PROGRAM) $(PARTS) calls
 	@sh tests/devices.sh $(PROGRAM)
+	@sh tests/saves.sh $(PARTS) append
 
 bench: $(PROGRAM) $(PARTS) $(ORGQ)
 	@sh bench/run.sh $(PROGRAM) $(PARTS) $(ORGQ)

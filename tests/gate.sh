@@ -81,6 +81,9 @@ echo "gate: memory that is refused, streams that are cut, reads and writes that 
 counted refused crates/orgviews/out/orgviews crates/org_measure/out/org_measure calls
 counted devices crates/orgviews/out/orgviews
 
+echo "gate: files that are replaced on a real disk"
+counted saves crates/org_measure/out/org_measure append
+
 # What it cost: user and system time of all that was run, then how much of what.
 times > "$work/times"
 processor=$(tail -n 1 "$work/times" | tr 'ms' '  ' | awk '{ printf "%.0f", $1 + $3 + ($2 + $4) / 60 }')

@@ -11,11 +11,15 @@
 //!                                           `typed`, one byte behind the other from the middle on
 //!     org_measure sequence ITEMS COUNT      the size of a sequence of so many items, of which so many were replaced
 //!     org_measure stream DATE TIME          the replies to the commands of standard input, over texts in one string each
+//!     org_measure append PATH LINE          puts the line at the end of the file by one replacement, as it is tried in
+//!                                           `tests/save`: the exit status is 0 where it stands there, 4 without memory, and 5
+//!                                           where nothing was changed
 //!     org_measure calls                     single calls, and each again where it finds no memory: the exit status is 0 where
 //!                                           none was refused, 9 where one was and all was well, and 1 where one gave something
 //!                                           else, whose name is printed
 #![tactic(auto)]
 
+mod append;
 mod calls;
 mod engine_calls;
 mod outline_calls;
@@ -27,6 +31,7 @@ mod texts;
 ghost use Rattle.std.specs.Prelude.{◌≡◌, length};
 ghost use Rattle.org_stamp.specs.Line.{stamps_of};
 
+use crate::append::append;
 use crate::calls::try_calls;
 use crate::sequences::size_after;
 use crate::streams::answer;
@@ -71,6 +76,9 @@ fn main(rt: HostRuntime) -> ExitCode {
     if asks_calls(words.as_slice()) {
         return ExitCode::from(try_calls(&rt));
     }
+    if let Some((path, line)) = append_asked(words.as_slice()) {
+        return ExitCode::from(append(&rt, path, line));
+    }
     let Some(part) = asked(words.as_slice()) else {
         let _ = eprintln!(rt; "org_measure: no such part, see the head of its source");
         return ExitCode::from(2);
@@ -83,6 +91,14 @@ fn main(rt: HostRuntime) -> ExitCode {
 
 fn asks_calls(words: &[String]) -> bool {
     words.len() == 2 && words[1].as_str() == "calls"
+}
+
+// The file and the line that is to stand at its end.
+fn append_asked(words: &[String]) -> Option<(&str, &str)> {
+    match words {
+        [_, part, path, line] if part.as_str() == "append" => Some((path.as_str(), line.as_str())),
+        _ => None,
+    }
 }
 
 // Does a part of the work, and prints what came out; None where it can't be done.

@@ -105,11 +105,26 @@ fn failed(step: Step) -> Result<Saved, Unsaved> {
 #[test]
 fn replaces(rt: HostRuntime) -> Result<(), Fail> {
     let alloc = rt.alloc();
-    assert_eq!(rt; answer_of(alloc, 0, b"")?, (saved(true, Meanwhile::Nothing), CALLS));
-    assert_eq!(rt; answer_of(alloc, 0, FOREIGN)?, (saved(true, Meanwhile::Rescued), MOST_CALLS));
-    assert_eq!(rt; answer_of(alloc, 8, b"")?, (saved(false, Meanwhile::Nothing), CALLS));
-    assert_eq!(rt; answer_of(alloc, 7, FOREIGN)?, (saved(true, Meanwhile::Unknown), CALLS));
-    assert_eq!(rt; answer_of(alloc, 9, FOREIGN)?, (saved(true, Meanwhile::Lost), MOST_CALLS - 1));
+    assert_eq!(rt;
+        answer_of(alloc, 0, b"")?,
+        (saved(true, Meanwhile::Nothing), CALLS)
+    );
+    assert_eq!(rt;
+        answer_of(alloc, 0, FOREIGN)?,
+        (saved(true, Meanwhile::Rescued), MOST_CALLS)
+    );
+    assert_eq!(rt;
+        answer_of(alloc, 8, b"")?,
+        (saved(false, Meanwhile::Nothing), CALLS)
+    );
+    assert_eq!(rt;
+        answer_of(alloc, 7, FOREIGN)?,
+        (saved(true, Meanwhile::Unknown), CALLS)
+    );
+    assert_eq!(rt;
+        answer_of(alloc, 9, FOREIGN)?,
+        (saved(true, Meanwhile::Lost), MOST_CALLS - 1)
+    );
     Ok(())
 }
 
