@@ -83,6 +83,7 @@ step() {
 echo "changed: against $base:${code:- no code differs}"
 step "whether each must-fail edit can be applied" . sh tests/edits.sh
 step "the layers of crates" . sh tests/layers.sh
+step "numbers of rules, and parameters" . sh tests/rules.sh
 [ -z "$code" ] || step "the layout of the crates that differ" . sh tests/layout.sh $code
 left=""
 stopped=""

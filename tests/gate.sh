@@ -1,8 +1,8 @@
 #!/bin/sh
 # The whole gate. The last line is 'N passed, M failed', over the checks of `rt ci`, what docs/definitions.md names, the
 # worked streams, what the program does where memory is refused and reads and writes fail, and what is looked at first since
-# it takes seconds: whether each must-fail edit can be applied, each file is in the formatter's layout, and no crate of the
-# store stands on views.
+# it takes seconds: whether each must-fail edit can be applied, each file is in the formatter's layout, no crate of the store
+# stands on views, and the number of a rule stands once.
 cd "$(dirname "$0")/.." || exit 2
 work=$(mktemp -d) || exit 2
 watcher=""
@@ -29,10 +29,11 @@ counted() {
 passed=0
 failed=0
 start=$(date +%s)
-echo "gate: whether each must-fail edit can be applied, each file is in the formatter's layout, and no crate of the store stands on views"
+echo "gate: whether each must-fail edit can be applied, each file is in the formatter's layout, no crate of the store stands on views, and numbers of rules stand once"
 counted edits
 counted layout
 counted layers
+counted rules
 if [ "$failed" -gt 0 ]; then
     echo "gate: nothing else was tried"
     echo "$passed passed, $failed failed"

@@ -8,6 +8,7 @@ use Rattle.org_stamp.specs.declared.mark.Delay.{Delay}
 use Rattle.org_stamp.specs.declared.stamp.Stamp.{Stamp}
 use Rattle.org_repeat.specs.Decided.{next_after, occurs, range_start}
 use Rattle.org_index.specs.Delays.{days_in, delay_or}
+use Rattle.org_index.specs.declared.delays.TheConstants.{WARNING_DAYS}
 use Rattle.org_agenda.specs.Lists.{Ranked, in_order}
 use Rattle.org_agenda.specs.Order.{by_key}
 use Rattle.org_agenda.specs.declared.days.TheConstants.{STARTS}
@@ -48,7 +49,7 @@ is_shown p OnSchedule s today day = occurs_delayed p s.stamp s.stamp.delay day
 is_shown p LateSchedule s today day = is_due s today day && nat_lt (s.stamp.day + delay_or 0 s.stamp.delay) today
 is_shown p OnDeadline s today day = occurs p s.stamp day
 is_shown p Warning s today day =
-    is_due s today day && nat_le (due_day p s.stamp today) (today + delay_or 14 s.stamp.delay) && nat_lt today (due_day p s.stamp today)
+    is_due s today day && nat_le (due_day p s.stamp today) (today + delay_or WARNING_DAYS s.stamp.delay) && nat_lt today (due_day p s.stamp today)
 is_shown p LateDeadline s today day = is_due s today day && nat_lt s.stamp.day today
 
 -- the times that a row shows of a range's copy that begins on a day: its first day shows the start, and the second's start

@@ -6,7 +6,7 @@ ghost use Rattle.org_agenda.specs.Results.{Gathers};
 ghost use Rattle.org_agenda.specs.Spread.{seen_kind, seen_rows};
 ghost use Rattle.org_agenda.specs.declared.lists.TheConstants.{PRIORITIES};
 ghost use Rattle.org_index.specs.Delays.{delay_or};
-ghost use Rattle.org_index.specs.declared.delays.TheConstants.{DELAY_LIMIT};
+ghost use Rattle.org_index.specs.declared.delays.TheConstants.{DELAY_LIMIT, WARNING_DAYS};
 ghost use Rattle.org_repeat.specs.Decided.{occurs};
 
 use crate::buckets::Buckets;
@@ -16,7 +16,7 @@ use crate::standpoint::Standpoint;
 use org_base::Profile;
 use org_cal::{Day, TimeOfDay};
 use org_entry::Role;
-use org_index::{days_in, delay_or};
+use org_index::{WARNING_DAYS, days_in, delay_or};
 use org_repeat::{next_after, occurs_on, range_start};
 use org_stamp::{Delay, Stamp};
 use std::alloc::AllocError;
@@ -117,11 +117,11 @@ fn is_shown(kind: RowKind, source: &Source, standpoint: &Standpoint, day: Day) -
     }
 }
 
-// Whether the day of a number is ahead, by at most 14 days, or those of a delay if there is one.
+// Whether the day of a number is ahead, by at most [`WARNING_DAYS`], or those of a delay if there is one.
 fn comes_near(due: u32, delay: Option<Delay>, today: Day) -> bool
-    ensures { result ≡ (nat_le due (today + delay_or 14 delay) && nat_lt today due) }
+    ensures { result ≡ (nat_le due (today + delay_or WARNING_DAYS delay) && nat_lt today due) }
 {
-    due <= today.number() + delay_or(14, delay) && today.number() < due
+    due <= today.number() + delay_or(WARNING_DAYS, delay) && today.number() < due
 }
 
 fn times_of(

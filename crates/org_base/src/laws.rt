@@ -2,7 +2,7 @@
 ghost use Rattle.org_base.specs.Examples.{ExamplesHold};
 ghost use Rattle.org_base.specs.Limits.{LimitsAreNamed};
 
-/// There are at most 256 files.
+/// There are at most 256 files, and an agenda has at most 366 days.
 pub fn limits_are_named()
     ensures { LimitsAreNamed }
 {}

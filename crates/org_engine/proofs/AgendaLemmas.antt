@@ -15,7 +15,7 @@ use Rattle.org_layout.specs.declared.shown.Line.{Line}
 use Rattle.org_engine.specs.Outlines.{scopes_of}
 use Rattle.org_cal.specs.Faults.{date_fault}
 use Rattle.org_cal.specs.Texts.{date_of}
-use Rattle.org_engine.specs.declared.limits.TheConstants.{MOST_DAYS}
+use Rattle.org_base.specs.declared.limits.TheConstants.{MOST_DAYS}
 use Rattle.org_engine.specs.Questions.{asked_agenda, asked_days, asked_from, days_fault}
 use Rattle.org_engine.specs.Step.{DayAgenda, Unread}
 use Rattle.org_engine.specs.Examined.{near_in_world}

@@ -9,11 +9,11 @@ use Rattle.org_expression.specs.Grammar.{Expr}
 use Rattle.org_engine.specs.Step.{Command, AddFile, DropFile, EditFile, Complete, At, Inherit, SetProfile, PinWorld, Unpin, TextOf, KeywordsOf, Version, Ask, Question, ClockTable, Serial, Refused, file_named, step}
 use Rattle.org_engine.specs.World.{FileView, State}
 use Rattle.org_engine.specs.declared.question.Form.{Form}
-use Rattle.org_engine.specs.declared.limits.TheConstants.{LAST_SERIAL, MOST_DAYS, MOST_SESSIONS}
+use Rattle.org_engine.specs.declared.limits.TheConstants.{LAST_SERIAL, MOST_SESSIONS}
 
--- serials end at 10^18, sessions are 1 to 64, and an agenda has at most 366 days
+-- serials end at 10^18, and sessions are 1 to 64
 abbrev pub LimitsAreNamed : Type 0
-LimitsAreNamed = (LAST_SERIAL ≡ 1_000_000_000_000_000_000) × (MOST_SESSIONS ≡ 64) × (MOST_DAYS ≡ 366)
+LimitsAreNamed = (LAST_SERIAL ≡ 1_000_000_000_000_000_000) × (MOST_SESSIONS ≡ 64)
 
 -- the names of files, in order
 abbrev pub names_in : List FileView → List (List ℕ)

@@ -13,12 +13,11 @@ ghost use Rattle.org_engine.specs.Step.{DayAgenda, Unread};
 ghost use Rattle.org_engine.specs.Places.{IsDays, agenda_in, days_shown};
 ghost use Rattle.org_engine.specs.Views.{days_over};
 
-use crate::limits::MOST_DAYS;
 use crate::question::Form;
 use crate::shows::{Shows, view_of};
 use crate::world::World;
 use org_agenda::{Agenda, Stamps, Standpoint};
-use org_base::{Code, Fault, Meter, Profile};
+use org_base::{Code, Fault, MOST_DAYS, Meter, Profile};
 use org_cal::{Day, LAST_DAY};
 use org_inherit::Inherits;
 use org_kept::FileOutline;

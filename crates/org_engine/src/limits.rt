@@ -5,6 +5,3 @@ pub const LAST_SERIAL: u64 = 1_000_000_000_000_000_000;
 
 /// The most sessions; they are numbered from 1.
 pub const MOST_SESSIONS: u64 = 64;
-
-/// The most days that an agenda has.
-pub const MOST_DAYS: u32 = 366;

@@ -4,6 +4,7 @@ use Rattle.org_base.specs.declared.profile.Profile.{Profile}
 use Rattle.org_base.specs.declared.profile.Profile.TheVariants.{One, Two}
 use Rattle.org_stamp.specs.declared.stamp.Stamp.{Stamp}
 use Rattle.org_index.specs.Delays.{delay_or}
+use Rattle.org_index.specs.declared.delays.TheConstants.{WARNING_DAYS}
 use Rattle.org_index.specs.declared.extent.Extent.{Extent}
 
 -- it repeats: in the first profile a range doesn't, in the second it does
@@ -23,6 +24,6 @@ extent_of p s = record {
   first = s.day;
   last = last_day s.day s.last;
   delayed = s.day + delay_or 0 s.delay;
-  warned = s.day - delay_or 14 s.delay;
+  warned = s.day - delay_or WARNING_DAYS s.delay;
   repeats = repeats p s;
 }

@@ -4,7 +4,9 @@ use Rattle.std.specs.declared.cmp.Ordering.{Ordering}
 use Rattle.std.specs.Ordering.{nat_cmp, ordering_then}
 use Rattle.std.specs.BTreeMap.{BTreeMap, get}
 use Rattle.std.specs.BTreeSet.{BTreeSet, contains}
+use Rattle.org_index.specs.declared.delays.TheConstants.{WARNING_DAYS}
 use Rattle.org_index.specs.declared.extent.Extent.{Extent}
+use Rattle.org_index.specs.declared.spots.TheConstants.{DAY_LIMIT}
 
 -- days first, ids of one day next
 abbrev pub spot_cmp : ℕ × ℕ → ℕ × ℕ → Ordering
@@ -42,11 +44,11 @@ class_of n = if nat_lt n 8 then 0 else (if nat_lt n 64 then 1 else (if nat_lt n 
 
 -- the lengths of a class are below this
 abbrev pub bound_of : ℕ → ℕ
-bound_of j = if j == 0 then 8 else (if j == 1 then 64 else (if j == 2 then 512 else (if j == 3 then 4_096 else (if j == 4 then 32_768 else (if j == 5 then 262_144 else 4_194_304)))))
+bound_of j = if j == 0 then 8 else (if j == 1 then 64 else (if j == 2 then 512 else (if j == 3 then 4_096 else (if j == 4 then 32_768 else (if j == 5 then 262_144 else DAY_LIMIT)))))
 
 -- a day in a class of ranges
 abbrev pub class_day : ℕ → ℕ → ℕ
-class_day j day = 4_194_304 * j + day
+class_day j day = DAY_LIMIT * j + day
 
 -- what classes of ranges have from so many days before a day on, as many as their lengths allow, up to it
 abbrev pub AddsRanges : BTreeSet (ℕ × ℕ) → ℕ → BTreeSet ℕ → Type 0
@@ -64,7 +66,7 @@ abbrev pub delayed_day : Extent → Option ℕ
 delayed_day e = if e.delayed == e.first then None else Some e.delayed
 
 abbrev pub warned_day : Extent → Option ℕ
-warned_day e = if e.warned == e.first - 14 then None else Some e.warned
+warned_day e = if e.warned == e.first - WARNING_DAYS then None else Some e.warned
 
 abbrev pub range_day : Extent → Option ℕ
 range_day e = if nat_lt e.first e.last then Some (class_day (class_of (e.last - e.first)) e.first) else None

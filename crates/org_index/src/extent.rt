@@ -2,7 +2,7 @@
 ghost use Rattle.std.specs.Prelude.{◌≡◌};
 ghost use Rattle.org_index.specs.Extents.{extent_of, last_day, repeats};
 
-use crate::delays::delay_or;
+use crate::delays::{WARNING_DAYS, delay_or};
 use org_base::Profile;
 use org_cal::{Day, TimeOfDay};
 use org_stamp::Stamp;
@@ -32,7 +32,7 @@ impl Extent {
             first: stamp.day,
             last: last_day(stamp.day, stamp.last),
             delayed: day + delay_or(0, stamp.delay),
-            warned: day.saturating_sub(delay_or(14, stamp.delay)),
+            warned: day.saturating_sub(delay_or(WARNING_DAYS, stamp.delay)),
             repeats: repeats(stamp, profile),
         }
     }

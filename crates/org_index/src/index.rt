@@ -10,11 +10,14 @@ ghost use Rattle.org_index.specs.Extents.{extent_of};
 ghost use Rattle.org_index.specs.Lane.{AddsRanges, Keeps};
 ghost use Rattle.org_index.specs.Near.{AreCandidates, AreTouching, CountsCandidates, CountsTouching, HasCandidates, candidate_ids, is_candidate, touching_ids, with_extent};
 ghost use Rattle.org_index.specs.Ticks.{examined};
+ghost use Rattle.org_index.specs.declared.spots.TheConstants.{DAY_LIMIT};
 
+use crate::delays::WARNING_DAYS;
 use crate::extent::Extent;
-use crate::lane::{clear, gather, gather_if, place};
+use crate::lane::{gather, gather_if};
+use crate::lanes::Lanes;
 use crate::near::lies_in;
-use crate::spots::{bound_of, delayed_day, own_day, range_day, repeated_day, warned_day};
+use crate::spots::{DAY_LIMIT, bound_of};
 use org_base::{Fault, Meter, Profile, Tick};
 use org_cal::Day;
 use org_stamp::Stamp;
@@ -28,23 +31,19 @@ use std::marker::Model;
 pub struct DayIndex {
     alloc: Global,
     extents: BTreeMap<u32, Extent>,
-    days: BTreeSet<(u32, u32)>,
-    repeating: BTreeSet<(u32, u32)>,
-    delayed: BTreeSet<(u32, u32)>,
-    warned: BTreeSet<(u32, u32)>,
-    ranges: BTreeSet<(u32, u32)>,
+    lanes: Lanes,
 }
 
 impl Model for DayIndex {
     ghost use Rattle.std.specs.Prelude.{ℕ, List};
     ghost use Rattle.org_index.specs.declared.extent.Extent.{Extent as AnyExtent};
-    ghost use Rattle.org_index.specs.Lane.{Fits, own_day, repeated_day, delayed_day, warned_day, range_day};
+    ghost use Rattle.org_index.specs.Lanes.{AreLanesOf};
 
     ghost Value = { List (ℕ × AnyExtent) };
 
     ghost view = { λ x. x.extents.entries };
 
-    ghost invariant = { λ x. Fits own_day x.extents x.days × Fits repeated_day x.extents x.repeating × Fits delayed_day x.extents x.delayed × Fits warned_day x.extents x.warned × Fits range_day x.extents x.ranges };
+    ghost invariant = { λ x. AreLanesOf x.extents x.lanes };
 }
 
 fn keep(extents: &mut BTreeMap<u32, Extent>, id: u32, extent: Extent) -> Result<(), AllocError>
@@ -58,6 +57,12 @@ fn keep(extents: &mut BTreeMap<u32, Extent>, id: u32, extent: Extent) -> Result<
     Ok(())
 }
 
+fn copy_of(extents: &BTreeMap<u32, Extent>) -> Result<BTreeMap<u32, Extent>, AllocError>
+    ensures { IfOk result (λ copy. copy.entries ≡ extents.now.entries) }
+{
+    extents.clone()
+}
+
 impl DayIndex {
     /// Without stamps.
     pub fn new(alloc: Global) -> DayIndex
@@ -66,11 +71,7 @@ impl DayIndex {
         DayIndex {
             alloc,
             extents: BTreeMap::new(alloc),
-            days: BTreeSet::new(alloc),
-            repeating: BTreeSet::new(alloc),
-            delayed: BTreeSet::new(alloc),
-            warned: BTreeSet::new(alloc),
-            ranges: BTreeSet::new(alloc),
+            lanes: Lanes::new(alloc),
         }
     }
 
@@ -98,35 +99,12 @@ impl DayIndex {
         ensures ok { OnOk result (self.new ≡ with_extent self.old id extent.now) }
         ensures err { OnErr result (self.new ≡ self.old) }
     {
-        place(&mut self.days, own_day(extent), id)?;
-        if let Err(refused) = place(&mut self.repeating, repeated_day(extent), id) {
-            clear(&mut self.days, own_day(extent), id);
-            return Err(refused);
-        }
-        if let Err(refused) = place(&mut self.delayed, delayed_day(extent), id) {
-            clear(&mut self.days, own_day(extent), id);
-            clear(&mut self.repeating, repeated_day(extent), id);
-            return Err(refused);
-        }
-        if let Err(refused) = place(&mut self.warned, warned_day(extent), id) {
-            clear(&mut self.days, own_day(extent), id);
-            clear(&mut self.repeating, repeated_day(extent), id);
-            clear(&mut self.delayed, delayed_day(extent), id);
-            return Err(refused);
-        }
-        if let Err(refused) = place(&mut self.ranges, range_day(extent), id) {
-            clear(&mut self.days, own_day(extent), id);
-            clear(&mut self.repeating, repeated_day(extent), id);
-            clear(&mut self.delayed, delayed_day(extent), id);
-            clear(&mut self.warned, warned_day(extent), id);
+        if let Err(refused) = self.lanes.place(extent, id) {
+            self.lanes.clear(extent, id);
             return Err(refused);
         }
         if let Err(refused) = keep(&mut self.extents, id, *extent) {
-            clear(&mut self.days, own_day(extent), id);
-            clear(&mut self.repeating, repeated_day(extent), id);
-            clear(&mut self.delayed, delayed_day(extent), id);
-            clear(&mut self.warned, warned_day(extent), id);
-            clear(&mut self.ranges, range_day(extent), id);
+            self.lanes.clear(extent, id);
             return Err(refused);
         }
         Ok(())
@@ -140,11 +118,7 @@ impl DayIndex {
         // For the proof alone: the ids of a map ascend.
         let _ordered = self.extents.len();
         if let Some(extent) = self.extents.remove(&id) {
-            clear(&mut self.days, own_day(&extent), id);
-            clear(&mut self.repeating, repeated_day(&extent), id);
-            clear(&mut self.delayed, delayed_day(&extent), id);
-            clear(&mut self.warned, warned_day(&extent), id);
-            clear(&mut self.ranges, range_day(&extent), id);
+            self.lanes.clear(&extent, id);
         }
     }
 
@@ -156,12 +130,8 @@ impl DayIndex {
     {
         Ok(DayIndex {
             alloc: self.alloc,
-            extents: self.extents.clone()?,
-            days: self.days.clone()?,
-            repeating: self.repeating.clone()?,
-            delayed: self.delayed.clone()?,
-            warned: self.warned.clone()?,
-            ranges: self.ranges.clone()?,
+            extents: copy_of(&self.extents)?,
+            lanes: self.lanes.share()?,
         })
     }
 
@@ -203,7 +173,7 @@ impl DayIndex {
     }
 
     fn near_ids(&self, from: u32, to: u32, today: u32) -> Result<Vec<u32>, AllocError>
-        requires days { (1 ≤ from) × (from ≤ to) × (to < 4_194_304) × (today < 4_194_304) }
+        requires days { (1 ≤ from) × (from ≤ to) × (to < DAY_LIMIT) × (today < DAY_LIMIT) }
         ensures exact { IfOk result (λ ids. AreCandidates self.now from to today ids.items) }
         ensures once { IfOk result (λ ids. IsStrictlySortedBy nat_cmp ids.items) }
         ensures ordered { IsStrictlySortedBy nat_cmp (keys_of self.now) }
@@ -242,17 +212,17 @@ fn count_examined(meter: &mut Meter, count: usize)
 
 // The ids among which those of all near stamps are.
 fn gathered(index: &DayIndex, from: u32, to: u32, today: u32) -> Result<BTreeSet<u32>, AllocError>
-    requires days { (1 ≤ from) × (from ≤ to) × (to < 4_194_304) × (today < 4_194_304) }
+    requires days { (1 ≤ from) × (from ≤ to) × (to < DAY_LIMIT) × (today < DAY_LIMIT) }
     ensures all { IfOk result (HasCandidates index.now from to today) }
 {
     let asked = lies_in(from, to, today);
     let mut found = BTreeSet::new(index.alloc);
-    gather(&mut found, &index.days, from, to)?;
-    gather_if(&mut found, &index.days, asked, today + 14)?;
-    gather(&mut found, &index.repeating, 0, to)?;
-    gather(&mut found, &index.delayed, from, to)?;
-    gather_if(&mut found, &index.warned, asked, today)?;
-    gather_ranges(&mut found, &index.ranges, from)?;
+    gather(&mut found, &index.lanes.days, from, to)?;
+    gather_if(&mut found, &index.lanes.days, asked, today + WARNING_DAYS)?;
+    gather(&mut found, &index.lanes.repeating, 0, to)?;
+    gather(&mut found, &index.lanes.delayed, from, to)?;
+    gather_if(&mut found, &index.lanes.warned, asked, today)?;
+    gather_ranges(&mut found, &index.lanes.ranges, from)?;
     Ok(found)
 }
 
@@ -262,13 +232,13 @@ fn gather_ranges(
     ranges: &BTreeSet<(u32, u32)>,
     from: u32,
 ) -> Result<(), AllocError>
-    requires { from < 4_194_304 }
+    requires { from < DAY_LIMIT }
     ensures keeps { OnOk result (Keeps found.old found.new) }
     ensures adds { OnOk result (AddsRanges ranges.now from found.new) }
 {
     let mut class = 0;
     'classes: while class < 7 {
-        let base = 4_194_304 * class;
+        let base = DAY_LIMIT * class;
         let low = from.saturating_sub(bound_of(class));
         gather(found, ranges, base + low, base + from)?;
         class += 1;

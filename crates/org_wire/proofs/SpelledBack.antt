@@ -274,7 +274,7 @@ module _ (second : Bool) where
   framed_back line (frame.Edit seen at del) size is = ap (line_of second) is.0 ∙ edit_back seen at del size is.1 is.2 is.3 is.4
 
 pub lines_are_spelled : LinesAreSpelled
-lines_are_spelled = record {
-  plain = λ second line command. (λ e. subst (λ (l : Line). Spelled second l line) e (spelled_so second line), plain_back second line command);
-  framed = λ second line frame size. (λ e. subst (λ (l : Line). Spelled second l line) e (spelled_so second line), framed_back second line frame size);
+lines_are_spelled second = record {
+  plain = λ line command. (λ e. subst (λ (l : Line). Spelled second l line) e (spelled_so second line), plain_back second line command);
+  framed = λ line frame size. (λ e. subst (λ (l : Line). Spelled second l line) e (spelled_so second line), framed_back second line frame size);
 }

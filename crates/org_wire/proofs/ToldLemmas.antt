@@ -19,13 +19,13 @@ less : (a b : ℕ) → a < b → nat_lt a b ≡ true
 less a b h = grind (arith, nat_tests)
 
 -- a stream that has a byte is cut at its first line feed
-cut_first : (second : Bool) (bytes : List ℕ) → 0 < length bytes → reading_of second bytes ≡ after_cut second (cut_at 10 bytes)
+cut_first : (second : Bool) (bytes : List ℕ) → 0 < length bytes → reading_of second bytes ≡ after_cut (line_of second) (cut_at 10 bytes)
 cut_first second [] some = absurd (omega (arith, some))
 cut_first second (b ∷ bytes) some = refl
 
 module _ (second : Bool) (line rest : List ℕ) (whole : All (λ b. b ≢ 10) line) where
-  cut_here : reading_of second (line ++ 10 ∷ rest) ≡ after_cut second (Some (record { before = line; after = rest }))
-  cut_here = cut_first second (line ++ 10 ∷ rest) (omega (arith, length-append line (10 ∷ rest))) ∙ ap (after_cut second) (cut_back 10 line rest whole)
+  cut_here : reading_of second (line ++ 10 ∷ rest) ≡ after_cut (line_of second) (Some (record { before = line; after = rest }))
+  cut_here = cut_first second (line ++ 10 ∷ rest) (omega (arith, length-append line (10 ∷ rest))) ∙ ap (after_cut (line_of second)) (cut_back 10 line rest whole)
 
   pub too_long : 4096 < length line → reading_of second (line ++ 10 ∷ rest) ≡ record { next = next.Refused (Plain code.Long); rest = rest }
   too_long long = cut_here ∙ rw (less 4096 (length line) long) refl
@@ -45,6 +45,6 @@ framed_streams second = (
         ∙ rw (not_less 67_108_864 (length bytes) small, not_less (length (bytes ++ rest)) (length bytes) (omega (arith, length-append bytes rest)), take-append_seam bytes rest, drop-append_seam bytes rest) refl;
     size = λ frame n short is large. said second line rest whole (Framed frame n) short is ∙ rw (less 67_108_864 n large) refl;
     short = λ frame n short is small early. said second line rest whole (Framed frame n) short is ∙ rw (not_less 67_108_864 n small, less (length rest) n early) refl;
-    unended = λ some. cut_first second line some ∙ ap (after_cut second) (no_cut 10 line whole);
+    unended = λ some. cut_first second line some ∙ ap (after_cut (line_of second)) (no_cut 10 line whole);
   },
 )

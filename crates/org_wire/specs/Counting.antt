@@ -3,7 +3,7 @@ use Rattle.std.specs.Prelude.{◌≡◌, ℕ, Bool, List, [], ◌∷◌, Option,
 use Rattle.org_engine.specs.Marks.{Reads}
 use Rattle.org_engine.specs.World.{EngineView}
 use Rattle.org_wire.specs.Run.{Turn}
-use Rattle.org_wire.specs.Stream.{reading_of}
+use Rattle.org_wire.specs.Stream.{line_of, reading_of}
 use Rattle.org_wire.specs.Turns.{CountsFor}
 use Rattle.org_wire.specs.declared.command.Next.{Next}
 use Rattle.org_wire.specs.declared.command.Next.TheVariants.{Given, Refused, Last, Ended}
@@ -12,14 +12,12 @@ use Rattle.org_wire.specs.declared.reply.Reply.{Reply}
 -- a command counts no more than it may, and nothing else that is read counts
 abbrev pub CountsSo : Next → EngineView → EngineView → Type 0
 CountsSo (Given command) old new = CountsFor command old new
-CountsSo (Refused fault) old new = new.counts ≡ old.counts
-CountsSo (Last fault) old new = new.counts ≡ old.counts
-CountsSo Ended old new = new.counts ≡ old.counts
+CountsSo _ old new = new.counts ≡ old.counts
 
 -- one turn of an engine, and behind it at most so many background steps, which leave the state and count one section each
 pub record CountedTurn (idle : ℕ) (second : Bool) (bytes : List ℕ) (old : EngineView) (answer : Reply) (new : EngineView) : Type 0 where
   pub mid : EngineView
-  pub turn : Turn second bytes old.state answer mid.state
+  pub turn : Turn second (line_of second) bytes old.state answer mid.state
   pub counts : CountsSo (reading_of second bytes).next old mid
   pub state : new.state ≡ mid.state
   pub steps : Reads idle mid new

@@ -14,7 +14,8 @@ use Rattle.org_engine.specs.Questions.{AsksMatch, AsksOf, AsksTable, asked_agend
 use Rattle.org_engine.specs.Step as step
 use Rattle.org_engine.specs.declared.question.Form.TheVariants as form
 use Rattle.org_wire.specs.Replies.{reply_bytes, fault_bytes}
-use Rattle.org_wire.specs.Stream.{reading_of, IsReplaceable, IsUnfinished}
+use Rattle.org_wire.specs.Spelled.{IsSpelled}
+use Rattle.org_wire.specs.Stream.{IsReplaceable, IsUnfinished, Line, read_by}
 use Rattle.org_wire.specs.declared.command.Command.{Command}
 use Rattle.org_wire.specs.declared.command.Request.{Request}
 use Rattle.org_wire.specs.declared.command.Command.TheVariants.{Add, Agenda, At, Clock, Complete, Drop, Edit, Inherit, Keywords, Match, Pin, Profile, Text, Todo, Unpin, Version}
@@ -97,18 +98,17 @@ abbrev pub AnswersSo : Bool → Next → State → Reply → State → Type 0
 AnswersSo second (Given command) old answer new =
     (said : step.Command) × Means command old said × (answer ≡ told_to second command old (step.step said old).reply) × (new ≡ (step.step said old).after)
 AnswersSo second (Refused fault) old answer new = (answer ≡ reply.Refused fault) × (new ≡ old)
-AnswersSo second (Last fault) old answer new = ⊥
-AnswersSo second Ended old answer new = ⊥
+AnswersSo second _ old answer new = ⊥
 
 -- one turn: the reply to what stands first on the stream, or want of memory with the state unchanged
-pub record Turn (second : Bool) (bytes : List ℕ) (old : State) (answer : Reply) (new : State) : Type 0 where
-  pub done : (answer ≡ out_of_memory → ⊥) → AnswersSo second (reading_of second bytes).next old answer new
-  pub memory : answer ≡ out_of_memory → (new ≡ old) × IsReplaceable (reading_of second bytes).next
+pub record Turn (second : Bool) (says : List ℕ → Line) (bytes : List ℕ) (old : State) (answer : Reply) (new : State) : Type 0 where
+  pub done : (answer ≡ out_of_memory → ⊥) → AnswersSo second (read_by says bytes).next old answer new
+  pub memory : answer ≡ out_of_memory → (new ≡ old) × IsReplaceable (read_by says bytes).next
 
 -- these are the replies to what stands first on the stream; then these bytes and this state are left
-abbrev pub Runs : Bool → List ℕ → State → List Reply → List ℕ → State → Type 0
-Runs second bytes old [] rest new = (rest ≡ bytes) × (new ≡ old)
-Runs second bytes old (answer ∷ answers) rest new = (mid : State) × Turn second bytes old answer mid × Runs second (reading_of second bytes).rest mid answers rest new
+abbrev pub Runs : Bool → (List ℕ → Line) → List ℕ → State → List Reply → List ℕ → State → Type 0
+Runs second says bytes old [] rest new = (rest ≡ bytes) × (new ≡ old)
+Runs second says bytes old (answer ∷ answers) rest new = (mid : State) × Turn second says bytes old answer mid × Runs second says (read_by says bytes).rest mid answers rest new
 
 -- what is written of replies
 abbrev pub written : List Reply → List ℕ
@@ -117,24 +117,21 @@ written answers = flat_map reply_bytes answers
 -- what is written where the stream stops at a fault
 abbrev pub last_bytes : Next → List ℕ
 last_bytes (Last fault) = fault_bytes fault
-last_bytes (Given command) = []
-last_bytes (Refused fault) = []
-last_bytes Ended = []
+last_bytes _ = []
 
 -- how a run ends at the last reading
 abbrev pub EndsSo : Next → End → Type 0
 EndsSo Ended end = end ≡ Done
 EndsSo (Last fault) end = end ≡ Stopped (code_of fault)
-EndsSo (Given command) end = ⊥
-EndsSo (Refused fault) end = ⊥
+EndsSo _ end = ⊥
 
 -- the whole stream was answered
-pub record IsWhole (second : Bool) (bytes : List ℕ) (old : State) (end : End) (new : State) (had has : Option (List ℕ)) : Type 0 where
+pub record IsWhole (second : Bool) (says : List ℕ → Line) (bytes : List ℕ) (old : State) (end : End) (new : State) (had has : Option (List ℕ)) : Type 0 where
   pub answers : List Reply
   pub rest : List ℕ
-  pub runs : Runs second bytes old answers rest new
-  pub ends : EndsSo (reading_of second rest).next end
-  pub wrote : Appends had has (written answers ++ last_bytes (reading_of second rest).next)
+  pub runs : Runs second says bytes old answers rest new
+  pub ends : EndsSo (read_by says rest).next end
+  pub wrote : Appends had has (written answers ++ last_bytes (read_by says rest).next)
 
 -- what a failed write was to write: a reply, or else what stands for the fault at which the stream stops
 abbrev pub cut_bytes : Option Reply → Next → List ℕ
@@ -142,14 +139,14 @@ cut_bytes (Some answer) next = reply_bytes answer
 cut_bytes None next = last_bytes next
 
 -- a front of the stream was answered; all replies but the last were written, and of the last a front
-pub record IsFront (second : Bool) (bytes : List ℕ) (old new : State) (had has : Option (List ℕ)) : Type 0 where
+pub record IsFront (second : Bool) (says : List ℕ → Line) (bytes : List ℕ) (old new : State) (had has : Option (List ℕ)) : Type 0 where
   pub answers : List Reply
   pub cut : Option Reply
   pub rest : List ℕ
-  pub runs : Runs second bytes old (answers ++ option_to_list cut) rest new
+  pub runs : Runs second says bytes old (answers ++ option_to_list cut) rest new
   pub part : List ℕ
   pub lost : List ℕ
-  pub is : cut_bytes cut (reading_of second rest).next ≡ part ++ lost
+  pub is : cut_bytes cut (read_by says rest).next ≡ part ++ lost
   pub wrote : Appends had has (written answers ++ part)
 
 -- the end after a failed call
@@ -161,26 +158,34 @@ abbrev pub unbegun : End
 unbegun = Stopped Memory
 
 -- a run over a stream: the whole of it, or up to the first failed call
-pub record IsRun (second : Bool) (bytes : List ℕ) (old : State) (end : End) (new : State) (had has : Option (List ℕ)) : Type 0 where
-  pub whole : (end ≡ broken → ⊥) → IsWhole second bytes old end new had has
-  pub front : end ≡ broken → IsFront second bytes old new had has
+pub record IsRun (second : Bool) (says : List ℕ → Line) (bytes : List ℕ) (old : State) (end : End) (new : State) (had has : Option (List ℕ)) : Type 0 where
+  pub whole : (end ≡ broken → ⊥) → IsWhole second says bytes old end new had has
+  pub front : end ≡ broken → IsFront second says bytes old new had has
 
 -- the same of the known bytes of a stream, of a writer and of an engine
-abbrev pub IsRunOver : {W : Type 0} → Bool → (W → Option (List ℕ)) → Option (List ℕ) → CountedView W → EngineView → End → CountedView W → EngineView → Type 0
-IsRunOver second contents stream had old end has new =
-    IfSome stream (λ bytes. IsRun second bytes old.state end new.state (contents had.inner) (contents has.inner))
+abbrev pub IsRunOver : {W : Type 0} → Bool → (List ℕ → Line) → (W → Option (List ℕ)) → Option (List ℕ) → CountedView W → EngineView → End → CountedView W → EngineView → Type 0
+IsRunOver second says contents stream had old end has new =
+    IfSome stream (λ bytes. IsRun second says bytes old.state end new.state (contents had.inner) (contents has.inner))
 
 -- all commands that are whole in the bytes taken were answered, and these are the bytes that the reader still holds
-pub record AnswersTaken (second : Bool) (bytes : List ℕ) (old new : State) (had has held : Option (List ℕ)) : Type 0 where
+pub record AnswersTaken (second : Bool) (says : List ℕ → Line) (bytes : List ℕ) (old new : State) (had has held : Option (List ℕ)) : Type 0 where
   pub answers : List Reply
   pub rest : List ℕ
   pub part : List ℕ
-  pub runs : Runs second bytes old answers rest new
+  pub runs : Runs second says bytes old answers rest new
   pub wrote : Appends had has (written answers)
   pub taken : Consumes (Some rest) held part
-  pub ends : IsUnfinished (reading_of second part).next
+  pub ends : IsUnfinished (read_by says part).next
 
 -- the same of the known bytes of a stream, of those that its reader still holds, of a writer and of an engine
-abbrev pub AnswersAllTaken : {W : Type 0} → Bool → (W → Option (List ℕ)) → Option (List ℕ) → CountedView W → EngineView → Option (List ℕ) → CountedView W → EngineView → Type 0
-AnswersAllTaken second contents stream had old held has new =
-    IfSome stream (λ bytes. AnswersTaken second bytes old.state new.state (contents had.inner) (contents has.inner) held)
+abbrev pub AnswersAllTaken : {W : Type 0} → Bool → (List ℕ → Line) → (W → Option (List ℕ)) → Option (List ℕ) → CountedView W → EngineView → Option (List ℕ) → CountedView W → EngineView → Type 0
+AnswersAllTaken second says contents stream had old held has new =
+    IfSome stream (λ bytes. AnswersTaken second says bytes old.state new.state (contents had.inner) (contents has.inner) held)
+
+-- the same of lines that say what they spell
+abbrev pub IsSpelledRun : {W : Type 0} → Bool → (W → Option (List ℕ)) → Option (List ℕ) → CountedView W → EngineView → End → CountedView W → EngineView → Type 0
+IsSpelledRun second contents stream had old end has new = (says : List ℕ → Line) → IsSpelled second says → IsRunOver second says contents stream had old end has new
+
+abbrev pub AnswersAllSpelled : {W : Type 0} → Bool → (W → Option (List ℕ)) → Option (List ℕ) → CountedView W → EngineView → Option (List ℕ) → CountedView W → EngineView → Type 0
+AnswersAllSpelled second contents stream had old held has new =
+    (says : List ℕ → Line) → IsSpelled second says → AnswersAllTaken second says contents stream had old held has new

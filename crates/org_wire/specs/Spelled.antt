@@ -1,6 +1,6 @@
 -- How the stream's lines are spelled, without the reader's steps (profile).
 -- Characters by their codes: 32 space, 124 |.
-use Rattle.std.specs.Prelude.{◌≡◌, Bool, ◌≢◌, ◌⊎◌, ℕ, ◌<◌, ◌≤◌, true, List, [], ◌∷◌, ◌++◌, Option, None, Some, codes, decimal, length}
+use Rattle.std.specs.Prelude.{◌≡◌, ◌↔◌, Bool, ◌≢◌, ◌⊎◌, ℕ, ◌<◌, ◌≤◌, true, List, [], ◌∷◌, ◌++◌, Option, None, Some, codes, decimal, length}
 use Rattle.std.specs.List.{All}
 use Rattle.std.specs.Str.{IsUtf8}
 use Rattle.org_base.specs.FileName.{is_file_name}
@@ -10,7 +10,7 @@ use Rattle.org_cal.specs.Texts.{date_of, time_of}
 use Rattle.org_cal.specs.declared.moment.Moment.{Moment}
 use Rattle.org_engine.specs.declared.question.Form.{Form}
 use Rattle.org_engine.specs.declared.question.Form.TheVariants as form
-use Rattle.org_wire.specs.Stream.{moment_of, most_number}
+use Rattle.org_wire.specs.Stream.{Framed, Line, Plainly, moment_of, most_number}
 use Rattle.org_wire.specs.declared.command.Command.{Command}
 use Rattle.org_wire.specs.declared.command.Command.TheVariants.{Add, Agenda, At, Clock, Complete, Drop, Edit, Inherit, Keywords, Match, Pin, Profile, Text, Todo, Unpin, Version}
 use Rattle.org_wire.specs.declared.command.Frame.{Frame}
@@ -133,3 +133,9 @@ abbrev pub IsFrameLine : Frame → ℕ → List ℕ → Type 0
 IsFrameLine (frame.Add name) size line = (line ≡ spaced (codes "add" ∷ (name ∷ (decimal size ∷ [])))) × IsName name × IsNumber size
 IsFrameLine (frame.Edit seen at del) size line =
     (line ≡ spaced (codes "edit" ∷ (seen_parts seen ++ (decimal at ∷ (decimal del ∷ (decimal size ∷ [])))))) × IsSeen seen × IsNumber at × IsNumber del × IsNumber size
+
+-- this is what lines say: a command exactly where a line is a spelling of that command, a payload of so many bytes that
+-- follows exactly where it is the spelling of a command with one, and else nothing
+pub record IsSpelled (second : Bool) (says : List ℕ → Line) : Type 0 where
+  pub plain : (line : List ℕ) (command : Command) → says line ≡ Plainly command ↔ IsLineOf second command line
+  pub framed : (line : List ℕ) (frame : Frame) (size : ℕ) → says line ≡ Framed frame size ↔ IsFrameLine frame size line

@@ -295,47 +295,37 @@ after_line (Framed frame size) rest = if nat_lt max_bytes size then record { nex
     else if nat_lt (length rest) size then record { next = Last (Plain Cut); rest = [] }
     else record { next = Given (framed frame (take size rest)); rest = drop size rest }
 
--- what comes next, behind the bytes of a line
-abbrev pub behind : Bool → List ℕ → List ℕ → Reading
-behind second line = after_line (line_of second line)
+-- what comes next, after the bytes of a line, where this is what lines say
+abbrev pub behind : (List ℕ → Line) → List ℕ → List ℕ → Reading
+behind says line = after_line (says line)
 
 -- what comes next on a stream that is cut at its first LF
-abbrev pub after_cut : Bool → Option lines.Cut → Reading
-after_cut second None = record { next = Last (Plain Cut); rest = [] }
-after_cut second (Some cut) = if nat_lt longest (length cut.before) then record { next = Refused (Plain Long); rest = cut.after }
-    else behind second cut.before cut.after
+abbrev pub after_cut : (List ℕ → Line) → Option lines.Cut → Reading
+after_cut says None = record { next = Last (Plain Cut); rest = [] }
+after_cut says (Some cut) = if nat_lt longest (length cut.before) then record { next = Refused (Plain Long); rest = cut.after }
+    else behind says cut.before cut.after
 
 -- what comes next on a stream
+abbrev pub read_by : (List ℕ → Line) → List ℕ → Reading
+read_by says [] = record { next = Ended; rest = [] }
+read_by says (b ∷ bytes) = after_cut says (cut_at 10 (b ∷ bytes))
+
+-- the same, as lines are read
 abbrev pub reading_of : Bool → List ℕ → Reading
-reading_of second [] = record { next = Ended; rest = [] }
-reading_of second (b ∷ bytes) = after_cut second (cut_at 10 (b ∷ bytes))
+reading_of second = read_by (line_of second)
 
 -- a command that may take memory: all but those of another moment, of a profile, and of letting go of a world
 abbrev pub MayTakeMemory : Command → Type 0
 MayTakeMemory (At moment) = ⊥
 MayTakeMemory (Profile profile) = ⊥
 MayTakeMemory (Unpin session) = ⊥
-MayTakeMemory (Add name text) = Unit {0}
-MayTakeMemory (Drop name) = Unit {0}
-MayTakeMemory (Edit seen at del ins) = Unit {0}
-MayTakeMemory (Complete seen line keyword) = Unit {0}
-MayTakeMemory (Inherit names) = Unit {0}
-MayTakeMemory (Pin session) = Unit {0}
-MayTakeMemory (Text name) = Unit {0}
-MayTakeMemory (Keywords name) = Unit {0}
-MayTakeMemory Version = Unit {0}
-MayTakeMemory (Todo request file words) = Unit {0}
-MayTakeMemory (Match request file text) = Unit {0}
-MayTakeMemory (Agenda request date days) = Unit {0}
-MayTakeMemory (Clock request text) = Unit {0}
+MayTakeMemory _ = Unit {0}
 
 -- where want of memory may be answered instead: a whole command that may take memory, and not a bad line or a frame's own
 -- checks
 abbrev pub IsReplaceable : Next → Type 0
 IsReplaceable (Given command) = MayTakeMemory command
-IsReplaceable (Refused fault) = ⊥
-IsReplaceable (Last fault) = ⊥
-IsReplaceable Ended = ⊥
+IsReplaceable _ = ⊥
 
 -- a command that found no memory
 abbrev pub out_of_memory : Next
@@ -355,8 +345,7 @@ pub record IsRead (reading : Reading) (next : Next) (left : Option (List ℕ)) :
 abbrev pub IsUnfinished : Next → Type 0
 IsUnfinished Ended = Unit {0}
 IsUnfinished (Last fault) = fault ≡ Plain Cut
-IsUnfinished (Given command) = ⊥
-IsUnfinished (Refused fault) = ⊥
+IsUnfinished _ = ⊥
 
 -- of known bytes so many were taken that no command is whole in them
 abbrev pub StopsWithin : (List ℕ → Reading) → Option (List ℕ) → Option (List ℕ) → Type 0

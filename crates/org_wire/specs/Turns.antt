@@ -12,8 +12,8 @@ use Rattle.org_engine.specs.declared.changes.Completion.{Completion}
 use Rattle.org_engine.specs.declared.question.View.{View}
 use Rattle.org_wire.specs.Devices.{AppendsTo}
 use Rattle.org_wire.specs.Replies.{fault_bytes}
-use Rattle.org_wire.specs.Run.{AnswersSo, Runs, out_of_memory, shown, written}
-use Rattle.org_wire.specs.Stream.{MayTakeMemory}
+use Rattle.org_wire.specs.Run.{AnswersAllTaken, AnswersSo, IsRunOver, Runs, out_of_memory, shown, written}
+use Rattle.org_wire.specs.Stream.{MayTakeMemory, line_of}
 use Rattle.org_wire.specs.declared.command.Command.{Command}
 use Rattle.org_wire.specs.declared.command.Command.TheVariants.{Add, Agenda, At, Clock, Complete, Drop, Edit, Inherit, Keywords, Match, Pin, Profile, Text, Todo, Unpin, Version}
 use Rattle.org_wire.specs.declared.command.Next.{Next}
@@ -30,8 +30,16 @@ pub record IsSoFar (second : Bool) (bytes : List ℕ) (old new : State) (had has
   pub answers : List Reply
   pub rest : List ℕ
   pub left : now ≡ Some rest
-  pub runs : Runs second bytes old answers rest new
+  pub runs : Runs second (line_of second) bytes old answers rest new
   pub wrote : Appends had has (written answers)
+
+-- a run over a stream whose lines are read
+abbrev pub IsReadRun : {W : Type 0} → Bool → (W → Option (List ℕ)) → Option (List ℕ) → CountedView W → EngineView → End → CountedView W → EngineView → Type 0
+IsReadRun second = IsRunOver second (line_of second)
+
+-- all commands that are whole in the bytes taken were answered, as their lines are read
+abbrev pub AnswersAllRead : {W : Type 0} → Bool → (W → Option (List ℕ)) → Option (List ℕ) → CountedView W → EngineView → Option (List ℕ) → CountedView W → EngineView → Type 0
+AnswersAllRead second = AnswersAllTaken second (line_of second)
 
 -- the answer to a command, or want of memory with nothing changed
 pub record IsServed (second : Bool) (command : Command) (old : State) (answer : Reply) (new : State) : Type 0 where
@@ -89,15 +97,7 @@ CountsFor (Clock request text) old new = Looks (pending_asked request.session ol
 CountsFor (Complete seen line keyword) old new = Completes seen.name line keyword old new
 CountsFor (Add name text) old new = Classifies (added_count text) old new
 CountsFor (Edit seen at del ins) old new = Classifies (new_count at del ins (file_named seen.name old.state.world.files)) old new
-CountsFor (Drop name) old new = new.counts ≡ old.counts
-CountsFor (Inherit names) old new = new.counts ≡ old.counts
-CountsFor (At moment) old new = new.counts ≡ old.counts
-CountsFor (Profile profile) old new = new.counts ≡ old.counts
-CountsFor (Pin session) old new = new.counts ≡ old.counts
-CountsFor (Unpin session) old new = new.counts ≡ old.counts
-CountsFor (Text name) old new = new.counts ≡ old.counts
-CountsFor (Keywords name) old new = new.counts ≡ old.counts
-CountsFor Version old new = new.counts ≡ old.counts
+CountsFor _ old new = new.counts ≡ old.counts
 
 -- what was read is answered so
 abbrev pub Answered : Bool → Next → State → Reply → State → Type 0
