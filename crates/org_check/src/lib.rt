@@ -1,8 +1,19 @@
-//! What looks planned in a file and will not show.
+//! What looks planned in a text and will not show: findings, each with its place, kind and remedy.
 //!
-//! A finding says where it stands, of what kind it is, and what stands in its way. A missed deadline is mostly no wrong sum
-//! but a line that looks like planning and isn't: these are such lines. Whatever looks planned and isn't read so has its
-//! finding, and beside these stand tests of what was read and counts for something else.
+//! A missed deadline is mostly no wrong sum but a line that looks like planning and isn't. Whatever looks planned and
+//! isn't read so has its finding, and beside these are tests of what was read and counts for something else.
+//! `docs/findings.md` lists the kinds.
+//!
+//! ```
+//! let about = About {
+//!     settings: &settings,
+//!     others: &others,
+//!     now: moment(),
+//! };
+//! checks(alloc, &mut Meter::new(), text, &about)
+//! ```
+//!
+//! Lines of `org_tests/src/findings.rt`. Tests: `org_tests/src/findings.rt`.
 #![tactic(auto)]
 
 mod beside_kinds;

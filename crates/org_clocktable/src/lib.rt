@@ -1,4 +1,19 @@
-//! Clock tables: their options and their rows.
+//! Clock tables: what their options ask for, and their rows.
+//!
+//! Options are read first, as places in their text, then the block by the moment's day, then the expression. What
+//! doesn't depend on the step is worked out once for each file: the efforts, and a list of the clocks of the headings
+//! that count. A step goes over that list once, keeps the clocks with minutes in its days as a sum that rises from
+//! place to place, and then goes from the last heading with minutes up to the one before it. So it costs the list and
+//! the headings that have a line, with those above them.
+//!
+//! ```
+//! let files = counted_files(alloc, inherits, spec.expression(), &moment)?;
+//! // ..
+//! for period in spec.period().steps(spec.step()) {
+//!     let rows = step_rows(alloc, &period, spec.most(), files.as_slice())?;
+//! ```
+//!
+//! Lines of `orgq/src/table.rt`. Tests: streams `tests/rows/clock-*`.
 #![tactic(auto)]
 
 mod counted;

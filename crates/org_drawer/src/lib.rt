@@ -1,7 +1,19 @@
 //! What the lines under a heading say: its planning line, its property drawer, its clock lines and its effort.
 //!
-//! What is read of a line is what one definition says of it, and nothing exactly where it is no such line. No call but
+//! What is read of a line is what one definition says of it, and nothing exactly where it is no such line. Only
 //! `read_drawer` takes memory.
+//!
+//! ```
+//! match read_clock(line.as_bytes()) {
+//!     Some(clock) => want.parse::<u64>() == Ok(clock.minutes_in(period)),
+//!     None => want == "none",
+//! }
+//! // ..
+//! let lines = lines_of(alloc)?;
+//! read_drawer(alloc, &lines)
+//! ```
+//!
+//! Lines of `org_tests/src/drawer_lines.rt`. Tests: `org_tests/src/drawer_lines.rt`.
 #![tactic(auto)]
 
 mod clock;

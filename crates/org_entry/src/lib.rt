@@ -1,7 +1,22 @@
-//! What one section says, read once and kept as one value.
+//! What one section says, read once and kept as one value: its entry.
 //!
-//! The entry that is read is the one that the definition gives of the section's bytes and the file's settings; its places
-//! count from the section's start. Each law about it is a function in `laws`.
+//! The entry is what the definition gives of the section's bytes and the file's settings. Its places count from the
+//! section's start, so it stays true when the section moves. The heading line is kept, in place up to 56 bytes;
+//! properties, stamps and clocks are kept apart, since most headings have none; the planning line is read of the
+//! entry's text where it is asked for. Files share entries by counts.
+//!
+//! ```
+//! let mut meter = Meter::new();
+//! let classes = classify(alloc, &mut meter, text, span)?;
+//! let document = Document { text, settings };
+//! read_entry(alloc, &mut meter, &document, span, classes.as_slice())
+//! // ..
+//! for stamp in entry.details.stamps() {
+//!     out.push(stamp.at)?;
+//! }
+//! ```
+//!
+//! Lines of `org_tests/src/section_classes.rt`. Tests: `org_tests/src/section_classes.rt`.
 #![tactic(auto)]
 
 mod active;

@@ -1,7 +1,17 @@
 //! Match expressions as they are written: the tree that a text spells, and what its numbers and times stand for.
 //!
-//! A text is read as the one expression of the grammar that it spells, or refused with how far it goes. What an expression
-//! says of a heading is left to those who ask.
+//! A text is read as the one expression of the grammar that it spells, or refused with how far it goes. What an
+//! expression says of a heading is `org_match`'s. The grammar comes before patterns, so a text with both faults is
+//! refused for its grammar.
+//!
+//! ```
+//! pub fn read(alloc: Global, text: &str) -> Result<Match, Fault>
+//! // ..
+//! let written = Expression::read(alloc, text)?;
+//! built(alloc, &written)
+//! ```
+//!
+//! Lines of `org_match/src/read.rt`. Tests: streams `tests/rows/match-*`.
 #![tactic(auto)]
 
 mod decimal;

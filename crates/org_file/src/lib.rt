@@ -1,7 +1,15 @@
-//! Completing a heading of a file with kept sections.
+//! A heading of a file completed: the new text, and the one change that it is.
 //!
-//! The section that begins with the heading is read, if it is still to be read, and nothing else. What comes of it is one
-//! change of the text, with the text that has it.
+//! The section that begins with the heading is read, if it is still to be read, and nothing else. A completion is one
+//! change from the first byte that it replaces to the last, and what is between is put in again: of two changes the
+//! first alone may be over the limit where both together aren't.
+//!
+//! ```
+//! let file = &mut self.files[place];
+//! complete(alloc, meter, file, line, keyword, self.moment)
+//! ```
+//!
+//! Lines of `org_engine/src/world.rt`. Tests: streams `tests/rows/complete-*`.
 #![tactic(auto)]
 
 mod completion;

@@ -1,7 +1,21 @@
 //! What the outline of a file says of a heading beyond its own lines: tags, values, category, and whether it is hidden.
 //!
-//! Each call on an `Inherit` answers what its definition gives of the entries of one file, the file's settings and name,
-//! and the names whose values are inherited. Nothing is changed by any call.
+//! Each call answers what its definition gives of the entries of one file, the file's settings and name, and the names
+//! whose values are inherited. Lists and clock tables make tables once for a question: which headings are hidden, which
+//! have tags, and where a heading has its own category the categories. An agenda asks of few headings, makes none of
+//! these, and goes up from each (`Inherit::by_ancestors`). A heading has more stars than ancestors, so all ways up
+//! together take no more steps than the text has bytes.
+//!
+//! ```
+//! let inherit = outline.inherit(alloc, "a.org", names)?;
+//! gathers_one(&mut Inherits::new(alloc), inherit)
+//! // ..
+//! let mut file = File::new(alloc, &mut Meter::new(), text, 0)?;
+//! file.outlined(alloc, &mut Meter::new())
+//! ```
+//!
+//! Lines of `org_measure/src/outline_calls.rt`. Tests: `org_measure/src/outline_calls.rt`, streams `tests/rows/tags-*`,
+//! `tests/rows/properties-*`.
 #![tactic(auto)]
 
 mod ancestors;

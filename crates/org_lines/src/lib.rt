@@ -1,6 +1,17 @@
-//! The lines of a text.
+//! The lines of a part of a text, lent where they lie in one piece.
 //!
-//! The items of `Lines` are the lines of the span, in order; a line is lent where it lies in one piece of the text.
+//! The items of `Lines` are the lines of the span, in order. It asks the text for a run once and takes line after line
+//! from it, and asks for the next run only where that one ends.
+//!
+//! ```
+//! let mut shown = Vec::new(alloc);
+//! for line in Lines::new(alloc, text, part) {
+//!     push_line(&mut shown, &line?)?;
+//! }
+//! Ok(shown)
+//! ```
+//!
+//! Lines of `org_tests/src/texts.rt`. Tests: `org_tests/src/texts.rt`, `org_sequence_tests/src/pieces.rt`.
 #![tactic(auto)]
 
 mod lines;

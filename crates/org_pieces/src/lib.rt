@@ -1,7 +1,24 @@
-//! A text in shared blocks: a sequence of pieces, each a part of a block that never changes.
+//! A text in shared blocks, for files that are edited.
 //!
-//! `Pieces` meets `Text`, so it is seen as the list of its bytes. An edit makes a block of what it puts in and as many
-//! new nodes as the logarithm of the number of pieces; a shared text shares all of them.
+//! `Pieces` meets `Text`, so it is seen as the list of its bytes. It is a sequence of spans of blocks that never
+//! change. A cut leaves spans of one block; what is put in is a block of its own, joined with small neighbours. An edit
+//! makes as many new nodes as the logarithm of the number of pieces, and a share takes one count.
+//!
+//! Two neighbours have at least 1,024 bytes together, so what is typed byte by byte is in blocks of some hundred bytes,
+//! and a stroke copies 2 KiB at most. A block has at most four times the bytes of each piece in it, and at most 65,536:
+//! what a text holds is bounded by what it says. A text of up to 64 KiB that is added is kept as it came.
+//!
+//! ```
+//! let end = (FRONT.len() + typed.len()) as u64;
+//! if let Some(key) = key {
+//!     text.edit(end, 0, key)?;
+//!     typed.push_str(key)?;
+//! // ..
+//! let mut text = Pieces::of(alloc, "* one\n* two\n")?;
+//! types_and_deletes(alloc, &mut text, 20_000)
+//! ```
+//!
+//! Lines of `org_sequence_tests/src/pieces.rt`. Tests: `org_sequence_tests/src/pieces.rt`.
 #![tactic(auto)]
 
 mod change;

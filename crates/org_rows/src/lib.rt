@@ -1,5 +1,22 @@
-//! What clients ask of rows: where their headings stand in files, which stamps come next, and rows as JSON and as fields
-//! between commas.
+//! Rows for clients: where their headings are in files, which stamps come next, and rows as JSON and as fields between
+//! commas.
+//!
+//! An entry's place in an outline is its section's place in the text, so a row's heading is found by two descents of
+//! the sequence of sections. What comes next is taken from an agenda, day by day: each row that isn't before the
+//! moment, if none of its stamp came yet. Control characters are written in one place, `push_visible`, as JSON, a
+//! person or a field has them.
+//!
+//! ```
+//! let inherits = library.inherits()?;
+//! // ..
+//! let files = FilesRead {
+//!     library,
+//!     inherits: &inherits,
+//! };
+//! let text = printed(rt.alloc(), &files, &answer, look)?;
+//! ```
+//!
+//! Lines of `orgq/src/session.rt`. Tests: cases `tests/orgq/*`.
 #![tactic(auto)]
 
 mod fields;

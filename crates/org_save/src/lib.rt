@@ -3,15 +3,23 @@
 //! `replace` is proved over a `Store`, a file and those beside it: whatever fails, and wherever it is stopped, the file has the
 //! text that it had or the new one, whole. `Disk` is the system's files, `Memory` files for tests.
 //!
+//! No contract can say what a real file holds, so clauses speak of the events that a store notes, and `disk.rt` is short and read by
+//! people. `Record::new` and `Record::note` are proved by hand: they make and change a ghost value of no bytes.
+//!
 //! ```
-//! let mut opened = org_save::open(&rt, "a.org")?; // links are followed, and the file is locked
-//! let old = opened.disk.read(rt.alloc(), Name::Target)?;
-//! let new = changed(&old)?;
-//! let saved = org_save::replace(rt.alloc(), &mut opened.disk, &old, &new)?;
-//! if saved.meanwhile == Meanwhile::Rescued {
-//!     // Another program wrote at the same moment: what the former file has stands at `opened.disk.rescue()`.
+//! match open(rt, path) {
+//!     Ok(mut opened) => append_to(rt, path, &mut opened, line),
+//!     Err(why) => refused(rt, path, &why),
 //! }
+//! // ..
+//! match replace(rt.alloc(), disk, old, &new) {
+//!     Ok(saved) => {
+//!         say(rt, path, saved, disk.rescue());
+//!         DONE
+//!     }
 //! ```
+//!
+//! Lines of `org_measure/src/append.rt`. Tests: `org_tests/src/saves.rt`, `tests/saves.sh` on a real disk.
 #![tactic(auto)]
 
 mod access;

@@ -1,10 +1,25 @@
 //! A persistent balanced sequence of measured items.
 //!
-//! A sequence is seen as the list of its items' values, and nothing else. Its items count in two measures, a size and
-//! a number of lines, and may bear two signs, a mark and a flag. Sums of these are kept, so that the item at a place
-//! and the first item that bears a sign are found in as many steps as the logarithm of the number of items; as many
-//! nodes does an edit make anew. What is shared is shared by one count, and no later edit of one sequence reaches
-//! another.
+//! It is seen as the list of its items' values. An item has a size, may count lines, and may bear a mark and a flag;
+//! sums of these are kept, so the item at a place and the first item with a sign are found in as many steps as the
+//! logarithm of their number. One tree serves pieces of a text and sections of a file, and knows neither.
+//!
+//! Leaves hold up to 32 items: with 16 the first marked item is set sooner and iterating is slower, with 64 the other
+//! way round. Above them the tree is balanced by height, at most about twice the logarithm high. Every edit is a cut
+//! and two joins along one path. Nodes never change, so what is shared stays as it was, and a refused edit has nothing
+//! to undo. No item is empty and none counts more lines than it is long, so one bound covers every sum.
+//!
+//! ```
+//! if from > to || to > sequence.len() || sequence.size().checked_add(more).is_none() {
+//!     return Ok(false);
+//! }
+//! sequence.replace(from, to, items)?;
+//! // ..
+//! for item in sequence {
+//!     if rest.next() != Some(&item.0) {
+//! ```
+//!
+//! Lines of `org_sequence_tests/src/sequence.rt`. Tests: `org_sequence_tests/src/sequence.rt`.
 #![tactic(auto)]
 
 mod items;

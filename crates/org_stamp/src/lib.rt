@@ -1,8 +1,22 @@
 //! Timestamps: the grammar of Org's stamps and ranges, read from lines and printed.
 //!
-//! What is read is a stamp of the grammar and the longest at its place; a line's iterator misses none; what the
-//! grammar gives is printed and read again as it was. The pairs of planning lines and the stamps of clock lines are read by
-//! one definition with the tests of whether a line is such. No call but `print_stamp` takes memory.
+//! What is read is a stamp of the grammar, and the longest at its place; a line's iterator misses none. What the
+//! grammar gives is printed and read again as it was. The pairs of planning lines and the stamps of clock lines are
+//! read here too. Only `print_stamp` takes memory. The bounds on numbers are a predicate beside the types (`CanPrint`),
+//! which the readers promise.
+//!
+//! ```
+//! match read_stamp(text.as_bytes(), 0) {
+//!     Some((stamp, _)) => Ok(print_stamp(alloc, &stamp)?.as_str() == want),
+//!     None => Ok(false),
+//! }
+//! // ..
+//! for stamp in stamps_in(line) {
+//!     push_place(&mut found, alloc, stamp.at, stamp.len)?;
+//! }
+//! ```
+//!
+//! Lines of `org_tests/src/stamps.rt`. Tests: `org_tests/src/stamps.rt`.
 #![tactic(auto)]
 
 mod inner;
