@@ -107,7 +107,8 @@ if [ -z "$stopped" ]; then
         [ -n "$(ls "crates/$crate/must-fail" 2> /dev/null)" ] || continue
         step "the must-fail edits of $crate" . rt must-fail "$crate"
     done
-    step "what docs/definitions.md names" . sh tests/shown.sh
+    step "what the tables of definitions name" . sh tests/shown.sh
+    step "what the pages say of the sources" . sh tests/pages.sh
     step "the worked streams" . make --no-print-directory rows
     step "orgq beside orgviews" . make --no-print-directory orgq-test
     step "refused memory, and reads and writes that fail" . make --no-print-directory faults

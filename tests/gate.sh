@@ -1,8 +1,8 @@
 #!/bin/sh
-# The whole gate. The last line is 'N passed, M failed', over the checks of `rt ci`, what docs/definitions.md names, the
+# The whole gate. The last line is 'N passed, M failed', over the checks of `rt ci`, what the tables of definitions name, the
 # worked streams, what the program does where memory is refused and reads and writes fail, and what is looked at first since
 # it takes seconds: whether each must-fail edit can be applied, each file is in the formatter's layout, no crate of the store
-# stands on views, and the number of a rule stands once.
+# stands on views, the number of a rule stands once, and what the pages say of the sources is so.
 cd "$(dirname "$0")/.." || exit 2
 work=$(mktemp -d) || exit 2
 watcher=""
@@ -29,11 +29,12 @@ counted() {
 passed=0
 failed=0
 start=$(date +%s)
-echo "gate: whether each must-fail edit can be applied, each file is in the formatter's layout, no crate of the store stands on views, and numbers of rules stand once"
+echo "gate: whether each must-fail edit can be applied, each file is in the formatter's layout, no crate of the store stands on views, numbers of rules stand once, and what the pages say of the sources is so"
 counted edits
 counted layout
 counted layers
 counted rules
+counted pages
 if [ "$failed" -gt 0 ]; then
     echo "gate: nothing else was tried"
     echo "$passed passed, $failed failed"
@@ -69,7 +70,7 @@ kill "$watcher" 2> /dev/null
 wait "$watcher"
 watcher=""
 
-echo "gate: what docs/definitions.md names"
+echo "gate: what the tables of definitions name"
 counted shown
 
 echo "gate: the worked streams over the program that was just built, and over texts in one string"
