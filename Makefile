@@ -10,17 +10,17 @@ PREFIX ?= /usr/local
 NEEDS_RT = $(if $(shell command -v rt),,$(error there is no `rt`: building wants Rattle's kit, with its folder bin in PATH; what is \
 built already is an archive or a package, see Install in README.md))
 
-.PHONY: run try build check changed test rows orgq-test faults emacs-test vim-test bench collide install deb clean
+.PHONY: run try build check changed test rows orgq-test reading faults emacs-test vim-test bench collide install deb clean
 
 # Builds the program where it isn't fresh, and runs the first example.
 run: $(PROGRAM)
 	@$(PROGRAM) --at "2024-02-28 10:30" < tests/rows/first-run
 
-# The same example without any proof, for a first look: the sources are compiled with checks and run.
+# An agenda of two files without any proof, for a first look: the sources are compiled with checks and run.
 try:
 	@$(NEEDS_RT)
 	@echo "orgviews: nothing is proved here; make run and make test do that"
-	@cd crates/orgviews && rt try -- --at "2024-02-28 10:30" < ../../tests/rows/first-run
+	@cd crates/orgviews && rt try -- --at "2024-02-28 10:30" < ../../tests/rows/first-agenda
 
 build: $(PROGRAM) $(ORGQ) $(PACKED)
 
@@ -58,6 +58,10 @@ changed:
 test:
 	@$(NEEDS_RT)
 	@sh tests/gate.sh
+
+# What the headline rests on, in one page, in the order in which it is used; and how many lines it has.
+reading:
+	@python3 tests/reading.py
 
 # The worked streams alone, over the programs as they were last built.
 rows: $(PROGRAM) $(PARTS)
