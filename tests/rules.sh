@@ -11,7 +11,7 @@ failed=0
 rules='
 14	crates/org_index/src/delays.rs	delay_or|today \+|WARNING
 4_194_304	crates/org_index/src/spots.rt	.
-366	crates/org_engine/src/limits.rt	.
+366	crates/org_base/src/limits.rt	.
 256	crates/org_base/src/limits.rt	files|FILES
 67_108_864	crates/org_text/src/text.rt	.
 3_652_059	crates/org_cal/src/day.rt	.
@@ -30,14 +30,14 @@ code > /dev/null || exit 2
 printf '%s\n' "$rules" | grep -v '^$' | sed 's/\.rs\t/.rt\t/' > "${TMPDIR:-/tmp}/rules.$$"
 trap 'rm -f "${TMPDIR:-/tmp}/rules.$$"' EXIT
 while IFS='	' read -r number home words; do
-    # Comments may say a number, and so may a text that is printed.
+    # Comments may say a number, and so may a text that is printed, as a line of options is.
     found=$(code | xargs grep -n -w -F -- "$number" /dev/null |
         sed -E 's/^([^:]*:[0-9]+:)(.*)$/\1\t\2/' |
         awk -F '\t' -v words="$words" '{
             line = $2
             sub(/(^|[ \t])(\/\/|--).*$/, "", line)
             gsub(/"[^"]*"/, "", line)
-            if (line ~ /[0-9]/ && line ~ words) print $1
+            if (line ~ /[0-9]/ && line ~ words && line !~ /^[a-z]?;[a-z-]+;/) print $1
         }' | grep -v -F "$home:")
     if ! grep -q -E "const [A-Z_]+: [a-z0-9]+ = $number;" "$home"; then
         failed=$((failed + 1))

@@ -296,14 +296,18 @@ after_line (Framed frame size) rest = if nat_lt max_bytes size then record { nex
     else record { next = Given (framed frame (take size rest)); rest = drop size rest }
 
 -- what comes next, after the bytes of a line, where this is what lines say
-abbrev pub behind : (List ℕ → Line) → List ℕ → List ℕ → Reading
-behind says line = after_line (says line)
+abbrev pub behind_by : (List ℕ → Line) → List ℕ → List ℕ → Reading
+behind_by says line = after_line (says line)
+
+-- the same, as lines are read
+abbrev pub behind : Bool → List ℕ → List ℕ → Reading
+behind second = behind_by (line_of second)
 
 -- what comes next on a stream that is cut at its first LF
 abbrev pub after_cut : (List ℕ → Line) → Option lines.Cut → Reading
 after_cut says None = record { next = Last (Plain Cut); rest = [] }
 after_cut says (Some cut) = if nat_lt longest (length cut.before) then record { next = Refused (Plain Long); rest = cut.after }
-    else behind says cut.before cut.after
+    else behind_by says cut.before cut.after
 
 -- what comes next on a stream
 abbrev pub read_by : (List ℕ → Line) → List ℕ → Reading

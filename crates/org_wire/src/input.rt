@@ -66,7 +66,7 @@ impl<'a, R: Read> Input<'a, R> {
     ghost use Rattle.org_wire.specs.Input.{ahead, CountsNext, NeverStopsForMemory, Reads, StopsShort};
     ghost use Rattle.org_wire.specs.Steps.{CountsCall, StaysAhead, HasStopped, HoldsAll, IsReady, ReadsFrame, StopsInFrame, Takes, TakesFewer, TakesLine, TakesPayload};
     ghost use Rattle.org_wire.specs.Devices.{StaysBounded};
-    ghost use Rattle.org_wire.specs.Stream.{behind, broken, is_second, line_of, reading_of};
+    ghost use Rattle.org_wire.specs.Stream.{broken, is_second, reading_of, behind};
 
     /// A stream over a reader. Want of memory for a line or for what is read ahead is its only refusal. The reader
     /// isn't called: a call would have to know that none has failed.
@@ -272,8 +272,8 @@ impl<'a, R: Read> Input<'a, R> {
     // The command of the line that was read, with its payload.
     pub(crate) fn read_whole(&mut self) -> Next
         requires fresh { self.old.reader.now.failed ≡ 0 }
-        ensures value { Reads R.remaining (behind (line_of self.old.second) self.old.line) self.old result self.new }
-        ensures failed { result ≡ broken → StopsShort R.remaining (behind (line_of self.old.second) self.old.line) self.old self.new }
+        ensures value { Reads R.remaining (behind self.old.second self.old.line) self.old result self.new }
+        ensures failed { result ≡ broken → StopsShort R.remaining (behind self.old.second self.old.line) self.old self.new }
         ensures counted { CountsNext result self.old.reader.now self.new.reader.now }
         ensures falls { StaysAhead result (ahead self.old) (ahead self.new) }
         ensures last { NeverStopsForMemory result }

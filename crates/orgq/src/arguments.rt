@@ -1,6 +1,7 @@
 //! The program's arguments.
 
 use clap::{Arg, ArgAction, Command, value_parser};
+use org_base::MOST_DAYS;
 use std::alloc::{AllocError, Global};
 
 // Options, one a line: the letter, the name, the name of the value and what it does, with semicolons between; of the first
@@ -105,7 +106,7 @@ fn option<'a>(alloc: Global, line: &'static str) -> Arg<'a> {
     match name {
         "file" | "inherit" => arg.action(ArgAction::Append),
         "profile" => arg.value_parser(value_parser!(u32).range(1..=2)),
-        "days" => arg.value_parser(value_parser!(u32).range(1..=366)),
+        "days" => arg.value_parser(value_parser!(u32).range(1..=MOST_DAYS)),
         "level" => arg.value_parser(value_parser!(u32).range(1..=99)),
         "within" => arg.value_parser(value_parser!(u32).range(0..=100_000)),
         _ => arg,
