@@ -58,7 +58,7 @@ pub fn day_of(text: &str) -> Option<i64> {
     Some(365 * year + year.div_euclid(4) - year.div_euclid(100) + year.div_euclid(400) + (153 * month + 2) / 5 + day - 719_469)
 }
 
-fn date(day: i64) -> String {
+pub fn date(day: i64) -> String {
     let day = day + 719_468;
     let era = day.div_euclid(146_097);
     let of_era = day.rem_euclid(146_097);

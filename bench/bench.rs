@@ -12,6 +12,7 @@
 //!                                input
 //!     bench typed                answers the commands `add`, `edit`, `pin` and `unpin` of standard input, over one file
 //!     bench text BYTES           an Org file of that many bytes
+//!     bench years BYTES NUMBER   another of a person's years, with all that Org has; one number, one file
 //!     bench KIND PLACE COUNT READS  the lines of the text of standard input after so many edits, read so many times: KIND
 //!                                is `vector` or `rope`
 //!     bench list ITEMS COUNT     how many items a tree of so many has after so many of them were replaced
@@ -24,6 +25,7 @@ mod kept;
 mod memory;
 mod rope;
 mod sizes;
+mod years;
 
 use rope::Rope;
 use std::collections::{HashMap, HashSet};
@@ -51,6 +53,7 @@ fn main() -> io::Result<()> {
         Some("memory") => memory::measure(&args[2], &args[0]),
         Some("kept") => kept::measure(&args[2], &args[0], args.get(3).map_or(1, |scale| scale.parse().expect("a scale"))),
         Some("days") => days::measure(&args[2], &args[0], args.get(3).map_or(1, |scale| scale.parse().expect("a scale"))),
+        Some("years") => io::stdout().write_all(years::text(args[2].parse().unwrap(), args[3].parse().unwrap()).as_bytes()),
         Some("text") => io::stdout().write_all(text(args[2].parse().unwrap()).as_bytes()),
         Some("cost") => print_cost(&args[2], &args[3..]),
         Some("list") => {
