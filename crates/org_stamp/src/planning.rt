@@ -98,9 +98,18 @@ pub fn is_planning(line: &[u8]) -> bool
     next_pair(line, 0).is_some()
 }
 
-/// Whether the line is a clock line.
+/// Whether the line is a clock line. The second stamp of a range doesn't decide it, and isn't read.
+#[tactic(auto, using(crate::proofs::ClockLemmas::first_decides))]
 pub fn is_clock(line: &[u8]) -> bool
     ensures value { result ≡ is_clock line.now }
 {
-    clock_stamp(line).is_some()
+    let (_, text) = past_spaces(line);
+    if !text.starts_with(b"CLOCK:") {
+        return false;
+    }
+    let (_, rest) = past_spaces(&text[6..]);
+    match single_of(rest) {
+        Some((stamp, _)) => !stamp.active,
+        None => false,
+    }
 }
