@@ -281,7 +281,15 @@ while [ "$number" -lt 160 ]; do
                 is_clean "$room/err" "" || fail "control character $number stands in what $form $view says"
             done
         done
-        for words in "match -- a${of}(" "clock x${of}" "agenda x${of}" "--color x${of}" "--at x${of}" "-d x${of}" "x${of}" "--x${of}" "--profile x${of}" "clock --step x${of}"; do
+        printf '* K%s k :v%s:\n\nDEADLINE: <2024-02-30%s>\n=<2024-02-31 %s>=\n' "$of" "$of" "$of" "$of" > "found$number.org"
+        for form in "" --json --color=always; do
+            # shellcheck disable=SC2086
+            "$orgq" --at "2024-02-28 10:30" $form check --all "$number.org" "found$number.org" "n${of}n.org" > "$room/out" 2> "$room/err"
+            [ $? -eq 3 ] && [ -s "$room/out" ] || fail "control character $number, check $form: $(cat "$room/err")"
+            is_clean "$room/out" "" || fail "control character $number stands in what check $form finds"
+            is_clean "$room/err" "" || fail "control character $number stands in what check $form says"
+        done
+        for words in "match -- a${of}(" "clock x${of}" "agenda x${of}" "--color x${of}" "--at x${of}" "-d x${of}" "x${of}" "--x${of}" "--profile x${of}" "clock --step x${of}" "check --only x${of}" "check --severity x${of}"; do
             # shellcheck disable=SC2086
             (IFS=' '; "$orgq" --at "2024-02-28 10:30" -f 1.org $words) > "$room/out" 2> "$room/err"
             [ $? -eq 2 ] && [ -s "$room/err" ] && is_clean "$room/err" "" || fail "control character $number in the arguments $words"
@@ -293,27 +301,33 @@ done
 echo "orgq: $count control characters in categories, titles, tags, keywords, properties, names and arguments"
 cd "$here/orgq/files" || exit 2
 
-# Each growth of memory refused once: the answer is given all the same, or nothing of it with status 4.
-if shim=$(sh "$here/faults/build.sh" "$room" 2> /dev/null); then
+# Each growth of memory of a call refused once: the answer is given all the same, or nothing of it with status 4: WORD..
+refuse_memory() {
     growth=1
     refused=0
     met=1
-    "$orgq" --at "2024-02-28 10:30" -f home.org -f work.org todo > "$room/wanted"
+    "$orgq" --at "2024-02-28 10:30" "$@" > "$room/wanted"
+    answered=$?
     while [ "$met" -gt 0 ] && [ "$growth" -lt 20000 ]; do
         rm -f "$room/counts"
-        REFUSE=$growth FAULTS=$room/counts LD_PRELOAD=$shim "$orgq" --at "2024-02-28 10:30" -f home.org -f work.org todo > "$room/out" 2> "$room/err"
+        REFUSE=$growth FAULTS=$room/counts LD_PRELOAD=$shim "$orgq" --at "2024-02-28 10:30" "$@" > "$room/out" 2> "$room/err"
         status=$?
         met=0
         [ ! -s "$room/counts" ] || read -r growths met rest < "$room/counts"
         if [ "$status" -eq 4 ] && [ ! -s "$room/out" ] && [ -s "$room/err" ]; then
             refused=$((refused + 1))
-        elif [ "$status" -ne 0 ] || ! cmp -s "$room/out" "$room/wanted"; then
-            fail "growth $growth refused: status $status: $(cat "$room/err")"
+        elif [ "$status" -ne "$answered" ] || ! cmp -s "$room/out" "$room/wanted"; then
+            fail "growth $growth refused, $*: status $status: $(cat "$room/err")"
         fi
         growth=$((growth + 1))
     done
-    [ "$refused" -gt 0 ] && passed=$((passed + 1)) || fail "no growth of memory was refused"
-    echo "orgq: $refused refused growths of memory with status 4"
+    [ "$refused" -gt 0 ] && passed=$((passed + 1)) || fail "no growth of memory was refused, $*"
+    echo "orgq: $refused refused growths of memory with status 4, $*"
+}
+
+if shim=$(sh "$here/faults/build.sh" "$room" 2> /dev/null); then
+    refuse_memory -f home.org -f work.org todo
+    refuse_memory --keywords "TODO | DONE" check --all ../../check/kinds.org ../../check/other.org
 else
     echo "orgq: refused growths of memory are left out: the shim of tests/faults can't be built here"
 fi
@@ -355,11 +369,13 @@ if command -v bash > /dev/null 2>&1; then
     [ "$(completed orgq -f my)" = "my notes.org" ] && passed=$((passed + 1)) || fail "bash completes a name with a space: $(completed orgq -f my)"
     [ "$(completed orgq my)" = "my notes.org" ] && passed=$((passed + 1)) || fail "bash completes a bare name: $(completed orgq my)"
     [ "$(completed orgq keyw)" = "keywords" ] && passed=$((passed + 1)) || fail "bash completes a folder: $(completed orgq keyw)"
+    kind=$(PATH=$room/bin:$PATH; completed orgq check --only no-such-date,stray-pl)
+    [ "$kind" = "no-such-date,stray-planning" ] && passed=$((passed + 1)) || fail "bash completes a list of kinds: $kind"
     [ "$(completed orgq --keywords todo ag)" = "agenda" ] && passed=$((passed + 1)) || fail "bash takes an option's value for a command: $(completed orgq --keywords todo ag)"
 fi
 
 # Each option of --help stands in each completion file.
-for command in "" agenda todo match clock next; do
+for command in "" agenda todo match clock next check; do
     "$orgq" $command --help | grep -o -e '--[a-z]*' | sort -u
 done | sort -u > "$room/options"
 for file in "$here"/../contrib/completions/orgq.bash "$here"/../contrib/completions/_orgq "$here"/../contrib/completions/orgq.fish; do

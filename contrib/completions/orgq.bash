@@ -1,5 +1,13 @@
 # SPDX-License-Identifier: Apache-2.0 OR MIT
 # Completion of orgq for bash.
+
+# Completes a list of kinds of findings, with commas between; the program lists all kinds where it refuses one.
+_orgq_kinds() {
+    local front=""
+    case $1 in *,*) front=${1%,*}, ;; esac
+    COMPREPLY=($(compgen -P "$front" -W "$(orgq check --only '?' 2>&1 | sed 's/.*there are //; s/,//g')" -- "${1##*,}"))
+}
+
 _orgq() {
     local word=${COMP_WORDS[COMP_CWORD]} before=${COMP_WORDS[COMP_CWORD-1]}
     local options="--file --at --keywords --inherit --profile --places --json --csv --color --quiet --help"
@@ -10,14 +18,16 @@ _orgq() {
             continue
         fi
         case $part in
-            -f|--file|--at|--keywords|--inherit|--profile|--color|-d|--days|--level|--step|--match|--within) valued=1 ;;
-            agenda|todo|match|clock|next) [ -n "$command" ] || command=$part ;;
+            -f|--file|--at|--keywords|--inherit|--profile|--color|-d|--days|--level|--step|--match|--within|--only|--not|--severity) valued=1 ;;
+            agenda|todo|match|clock|next|check) [ -n "$command" ] || command=$part ;;
         esac
     done
     case $before in
         -f|--file) mapfile -t COMPREPLY < <(compgen -f -- "$word"); return ;;
         --color) COMPREPLY=($(compgen -W "auto always never" -- "$word")); return ;;
         --profile) COMPREPLY=($(compgen -W "1 2" -- "$word")); return ;;
+        --severity) COMPREPLY=($(compgen -W "error warning note" -- "$word")); return ;;
+        --only|--not) _orgq_kinds "$word"; return ;;
         --step) COMPREPLY=($(compgen -W "day week" -- "$word")); return ;;
         --at|--keywords|--inherit|--days|--level|--within|--match|-d) return ;;
     esac
@@ -25,7 +35,8 @@ _orgq() {
         agenda) options="$options --days" ;;
         clock) options="$options --level --step --effort --match" ;;
         next) options="$options --days --within" ;;
-        "") options="$options --days agenda todo match clock next" ;;
+        check) options="$options --only --not --all --severity" ;;
+        "") options="$options --days agenda todo match clock next check" ;;
     esac
     if [ "$command" = clock ] && [ "${word#-}" = "$word" ]; then
         options="today yesterday thisweek lastweek thismonth lastmonth thisyear lastyear"

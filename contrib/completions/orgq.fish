@@ -1,11 +1,16 @@
 # SPDX-License-Identifier: Apache-2.0 OR MIT
 # Completion of orgq for fish.
-set -l commands agenda todo match clock next
+# The names of all kinds of findings, as the program lists them where it refuses one.
+function _orgq_kinds
+    orgq check --only '?' 2>&1 | string replace -r '.*there are ' '' | string split ', '
+end
+set -l commands agenda todo match clock next check
 complete -c orgq -n "not __fish_seen_subcommand_from $commands" -a agenda -d 'Today, or some days from a date on'
 complete -c orgq -n "not __fish_seen_subcommand_from $commands" -a todo -d 'The open entries, or those with one of some keywords'
 complete -c orgq -n "not __fish_seen_subcommand_from $commands" -a match -d 'The entries of which an expression holds'
 complete -c orgq -n "not __fish_seen_subcommand_from $commands" -a clock -d 'A clock table'
 complete -c orgq -n "not __fish_seen_subcommand_from $commands" -a next -d 'What comes next of each stamp'
+complete -c orgq -n "not __fish_seen_subcommand_from $commands" -a check -d 'What looks planned and will not show'
 complete -c orgq -s f -l file -r -d 'A file, or a folder with its *.org files'
 complete -c orgq -l at -x -d 'The moment'
 complete -c orgq -l keywords -x -d 'Keywords of files that have no such line'
@@ -17,10 +22,14 @@ complete -c orgq -l csv -d 'Fields with commas between them, a line a row'
 complete -c orgq -l color -x -a 'auto always never' -d 'Late rows and warnings stand out'
 complete -c orgq -s q -l quiet -d 'Print nothing'
 complete -c orgq -s h -l help -d 'Print help'
-complete -c orgq -n "not __fish_seen_subcommand_from todo match clock" -s d -l days -x -d 'How many days'
+complete -c orgq -n "not __fish_seen_subcommand_from todo match clock check" -s d -l days -x -d 'How many days'
 complete -c orgq -n '__fish_seen_subcommand_from next' -l within -x -d 'Only what begins in so many minutes'
 complete -c orgq -n '__fish_seen_subcommand_from clock' -l level -x -d 'The deepest level that is shown'
 complete -c orgq -n '__fish_seen_subcommand_from clock' -l step -x -a 'day week' -d 'A table for each day or week'
 complete -c orgq -n '__fish_seen_subcommand_from clock' -l effort -d 'Effort sums beside those of clocks'
 complete -c orgq -n '__fish_seen_subcommand_from clock' -l match -x -d 'Only headings of which the expression holds'
 complete -c orgq -n '__fish_seen_subcommand_from clock' -x -a 'today yesterday thisweek lastweek thismonth lastmonth thisyear lastyear'
+complete -c orgq -n '__fish_seen_subcommand_from check' -l only -x -a '(__fish_complete_list , _orgq_kinds)' -d 'These kinds of findings alone'
+complete -c orgq -n '__fish_seen_subcommand_from check' -l not -x -a '(__fish_complete_list , _orgq_kinds)' -d 'Without these kinds'
+complete -c orgq -n '__fish_seen_subcommand_from check' -l all -d 'Those kinds too that are not usual'
+complete -c orgq -n '__fish_seen_subcommand_from check' -l severity -x -a 'error warning note' -d 'How severe a finding makes status 1'

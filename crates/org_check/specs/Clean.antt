@@ -1,6 +1,6 @@
 -- Bytes of output without control characters (Unicode: the characters of the general category Cc, U+0000 to U+001F and
 -- U+007F to U+009F; in UTF-8 those from U+0080 on are the byte 194 and one from 128 to 159).
-use Rattle.std.specs.Prelude.{◌≡◌, ℕ, Bool, true, ◌&&◌, ◌||◌, not, ◌==◌, nat_lt, nat_le, if◌then◌else◌, List, [], ◌∷◌, slice_index}
+use Rattle.std.specs.Prelude.{◌≡◌, ℕ, Bool, true, ◌&&◌, ◌||◌, not, ◌==◌, nat_lt, nat_le, if◌then◌else◌, List, [], ◌∷◌, ◌++◌, slice_index, Result, OnOk, Vec}
 
 -- a control character of ASCII
 abbrev pub is_control : ℕ → Bool
@@ -31,3 +31,12 @@ cleaned_after before (b ∷ bs) = clean_byte before b (slice_index bs 0) ∷ cle
 -- bytes as they are shown
 abbrev pub cleaned : List ℕ → List ℕ
 cleaned bytes = cleaned_after 0 bytes
+
+-- nothing but lines without control characters, each with a line feed
+pub data AreCleanLines : List ℕ → Type 0 where
+  no_line : AreCleanLines []
+  one_more : (bytes line : List ℕ) → AreCleanLines bytes → IsClean line → AreCleanLines (bytes ++ (line ++ 10 ∷ []))
+
+-- such lines stay such lines
+abbrev pub KeepsClean : {T E A : Type 0} → Result T E → Vec ℕ A → Vec ℕ A → Type 0
+KeepsClean result old new = AreCleanLines old.items → OnOk result (AreCleanLines new.items)

@@ -5,7 +5,7 @@ use crate::kind::{ALL_KINDS, Kind};
 use crate::table::Severity;
 use std::alloc::{AllocError, Global};
 
-/// Which kinds of findings are wanted: the usual ones, all, or some, without others, and from a severity on.
+/// Which kinds of findings are wanted: the usual ones, all, or some, without others; and from which severity on they count.
 #[derive(Debug, Drop)]
 pub struct Selection {
     only: Vec<Kind>,
@@ -41,22 +41,25 @@ impl Selection {
         add_named(&mut self.without, names)
     }
 
-    /// Leaves out what is less severe.
+    /// Lets what is less severe count no more. It is wanted all the same.
     pub fn set_least(&mut self, least: Severity) {
         self.least = least;
     }
 
     /// Whether a kind is wanted.
     pub fn has(&self, kind: Kind) -> bool {
-        kind.severity() >= self.least
-            && !holds(self.without.as_slice(), kind)
-            && self.is_taken(kind)
+        !holds(self.without.as_slice(), kind) && self.is_taken(kind)
     }
 
-    /// Whether one of the findings is wanted.
-    pub fn has_any(&self, findings: &[Finding]) -> bool {
+    /// Whether a kind is wanted and counts.
+    pub fn counts(&self, kind: Kind) -> bool {
+        kind.severity() >= self.least && self.has(kind)
+    }
+
+    /// Whether one of the findings is wanted and counts.
+    pub fn counts_any(&self, findings: &[Finding]) -> bool {
         for finding in findings {
-            if self.has(finding.kind) {
+            if self.counts(finding.kind) {
                 return true;
             }
         }

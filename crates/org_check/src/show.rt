@@ -1,5 +1,6 @@
 //! Findings as they are printed.
-ghost use Rattle.std.specs.Prelude.{◌≤◌, length};
+ghost use Rattle.std.specs.Prelude.{◌≤◌, length, IfOk};
+ghost use Rattle.org_check.specs.Clean.{AreCleanLines, KeepsClean};
 
 use crate::clean::CleanLine;
 use crate::draft::Draft;
@@ -27,14 +28,17 @@ pub struct Wanted<'a> {
 }
 
 /// The lines that are printed of a file's findings, of those that are wanted, in their order, each with a line feed. The
-/// name is that of the file, and the text the one in which they were found.
+/// name is that of the file, and the text the one in which they were found. None of the lines has a control character.
+#[tactic(auto, using(crate::proofs::CleanLemmas::no_lines))]
 pub fn report<T: Text>(
     alloc: Global,
     name: &str,
     text: &T,
     findings: &Findings,
     wanted: &Wanted<'_>,
-) -> Result<Vec<u8>, AllocError> {
+) -> Result<Vec<u8>, AllocError>
+    ensures clean { IfOk result (λ out. AreCleanLines out.items) }
+{
     let mut out = Vec::new(alloc);
     for finding in findings.as_slice() {
         if wanted.selection.has(finding.kind) {
@@ -60,13 +64,16 @@ struct Shown<'a> {
     form: Form,
 }
 
+#[tactic(auto, using(crate::proofs::CleanLemmas::keeps_line))]
 fn push_line<T: Text>(
     alloc: Global,
     out: &mut Vec<u8>,
     name: &str,
     text: &T,
     shown: &Shown<'_>,
-) -> Result<(), AllocError> {
+) -> Result<(), AllocError>
+    ensures clean { KeepsClean result out.old out.new }
+{
     let line = finding_line(alloc, name, text, shown.finding, shown.form)?;
     out.extend_from_slice(line.as_slice())?;
     out.push(b'\n')?;

@@ -32,6 +32,12 @@ const OF_NEXT: &str = "\
 d;days;N;How many days from today on, 1 to 366; without it 30
 ;within;MINUTES;Only what begins in so many minutes, 0 to 100000";
 
+const OF_CHECK: &str = "\
+;only;KIND,..;These kinds of findings, in place of the usual ones
+;not;KIND,..;Without these kinds
+;all;;Those kinds too that are not usual
+;severity;SEVERITY;How severe a finding makes status 1: error, warning or note";
+
 /// The arguments that the program takes.
 pub fn command<'a>(alloc: Global) -> Result<Command<'a>, AllocError> {
     let path = words(
@@ -42,7 +48,7 @@ pub fn command<'a>(alloc: Global) -> Result<Command<'a>, AllocError> {
     let command = Command::new(alloc, "orgq")
         .subcommand_precedence_over_arg(true)
         .about(
-            "Agendas, lists and clock tables of your Org files; without a command today's agenda",
+            "Agendas, lists and clock tables of your Org files, and what in them will not show; without a command today's agenda",
         )
         .arg(path)?;
     let command = with_options(alloc, command, OF_TODAY, false)?;
@@ -60,12 +66,15 @@ pub fn command<'a>(alloc: Global) -> Result<Command<'a>, AllocError> {
     let clock = Command::new(alloc, "clock").about("A clock table, by default this week's");
     let clock = clock.arg(word(alloc, "BLOCK", "A block of time, as today or 2024-W09"))?;
     let next = Command::new(alloc, "next").about("What comes next of each stamp, by time");
+    let check = Command::new(alloc, "check").about("What looks planned and will not show");
+    let check = check.arg(words(alloc, "FILE", "A file or folder, as -f, of any name"))?;
     command
         .subcommand(with_options(alloc, agenda, OF_AGENDA, false)?)?
         .subcommand(todo.arg(words(alloc, "KEYWORD", "Keywords; without them the open ones"))?)?
         .subcommand(list)?
         .subcommand(with_options(alloc, clock, OF_CLOCK, false)?)?
-        .subcommand(with_options(alloc, next, OF_NEXT, false)?)
+        .subcommand(with_options(alloc, next, OF_NEXT, false)?)?
+        .subcommand(with_options(alloc, check, OF_CHECK, false)?)
 }
 
 fn word<'a>(alloc: Global, name: &'static str, help: &'static str) -> Arg<'a> {
@@ -104,7 +113,7 @@ fn option<'a>(alloc: Global, line: &'static str) -> Arg<'a> {
     }
     let arg = arg.value_name(value);
     match name {
-        "file" | "inherit" => arg.action(ArgAction::Append),
+        "file" | "inherit" | "only" | "not" => arg.action(ArgAction::Append),
         "profile" => arg.value_parser(value_parser!(u32).range(1..=2)),
         "days" => arg.value_parser(value_parser!(u32).range(1..=MOST_DAYS)),
         "level" => arg.value_parser(value_parser!(u32).range(1..=99)),

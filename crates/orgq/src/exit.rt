@@ -1,6 +1,6 @@
 //! Exit statuses.
 ghost use Rattle.std.specs.Prelude.{◌≡◌};
-ghost use Rattle.orgq.specs.Exit.{status_of};
+ghost use Rattle.orgq.specs.Exit.{check_status, status_of};
 
 /// Arguments, the moment or an expression are refused.
 pub const BAD_ARGUMENTS: u8 = 2;
@@ -18,5 +18,19 @@ pub fn status_of(has_row: bool, left_out: bool) -> u8
         0
     } else {
         1
+    }
+}
+
+/// The status after a check: 3 where a file was left out, else 0 where nothing was found that counts and 1 where something
+/// was.
+pub fn check_status(counts: bool, left_out: bool) -> u8
+    ensures value { result ≡ check_status counts left_out }
+{
+    if left_out {
+        3
+    } else if counts {
+        1
+    } else {
+        0
     }
 }

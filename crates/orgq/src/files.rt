@@ -29,11 +29,56 @@ pub struct Named<'a> {
     pub path: &'a str,
 }
 
-/// Reads a file whole and adds it under its name, with these keywords where it has none of its own. Where it can't be added
-/// the library has the files that it had.
-pub fn load<R: AllocGlobal + Files>(
+/// Files that come one by one, none of them twice.
+pub trait FileSet {
+    /// Whether a file of this path is there.
+    fn has_path(&self, path: &str) -> bool;
+
+    /// Whether there are as many files as there may be.
+    fn is_complete(&self) -> bool;
+
+    /// Adds the text of a file under its name, with these keywords where it has none of its own. Where it can't be added
+    /// the files that were there are left.
+    fn take(
+        &mut self,
+        alloc: Global,
+        named: Named<'_>,
+        text: String,
+        keywords: Option<&str>,
+    ) -> Result<(), Fault>;
+}
+
+impl FileSet for Library<Whole> {
+    fn has_path(&self, path: &str) -> bool {
+        self.has(path)
+    }
+
+    fn is_complete(&self) -> bool {
+        self.is_full()
+    }
+
+    fn take(
+        &mut self,
+        alloc: Global,
+        named: Named<'_>,
+        text: String,
+        keywords: Option<&str>,
+    ) -> Result<(), Fault> {
+        let text = match keywords {
+            Some(words) => with_keywords(alloc, text, words)?,
+            None => text,
+        };
+        let name = String::from_str(alloc, named.name)?;
+        let path = String::from_str(alloc, named.path)?;
+        self.add(name, path, Whole::of_string(alloc, text)?)
+    }
+}
+
+/// Reads a file whole and adds it to a set under its name, with these keywords where it has none of its own. Where it can't
+/// be added the set has the files that it had.
+pub fn load<R: AllocGlobal + Files, S: FileSet>(
     rt: &R,
-    library: &mut Library<Whole>,
+    set: &mut S,
     named: Named<'_>,
     keywords: Option<&str>,
 ) -> Result<(), LeftOut> {
@@ -47,7 +92,7 @@ pub fn load<R: AllocGlobal + Files>(
     let Ok(text) = String::from_utf8(bytes) else {
         return Err(LeftOut::Because("not UTF-8"));
     };
-    match add(rt.alloc(), library, named, text, keywords) {
+    match set.take(rt.alloc(), named, text, keywords) {
         Ok(()) => Ok(()),
         Err(fault) => match fault.code() {
             Code::Memory => Err(LeftOut::Memory),
@@ -67,22 +112,6 @@ fn why_closed(kind: ErrorKind) -> LeftOut {
 }
 
 const TOO_LONG: &str = "more than 64 MiB";
-
-fn add(
-    alloc: Global,
-    library: &mut Library<Whole>,
-    named: Named<'_>,
-    text: String,
-    keywords: Option<&str>,
-) -> Result<(), Fault> {
-    let text = match keywords {
-        Some(words) => with_keywords(alloc, text, words)?,
-        None => text,
-    };
-    let name = String::from_str(alloc, named.name)?;
-    let path = String::from_str(alloc, named.path)?;
-    library.add(name, path, Whole::of_string(alloc, text)?)
-}
 
 /// The bytes that a reader has left, if they are no more than a text may have.
 pub fn read_whole<R: Read>(alloc: Global, reader: &mut R) -> Result<Vec<u8>, LeftOut> {

@@ -1,16 +1,20 @@
 // SPDX-License-Identifier: Apache-2.0 OR MIT
-//! The program `orgq`: agendas, lists and clock tables of one's own files.
+//! The program `orgq`: agendas, lists and clock tables of one's own files, and what in them will not show.
 #![tactic(auto)]
 
 mod arguments;
 mod ask;
+mod check;
+mod checked;
 mod clock;
 mod coming;
 mod environment;
 mod exit;
 mod files;
+mod findings;
 mod keywords;
 mod options;
+mod out;
 mod problem;
 mod say;
 mod session;

@@ -18,9 +18,12 @@ pub enum Problem {
     DaysOf,
     /// A variable of the environment isn't UTF-8.
     Environment(Variable),
+    /// Fields between commas are asked for, and there are none of what is asked.
+    Fields,
     Files,
     List,
     Moment,
+    Severity,
     Step,
     Zone,
     Fault(Fault),
@@ -51,11 +54,13 @@ impl Problem {
             Problem::Days => "days past 9999-12-31",
             Problem::DaysOf => "-d is an option of agenda and next",
             Problem::Environment(variable) => variable.why(),
+            Problem::Fields => "--csv is no form of check, which has lines and --json",
             Problem::Files => "no files: name them by -f, ORGQ_FILES or ~/.config/orgq/files",
             Problem::List => {
                 "the list of files, orgq/files in XDG_CONFIG_HOME or ~/.config, can't be read as a file of UTF-8"
             }
             Problem::Moment => "no such moment: --at takes one as \"2024-02-28 10:30\"",
+            Problem::Severity => "--severity is error, warning or note",
             Problem::Step => "--step is day or week",
             Problem::Zone => "TZ leads out of the folder of time zones",
             Problem::Fault(fault) => why_code(fault.code()),

@@ -1,13 +1,14 @@
 //! One question, from the arguments to the exit status.
 
 use crate::ask::{Asked, Question, answer, check, read_question};
+use crate::check::check_files;
 use crate::clock::{moment, now};
 use crate::environment::{Variable, value_of};
-use crate::exit::{STOPPED, status_of};
+use crate::exit::status_of;
 use crate::keywords::say_unknown;
 use crate::options::{form, is_colored, profile, texts};
+use crate::out::print_all;
 use crate::problem::{Problem, stopped};
-use crate::say::say;
 use crate::show::{Look, printed};
 use crate::sources::{load_all, paths};
 use clap::ArgMatches;
@@ -15,7 +16,6 @@ use org_base::Fault;
 use org_cal::Moment;
 use org_rows::{FilesRead, Library};
 use org_text::Whole;
-use std::io::{Write, writer};
 use std::rt::{Env, Files};
 use std::time::Clock;
 
@@ -38,6 +38,9 @@ fn answered<R: AllocGlobal + Files + Env + Clock + Print + Eprint + Clone + Drop
 ) -> Result<u8, Problem> {
     let is_colored = colored(rt, matches, on_terminal)?;
     let moment = moment_of(rt, matches)?;
+    if let Some(("check", own)) = matches.subcommand() {
+        return check_files(rt, matches, own, &moment);
+    }
     let asked = read_question(rt.alloc(), matches, &moment)?;
     let look = Look {
         form: form(matches),
@@ -98,7 +101,7 @@ fn over_files<R: AllocGlobal + Files + Env + Print + Eprint + Clone + Drop>(
 ) -> Result<u8, Problem> {
     let inherited = texts(rt.alloc(), matches.get_strs("inherit"))?;
     let mut library: Library<Whole> = Library::new(rt.alloc(), inherited);
-    let paths = paths(rt, matches)?;
+    let paths = paths(rt, matches, &[])?;
     let keywords = matches.get_str("keywords");
     let left_out = load_all(rt, &mut library, paths.as_slice(), keywords)?;
     match text_of(rt, &library, question, look) {
@@ -134,14 +137,4 @@ fn text_of<R: AllocGlobal + Eprint>(
     };
     let text = printed(rt.alloc(), &files, &answer, look)?;
     Ok((answer.has_row(), text))
-}
-
-// Prints bytes, and gives the status where they were printed.
-fn print_all<R: AllocGlobal + Print + Eprint>(rt: &R, bytes: &[u8], status: u8) -> u8 {
-    let mut out = writer(rt);
-    if out.write_all(bytes).is_ok() && out.flush().is_ok() {
-        return status;
-    }
-    say(rt, "output failed");
-    STOPPED
 }

@@ -1,32 +1,32 @@
 //! Which files are asked, and what comes of loading them.
 
 use crate::environment::{Variable, value_of};
-use crate::files::{LeftOut, Named, load, push_paths, read_whole, real_path};
+use crate::files::{FileSet, LeftOut, Named, load, push_paths, read_whole, real_path};
 use crate::options::is_path;
 use crate::problem::Problem;
 use crate::say::{say, say_of};
 use clap::ArgMatches;
-use org_rows::Library;
-use org_text::Whole;
 use std::alloc::{AllocError, Global};
 use std::fs;
 use std::io::ErrorKind;
 use std::rt::{Env, Files};
 
-/// The paths that the arguments name; without any those of `ORGQ_FILES`, else those of the configuration folder's list.
+/// The paths that the arguments name, those of the command's own words last; without any those of `ORGQ_FILES`, else those of
+/// the configuration folder's list.
 pub fn paths<R: AllocGlobal + Files + Env>(
     rt: &R,
     matches: &ArgMatches<'_>,
+    own: &[&str],
 ) -> Result<Vec<String>, Problem> {
     let bare = matches.get_strs("PATH").unwrap_or(&[]);
     if bare.iter().any(|word| !is_path(word)) {
         return Err(Problem::Command);
     }
     let named = matches.get_strs("file").unwrap_or(&[]);
-    let paths = if named.is_empty() && bare.is_empty() {
+    let paths = if named.is_empty() && bare.is_empty() && own.is_empty() {
         listed(rt)?
     } else {
-        joined(rt.alloc(), named, bare)?
+        joined(rt.alloc(), &[named, bare, own])?
     };
     if paths.is_empty() {
         return Err(Problem::Files);
@@ -34,12 +34,19 @@ pub fn paths<R: AllocGlobal + Files + Env>(
     Ok(paths)
 }
 
-fn joined(alloc: Global, named: &[&str], bare: &[&str]) -> Result<Vec<String>, AllocError> {
+fn joined(alloc: Global, parts: &[&[&str]]) -> Result<Vec<String>, AllocError> {
     let mut paths = Vec::new(alloc);
-    for path in named.iter().chain(bare.iter()) {
-        paths.push(String::from_str(alloc, path)?)?;
+    for part in parts {
+        push_each(alloc, &mut paths, part)?;
     }
     Ok(paths)
+}
+
+fn push_each(alloc: Global, paths: &mut Vec<String>, part: &[&str]) -> Result<(), AllocError> {
+    for path in part {
+        paths.push(String::from_str(alloc, path)?)?;
+    }
+    Ok(())
 }
 
 // The paths of `ORGQ_FILES`, else of the configuration folder's list.
@@ -128,9 +135,9 @@ struct Missing {
 }
 
 /// Loads the files that paths stand for, each once; says which can't be loaded, and gives whether there are such.
-pub fn load_all<R: AllocGlobal + Files + Eprint + Clone + Drop>(
+pub fn load_all<R: AllocGlobal + Files + Eprint + Clone + Drop, S: FileSet>(
     rt: &R,
-    library: &mut Library<Whole>,
+    set: &mut S,
     paths: &[String],
     keywords: Option<&str>,
 ) -> Result<bool, AllocError> {
@@ -139,7 +146,7 @@ pub fn load_all<R: AllocGlobal + Files + Eprint + Clone + Drop>(
         past: 0,
     };
     for path in paths {
-        load_path(rt, library, path.as_str(), keywords, &mut missing)?;
+        load_path(rt, set, path.as_str(), keywords, &mut missing)?;
     }
     let past = missing.past;
     if past > 0 {
@@ -150,9 +157,9 @@ pub fn load_all<R: AllocGlobal + Files + Eprint + Clone + Drop>(
 }
 
 // Loads the files that a path stands for.
-fn load_path<R: AllocGlobal + Files + Eprint + Clone + Drop>(
+fn load_path<R: AllocGlobal + Files + Eprint + Clone + Drop, S: FileSet>(
     rt: &R,
-    library: &mut Library<Whole>,
+    set: &mut S,
     path: &str,
     keywords: Option<&str>,
     missing: &mut Missing,
@@ -168,24 +175,24 @@ fn load_path<R: AllocGlobal + Files + Eprint + Clone + Drop>(
         Err(_) => leave_out(rt, path, "can't be read", missing),
     }
     for file in files.as_slice() {
-        load_file(rt, library, file.as_str(), keywords, missing)?;
+        load_file(rt, set, file.as_str(), keywords, missing)?;
     }
     Ok(())
 }
 
 // Loads a file, unless it is there.
-fn load_file<R: AllocGlobal + Files + Eprint>(
+fn load_file<R: AllocGlobal + Files + Eprint, S: FileSet>(
     rt: &R,
-    library: &mut Library<Whole>,
+    set: &mut S,
     name: &str,
     keywords: Option<&str>,
     missing: &mut Missing,
 ) -> Result<(), AllocError> {
     let path = real_path(rt, name)?;
-    if library.has(path.as_str()) {
+    if set.has_path(path.as_str()) {
         return Ok(());
     }
-    if library.is_full() {
+    if set.is_complete() {
         missing.past = missing.past.saturating_add(1);
         return Ok(());
     }
@@ -193,7 +200,7 @@ fn load_file<R: AllocGlobal + Files + Eprint>(
         name,
         path: path.as_str(),
     };
-    match load(rt, library, named, keywords) {
+    match load(rt, set, named, keywords) {
         Ok(()) => Ok(()),
         Err(LeftOut::Memory) => Err(AllocError),
         Err(LeftOut::Because(why)) => {

@@ -1,0 +1,1 @@
+printf '* a\n<2024-02-30>\n' > notes

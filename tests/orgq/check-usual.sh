@@ -1,0 +1,1 @@
+cp "$here/check/kinds.org" "$here/check/other.org" .
