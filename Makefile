@@ -71,9 +71,9 @@ rows: $(PROGRAM) $(PARTS)
 orgq-test: $(PROGRAM) $(ORGQ)
 	@sh tests/orgq.sh $(ORGQ) $(PROGRAM)
 
-# The Emacs client over the program as it was last built; left out where Emacs isn't installed. No part of the gate.
-emacs-test: $(PROGRAM)
-	@sh tests/clients.sh $(PROGRAM)
+# The Emacs client over both programs as they were last built; left out where Emacs isn't installed. No part of the gate.
+emacs-test: $(PROGRAM) $(ORGQ)
+	@sh tests/clients.sh $(PROGRAM) $(ORGQ)
 
 # The clients for Vim and Neovim over both programs as they were last built; an editor that isn't installed is left out. No part
 # of the gate.

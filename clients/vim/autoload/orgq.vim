@@ -41,6 +41,11 @@ function! orgq#next(is_local, words) abort
   call s:ask(a:is_local, ['next'] + (empty(a:words) ? [] : ['-d'] + a:words))
 endfunction
 
+" What looks planned and will not show. {words} holds options of the command and files, % and # among them.
+function! orgq#check(is_local, words) abort
+  call s:ask(a:is_local, ['check'] + map(copy(a:words), 'v:val =~# "^[%#~]" ? expand(v:val) : v:val'))
+endfunction
+
 " Asks the question of the present list again, and puts its rows in place of the old ones.
 function! orgq#again(is_local) abort
   let context = s:list(a:is_local, {'context': 1}).context
@@ -52,14 +57,26 @@ endfunction
 
 " The program -------------------------------------------------------------------------------------------------------------
 
-" The program and the options that hold for each question.
-function! s:command() abort
+" The program and the options that hold for each question, over the files of the settings or over {files}.
+function! s:command(files = get(g:, 'orgq_files', [])) abort
   let program = get(g:, 'orgq_command', ['orgq'])
   let command = type(program) == v:t_list ? copy(program) : [program]
-  for path in get(g:, 'orgq_files', [])
+  for path in a:files
     let command += ['-f', fnamemodify(path, ':p')]
   endfor
   return command + get(g:, 'orgq_options', [])
+endfunction
+
+" Whether the {words} of a check name files: then those of the settings aren't meant.
+function! s:name_files(words) abort
+  let is_value = 0
+  for word in a:words
+    if !is_value && word !~# '^-'
+      return 1
+    endif
+    let is_value = word =~# '^--\%(only\|not\|severity\)$'
+  endfor
+  return 0
 endfunction
 
 " What {command} prints: a dictionary with its `status`, and the lines of its `output` and its `errors`. No shell is between.
@@ -99,9 +116,10 @@ endfunction
 
 " The rows of the answer to {arguments}, or v:null after a message where there is none.
 function! s:rows(arguments) abort
-  let answer = s:run(s:command() + ['--json'] + a:arguments)
+  let command = a:arguments[0] ==# 'check' && s:name_files(a:arguments[1:]) ? s:command([]) : s:command()
+  let answer = s:run(command + ['--json'] + a:arguments)
   call filter(answer.errors, '!empty(v:val)')
-  " 0: there are rows; 1: there is none; 3: files were left out.
+  " 0: there are rows; 1: there is none; 3: files were left out. After a check 0 and 1 are the other way round.
   if index([0, 1, 3], answer.status) < 0
     call s:complain(empty(answer.errors) ? 'ended with status ' . answer.status : answer.errors)
     return v:null
@@ -133,9 +151,11 @@ function! s:fill(is_local, arguments, action) abort
   if rows is v:null
     return -1
   endif
+  let is_check = a:arguments[0] ==# 'check'
   let list = {
-        \ 'title': 'orgq ' . join(a:arguments), 'items': s:items(rows), 'context': {'orgq': a:arguments},
-        \ 'quickfixtextfunc': 'orgq#lines'}
+        \ 'title': 'orgq ' . join(a:arguments), 'context': {'orgq': a:arguments},
+        \ 'items': is_check ? map(rows, 's:finding(v:val)') : s:items(rows),
+        \ 'quickfixtextfunc': is_check ? '' : 'orgq#lines'}
   if a:action ==# 'r'
     let list.idx = s:list(a:is_local, {'idx': 0}).idx
   endif
@@ -146,7 +166,7 @@ function! s:fill(is_local, arguments, action) abort
   endif
   call s:say_what_is_unsaved(list.items)
   if empty(rows)
-    echo 'orgq: no row'
+    echo is_check ? 'orgq: nothing is found' : 'orgq: no row'
   endif
   return len(rows)
 endfunction
@@ -189,6 +209,13 @@ function! s:item(row) abort
     let item.nr = a:row.days
   endif
   return item
+endfunction
+
+" An item of what a check found.
+function! s:finding(found) abort
+  return {'filename': fnamemodify(a:found.file, ':p'), 'lnum': a:found.line, 'end_lnum': a:found.line,
+        \ 'col': a:found.column, 'end_col': a:found.column + a:found.length,
+        \ 'type': toupper(a:found.severity[0]), 'text': a:found.text . ' [' . a:found.kind . ']', 'valid': 1}
 endfunction
 
 " What is late is an error, what is due soon a warning, all else information.
@@ -286,6 +313,25 @@ function! orgq#complete_clock(lead, line, at) abort
     return orgq#complete_match(a:lead, a:line, a:at)
   endif
   return s:beginning(a:lead, words)
+endfunction
+
+" Files, options, and kinds of findings with commas between.
+function! orgq#complete_check(lead, line, at) abort
+  if a:line =~# '--\%(only\|not\)\s\+\S*$'
+    let front = matchstr(a:lead, '^.*,')
+    return map(s:beginning(strpart(a:lead, len(front)), s:kinds()), 'front . v:val')
+  elseif a:line =~# '--severity\s\+\S*$'
+    return s:beginning(a:lead, ['error', 'warning', 'note'])
+  elseif a:lead =~# '^-'
+    return s:beginning(a:lead, ['--only', '--not', '--all', '--severity'])
+  endif
+  return s:beginning(a:lead, ['%']) + getcompletion(a:lead, 'file')
+endfunction
+
+" The names of all kinds, as the program lists them where it refuses one.
+function! s:kinds() abort
+  let said = join(s:run(s:command() + ['check', '--only', '?']).errors, '')
+  return split(matchstr(said, 'there are \zs.*'), ', ')
 endfunction
 
 function! orgq#own_names() abort

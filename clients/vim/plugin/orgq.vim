@@ -1,4 +1,4 @@
-" Org agendas, lists and clock tables in the quickfix list, by the program orgq. Vim 8.2 and Neovim 0.7; see :help orgq.
+" Org agendas, lists, clock tables and what will not show in the quickfix list, by the program orgq. Vim 8.2 and Neovim 0.7; see :help orgq.
 " SPDX-License-Identifier: Apache-2.0 OR MIT
 
 if exists('g:loaded_orgq') || &compatible
@@ -10,6 +10,7 @@ let g:loaded_orgq = 1
 command! -bang -bar -nargs=* -complete=customlist,orgq#complete_agenda OrgqAgenda call orgq#agenda(<bang>0, [<f-args>])
 command! -bang -bar -nargs=* -complete=customlist,orgq#complete_todo OrgqTodo call orgq#todo(<bang>0, [<f-args>])
 command! -bang -bar -nargs=* -complete=customlist,orgq#complete_next OrgqNext call orgq#next(<bang>0, [<f-args>])
+command! -bang -bar -nargs=* -complete=customlist,orgq#complete_check OrgqCheck call orgq#check(<bang>0, [<f-args>])
 " An expression may hold a bar and quotation marks, so these two take the rest of the line.
 command! -bang -nargs=1 -complete=customlist,orgq#complete_match OrgqMatch call orgq#match(<bang>0, <q-args>)
 command! -bang -nargs=* -complete=customlist,orgq#complete_clock OrgqClock call orgq#clock(<bang>0, <q-args>)

@@ -158,6 +158,43 @@ silent OrgqNext 7
 call s:equal('next', getqflist({'title': 1}).title, 'orgq next -d 7')
 call s:lead_to_their_lines('next')
 
+" What will not show ----------------------------------------------------------------------------------------------------------
+
+" Place, type and kind of each item.
+function! s:found() abort
+  return map(getqflist(), '[bufname(v:val.bufnr) =~# "lost.org$", v:val.lnum, v:val.col, v:val.type, matchstr(v:val.text, "\\[\\zs[-a-z]*\\ze]$")]')
+endfunction
+
+call s:write('lost.org', ['* TODO 宿題 [#a]', '', 'DEADLINE: <2024-03-01 Fri>', 'é <2024-02-30 Fri>', '# <2024-02-28 Wed>',
+      \ '* DONE b', 'SCHEDULED: <2024-02-28 Wed +1w>'])
+silent OrgqCheck
+call s:equal('a check of all files', s:found(), [[1, 3, 1, 'E', 'stray-planning'], [1, 4, 4, 'E', 'no-such-date'],
+      \ [1, 7, 12, 'N', 'repeater-on-done']])
+call s:equal('its title', getqflist({'title': 1}).title, 'orgq check')
+call s:check('the window names files', getline(1) =~# 'lost.org|3')
+silent cnext
+call s:equal('leads to the place', [expand('%:t'), line('.'), col('.')], ['lost.org', 4, 4])
+call s:check('a sentence', getqflist()[0].text =~# 'line 2 is blank \[stray-planning\]$')
+silent OrgqCheck --all --not no-such-date %
+call s:equal('options and the buffer', s:found(), [[1, 3, 1, 'E', 'stray-planning'], [1, 5, 3, 'N', 'stamp-in-comment'],
+      \ [1, 7, 12, 'N', 'repeater-on-done']])
+cclose
+silent OrgqCheck! --only no-such-date %
+call s:equal('a location list of findings', map(getloclist(0), 'v:val.lnum'), [4])
+lclose
+execute 'silent OrgqCheck' fnameescape(s:folder . '/my notes.org')
+call s:equal('nothing is found', getqflist({'size': 1}).size, 0)
+call s:check('and it is said', s:said('OrgqCheck --only bad-repeater %') =~# 'nothing is found')
+call s:check('a kind that there is not', s:said('OrgqCheck --only bad %') =~# 'no such kind: bad; there are no-such-date, ')
+silent OrgqCheck --only no-such-date %
+call s:write('lost.org', ['* a'])
+silent OrgqAgain
+call s:equal('a check again', getqflist({'size': 1}).size, 0)
+call s:equal('kinds', orgq#complete_check('no-such-date,stray-p', 'OrgqCheck --only no-such-date,stray-p', 37), ['no-such-date,stray-planning'])
+call s:equal('severities', orgq#complete_check('w', 'OrgqCheck --severity w', 22), ['warning'])
+call s:equal('options of a check', orgq#complete_check('--a', 'OrgqCheck --a', 13), ['--all'])
+call delete(s:folder . '/lost.org')
+
 " Location lists, again, what isn't saved --------------------------------------------------------------------------------------
 
 let s:before = getqflist({'id': 0}).id
