@@ -15,6 +15,7 @@ use org_engine::Engine;
 use org_pieces::Pieces;
 use org_wire::{Counted, End, Options, run};
 use std::io::Input;
+use std::mem::forget;
 use std::process::ExitCode;
 use std::rt::Files;
 use std::{env, io};
@@ -59,7 +60,10 @@ fn start<R: AllocGlobal + Files + Input + Print + Eprint>(rt: &R, words: &[Strin
         idle: matches.get_one::<u64>("idle").unwrap_or(0),
         protocol: protocol(matches.get_one::<u64>("protocol").unwrap_or(1)),
     };
-    serve(rt, &mut engine, options)
+    let status = serve(rt, &mut engine, options);
+    // The program ends here: the system takes all memory back at once, which piece by piece would be a tenth of the run.
+    forget(engine);
+    status
 }
 
 // Loads a file, or says why it can't be loaded.
