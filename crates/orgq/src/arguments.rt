@@ -115,7 +115,7 @@ fn option<'a>(alloc: Global, line: &'static str) -> Arg<'a> {
     match name {
         "file" | "inherit" | "only" | "not" => arg.action(ArgAction::Append),
         "profile" => arg.value_parser(value_parser!(u32).range(1..=2)),
-        "days" => arg.value_parser(value_parser!(u32).range(1..=MOST_DAYS)),
+        "days" => arg.value_parser(value_parser!(u32).range(1..=i64::from(MOST_DAYS))),
         "level" => arg.value_parser(value_parser!(u32).range(1..=99)),
         "within" => arg.value_parser(value_parser!(u32).range(0..=100_000)),
         _ => arg,
