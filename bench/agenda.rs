@@ -1,5 +1,5 @@
 //! Agendas: the files that are measured, and as much of agendas in plain Rust as these files need.
-use crate::{Above, MIB, heading, is_heading, measure_behind, measure_question, row_of, settings, stem, text};
+use crate::{Above, heading, is_heading, measure_behind, measure_question, row_of, settings, stem};
 use std::io;
 
 // The moment's day, 2024-02-28, and the days of a year.
@@ -7,10 +7,7 @@ const TODAY: i64 = 19_781;
 const NAMES: [&str; 7] = ["Mon", "Tue", "Wed", "Thu", "Fri", "Sat", "Sun"];
 
 pub fn measure(program: &str, own: &str, stream: &str) -> io::Result<()> {
-    let ordinary = text(8 * MIB);
     for (what, text, days) in [
-        ("agenda, a day", &ordinary, 1),
-        ("agenda, a year", &ordinary, 366),
         ("100,000 deadlines", &deadlines(100_000), 1),
         ("100,000 daily stamps", &daily(100_000), 7),
         ("10,000 ranges, a day", &ranges(10_000), 1),

@@ -1,6 +1,7 @@
 //! Measures `orgviews` beside the same work in plain Rust, std alone. Built by `rustc -O`; see `bench/run.sh`.
 //!
-//!     bench measure PROGRAM      the table: both programs in turn, the least of several runs
+//!     bench measure PROGRAM      texts that are hard for a reader, and lists and agendas of many rows: both programs in turn, the
+//!                                least of several runs. How ordinary texts do beside what they need is said by `bench/limit.sh`
 //!     bench parts PARTS PROGRAM  parts of the engine on their own, by the program `org_measure`, and the program, which keeps
 //!                                texts in pieces, beside streams of that, over texts in one string each
 //!     bench changes PROGRAM      the rows of edits and pins alone
@@ -37,7 +38,6 @@ use std::process::{Child, Command, Stdio};
 use std::time::Instant;
 
 const MIB: usize = 1 << 20;
-const SIZES: [usize; 3] = [MIB, 4 * MIB, 8 * MIB];
 const RUNS: usize = 15;
 const QUESTIONS: usize = 10;
 
@@ -203,12 +203,6 @@ fn compare_with(program: &str, own: &str, stream: &str, mode: &str) -> io::Resul
     Ok(())
 }
 
-fn write_stream(path: &str, text: &str, question: &str, questions: usize) -> io::Result<()> {
-    let mut file = File::create(path)?;
-    write!(file, "add a.org {}\n{text}", text.len())?;
-    file.write_all(format!("{question}\n").repeat(questions).as_bytes())
-}
-
 fn row(size: usize, what: &str, proved: Cost, plain: Cost) {
     let mib = size as f64 / MIB as f64;
     println!(
@@ -228,30 +222,7 @@ fn measure(program: &str, own: &str) -> io::Result<()> {
     let folder = std::env::temp_dir().join(format!("orgviews-bench-{}", std::process::id()));
     std::fs::create_dir_all(&folder)?;
     let stream = folder.join("stream").to_string_lossy().into_owned();
-    println!(
-        "least of {RUNS} runs; seconds, speed, peak memory and pages touched for the first time, of a whole process; `todo` is a tenth of ten questions"
-    );
-    let mut together = Vec::new();
-    for size in SIZES {
-        let text = text(size);
-        write_stream(&stream, &text, "todo", 0)?;
-        let add = both(program, own, &stream)?;
-        write_stream(&stream, &text, "todo", 1)?;
-        compare(program, own, &stream)?;
-        let once = both(program, own, &stream)?;
-        write_stream(&stream, &text, "todo", QUESTIONS)?;
-        let often = both(program, own, &stream)?;
-        let one = |often: Cost, add: Cost| Cost {
-            seconds: (often.seconds - add.seconds) / QUESTIONS as f64,
-            kib: often.kib,
-            pages: often.pages.saturating_sub(add.pages) / QUESTIONS as u64,
-        };
-        row(size, "add", add.0, add.1);
-        row(size, "todo", one(often.0, add.0), one(often.1, add.1));
-        row(size, "add and todo", once.0, once.1);
-        together.push(once.0.seconds);
-    }
-    println!("time of add and todo, 8 MiB over 1 MiB: {:.1}", together[2] / together[0]);
+    println!("least of {RUNS} runs; seconds, speed, peak memory and pages touched for the first time, of a whole process");
     for (what, line) in [
         ("blocks that never end", "#+BEGIN_X\n"),
         ("drawers that never end", ":PROPERTIES:\n"),
