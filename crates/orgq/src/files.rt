@@ -5,6 +5,7 @@ use org_base::{Code, Fault};
 use org_rows::Library;
 use org_text::{MAX_BYTES, Text, Whole};
 use std::alloc::{AllocError, Global};
+use std::fs::OpenFile;
 use std::io::{ErrorKind, Read};
 use std::rt::Files;
 use std::{fs, io};
@@ -113,15 +114,22 @@ fn why_closed(kind: ErrorKind) -> LeftOut {
 
 const TOO_LONG: &str = "more than 64 MiB";
 
-/// The bytes that a reader has left, if they are no more than a text may have.
-pub fn read_whole<R: Read>(alloc: Global, reader: &mut R) -> Result<Vec<u8>, LeftOut> {
-    let mut bytes = Vec::new(alloc);
-    match reader.take(MAX_BYTES as u64 + 1).read_to_end(&mut bytes) {
+/// The bytes that a file has left, if they are no more than a text may have.
+pub fn read_whole<F: Read + OpenFile>(alloc: Global, file: &mut F) -> Result<Vec<u8>, LeftOut> {
+    let mut bytes = Vec::with_capacity(alloc, room_for(file))?;
+    match file.take(MAX_BYTES as u64 + 1).read_to_end(&mut bytes) {
         Ok(_) if bytes.len() > MAX_BYTES => Err(LeftOut::Because(TOO_LONG)),
         Ok(_) => Ok(bytes),
         Err(error) if error.kind() == ErrorKind::OutOfMemory => Err(LeftOut::Memory),
         Err(_) => Err(LeftOut::Because("can't be read")),
     }
+}
+
+// Room for as many bytes as a file has, if a text may have so many, and for one more, so that the read that finds the end
+// needs no other room.
+fn room_for<F: OpenFile>(file: &F) -> usize {
+    let length = file.metadata().map_or(0, |metadata| metadata.len());
+    length.min(MAX_BYTES as u64) as usize + 1
 }
 
 /// The path by which a file is told from others: without links and dots, where the system can say it.

@@ -16,6 +16,7 @@ use org_base::Fault;
 use org_cal::Moment;
 use org_rows::{FilesRead, Library};
 use org_text::Whole;
+use std::mem::forget;
 use std::rt::{Env, Files};
 use std::time::Clock;
 
@@ -104,19 +105,20 @@ fn over_files<R: AllocGlobal + Files + Env + Print + Eprint + Clone + Drop>(
     let paths = paths(rt, matches, &[])?;
     let keywords = matches.get_str("keywords");
     let left_out = load_all(rt, &mut library, paths.as_slice(), keywords)?;
-    match text_of(rt, &library, question, look) {
+    let status = match text_of(rt, &library, question, look) {
         Ok((has_row, text)) => {
             let status = status_of(has_row, left_out);
             if matches.get_flag("quiet") {
-                return Ok(status);
+                status
+            } else {
+                print_all(rt, text.as_slice(), status)
             }
-            Ok(print_all(rt, text.as_slice(), status))
         }
-        Err(fault) => {
-            let expression = question.asked.expression();
-            Ok(stopped(rt, Problem::Fault(fault), expression))
-        }
-    }
+        Err(fault) => stopped(rt, Problem::Fault(fault), question.asked.expression()),
+    };
+    // The program ends here: the system takes all memory back at once, which piece by piece would be a tenth of the run.
+    forget(library);
+    Ok(status)
 }
 
 // Whether there is a row, and what is printed.
@@ -136,5 +138,9 @@ fn text_of<R: AllocGlobal + Eprint>(
         inherits: &inherits,
     };
     let text = printed(rt.alloc(), &files, &answer, look)?;
-    Ok((answer.has_row(), text))
+    let has_row = answer.has_row();
+    // As the library: until the program ends nothing is needed but the text.
+    forget(answer);
+    forget(inherits);
+    Ok((has_row, text))
 }
