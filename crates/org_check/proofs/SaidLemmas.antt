@@ -12,7 +12,7 @@ use Rattle.org_lines.specs.declared.lines.Line.{Line}
 use Rattle.org_stamp.specs.Stamp.{is_close}
 use Rattle.org_stamp.proofs.LineLemmas.{close_later}
 use Rattle.org_check.specs.Marked.{IsMarkOf}
-use Rattle.org_check.specs.Marks.{cut_marks, line_marks, mark_at, mark_if, marks_if, marks_in_line}
+use Rattle.org_check.specs.Marks.{cut_marks, line_marks, mark_at, mark_if, marks_if, marks_in_line, unread_marks}
 use Rattle.org_check.specs.Said.{AreSaid, mark_of, option_list, said}
 use Rattle.org_check.specs.UnreadStamps.{is_unread, unread_from}
 use Rattle.org_check.specs.declared.finding.Finding.{Finding}
@@ -26,6 +26,10 @@ said_both [] b = refl
 said_both (f ∷ a) b =
     ap (λ ms. option_list (mark_of f) ++ ms) (said_both a b)
     ∙ sym (append_assoc (option_list (mark_of f)) (said a) (said b))
+
+-- in a line in which nothing looks like a stamp nothing is unread
+pub no_looks : (old : List Mark) (at : ℕ) (line : List ℕ) → unread_from (drop 0 line) 0 ≡ [] → old ≡ old ++ unread_marks at line
+no_looks old at line none = sym (append-nil old) ∙ ap (λ ps. old ++ map (mark_at look.Stamp at) ps) (sym none)
 
 -- one finding more
 pub said_more : (fs : List Finding) (f : Finding) → said (fs ++ f ∷ []) ≡ said fs ++ option_list (mark_of f)

@@ -48,7 +48,7 @@ impl CleanLine {
 fn clean_bytes(alloc: Global, bytes: &[u8]) -> Result<Vec<u8>, AllocError>
     ensures value { GivesItems result (cleaned bytes.now) }
 {
-    let mut out = Vec::new(alloc);
+    let mut out = Vec::with_capacity(alloc, bytes.len())?;
     let mut before = 0;
     let mut rest = bytes;
     while let [byte, after @ ..] = rest {

@@ -12,12 +12,10 @@ pub(crate) struct Draft {
 }
 
 impl Draft {
-    // None.
-    pub(crate) fn new(alloc: Global) -> Draft {
-        Draft {
-            alloc,
-            bytes: Vec::new(alloc),
-        }
+    // None, with room for most lines.
+    pub(crate) fn new(alloc: Global) -> Result<Draft, AllocError> {
+        let bytes = Vec::with_capacity(alloc, 256)?;
+        Ok(Draft { alloc, bytes })
     }
 
     // The bytes as they are shown.

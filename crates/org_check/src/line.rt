@@ -16,7 +16,7 @@ use crate::seen::Seen;
 use crate::settings::push_setting;
 use crate::unread_lines::{has_stamps, is_unclosed_block};
 use org_base::Fault;
-use org_base::words::trimmed;
+use org_base::words::{trim_start, trimmed};
 use org_class::Class;
 use org_stamp::leading_spaces;
 
@@ -70,7 +70,21 @@ fn check_clock(seen: &mut Seen<'_>, here: Here, line: &[u8]) -> Result<(), Fault
     Ok(())
 }
 
+// Puts what a line of text says. Most begin with a letter with which nothing begins that is looked for.
 fn check_text(seen: &mut Seen<'_>, here: Here, line: &[u8]) -> Result<(), Fault>
+    ensures memory { IsOkUnless result memory_fault }
+{
+    match trim_start(line) {
+        [
+            b'#' | b'*' | b'-' | b'+' | b'S' | b's' | b'D' | b'd' | b'C' | b'c',
+            ..
+        ] => { check_form(seen, here, line) }
+        _ => Ok(()),
+    }
+}
+
+// The same of a line that begins with such a letter.
+fn check_form(seen: &mut Seen<'_>, here: Here, line: &[u8]) -> Result<(), Fault>
     ensures memory { IsOkUnless result memory_fault }
 {
     check_blocks(seen, here, line)?;

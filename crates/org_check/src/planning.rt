@@ -174,6 +174,9 @@ pub(crate) fn push_heading_planning(
         return Ok(());
     }
     for at in 0..line.len() {
+        if !matches!(line[at], b'S' | b'D' | b'C') {
+            continue;
+        }
         let text = &line[at..];
         if planning_word(text).is_some() && looks_like_stamp(after_colon(text)) {
             let len = trimmed(text).len();

@@ -2,7 +2,7 @@
 
 use crate::unread_lines::past_spaces;
 use memchr::memrchr;
-use org_base::words::first_word;
+use org_base::words::{first_word, trim_end};
 use org_class::Class;
 use org_stamp::planning_word;
 
@@ -28,6 +28,8 @@ pub(crate) struct Whole {
     is_fixed_width: bool,
     // Whether inactive stamps say something in it.
     pub counts_inactive: bool,
+    // Where the white space at its end begins.
+    pub end: usize,
 }
 
 impl Quotes {
@@ -82,6 +84,7 @@ impl Quotes {
             tilde: memrchr(b'~', line),
             is_fixed_width: is_fixed_width(line),
             counts_inactive: counts_inactive(self.class, line),
+            end: trim_end(line).len(),
         };
         self.whole = Some(whole);
         whole

@@ -130,7 +130,7 @@ fn is_before(a: Option<TimeOfDay>, b: Option<TimeOfDay>) -> bool {
 fn push_sexp(notes: &mut Notes, here: Here, line: &[u8]) -> Result<(), AllocError> {
     let mut quotes = Quotes::new(here.class);
     for at in 0..line.len() {
-        if line[at..].starts_with(b"<%%(") && !quotes.holds(line, at) {
+        if line[at] == b'<' && line[at..].starts_with(b"<%%(") && !quotes.holds(line, at) {
             let len = trimmed(&line[at..]).len();
             return notes.push(here.note(BesideKind::DiarySexp, at, len));
         }

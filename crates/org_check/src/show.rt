@@ -89,9 +89,9 @@ pub fn finding_line<T: Text>(
     finding: &Finding,
     form: Form,
 ) -> Result<CleanLine, AllocError> {
-    let mut sentence = Draft::new(alloc);
+    let mut sentence = Draft::new(alloc)?;
     push_said(alloc, &mut sentence, text, finding)?;
-    let mut out = Draft::new(alloc);
+    let mut out = Draft::new(alloc)?;
     match form {
         Form::Lines => push_plain(&mut out, name, finding, sentence.as_slice())?,
         Form::Json => push_object(&mut out, name, finding, sentence.as_slice())?,
@@ -108,7 +108,7 @@ fn push_said<T: Text>(
 ) -> Result<(), AllocError> {
     // A few bytes more show that the text is longer.
     let len = finding.len.min(LONGEST_QUOTE + 4);
-    let mut bytes = Draft::new(alloc);
+    let mut bytes = Draft::new(alloc)?;
     push_part(&mut bytes, text, finding.at(), len)?;
     push_sentence(out, finding, bytes.as_slice())
 }

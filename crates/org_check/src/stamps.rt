@@ -13,7 +13,6 @@ use crate::stamp_kind::{Candidate, unread_kind};
 use crate::unread::next_look;
 use crate::unread_kinds::StampKind;
 use crate::unread_lines::has_stamps;
-use org_base::words::trim_end;
 use org_stamp::{first_close, next_close, stamp_at};
 use std::alloc::AllocError;
 
@@ -32,8 +31,19 @@ pub(crate) fn push_unread_stamps(
     }
 }
 
-// The same of a line at which stamps are looked for.
+// The same of a line at which stamps are looked for; in most nothing looks like one.
+#[tactic(auto, using(crate::proofs::SaidLemmas::no_looks))]
 fn push_unread(found: &mut Findings, here: Here, line: &[u8]) -> Result<(), AllocError>
+    ensures said { Says result found.old found.new (unread_marks here.at line.now) }
+{
+    match next_look(line, 0) {
+        None => Ok(()),
+        Some(_) => push_looks(found, here, line),
+    }
+}
+
+// Puts each place that looks like a stamp and is none.
+fn push_looks(found: &mut Findings, here: Here, line: &[u8]) -> Result<(), AllocError>
     ensures said { Says result found.old found.new (unread_marks here.at line.now) }
 {
     let mut quotes = Quotes::new(here.class);
@@ -70,19 +80,19 @@ fn push_if_none(
     let one = Found {
         kind: Kind::Stamp(kind_at(line, candidate, quotes)),
         place,
-        len: shown_len(line, candidate),
+        len: shown_len(line, candidate, quotes),
         cause: None,
     };
     found.push(here, one)
 }
 
 // How much of a text is shown that looks like a stamp: up to the next closing bracket, or to the end of the line.
-fn shown_len(line: &[u8], candidate: Candidate) -> usize {
+fn shown_len(line: &[u8], candidate: Candidate, quotes: &mut Quotes) -> usize {
     let Candidate { place, close } = candidate;
     if close < line.len() {
         close.saturating_sub(place).saturating_add(1)
     } else {
-        trim_end(line).len().saturating_sub(place)
+        quotes.whole(line).end.saturating_sub(place)
     }
 }
 

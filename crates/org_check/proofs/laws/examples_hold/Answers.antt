@@ -20,5 +20,7 @@ returns c = record {
   runs = refl;
   empty = refl;
   one_minute = refl;
+  two_marks = refl;
+  comment = refl;
   shown = refl;
 }

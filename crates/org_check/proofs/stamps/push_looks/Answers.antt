@@ -3,7 +3,7 @@ use Rattle.std.proofs.Common.{arith}
 use Rattle.org_stamp.proofs.LineLemmas.{close_later}
 use Rattle.org_check.specs.Said.{said}
 use Rattle.org_check.proofs.SaidLemmas.{close_from, stamp_step, stamps_end, stamps_past}
-use Rattle.org_check.proofs.stamps.push_unread.Goals as goal
+use Rattle.org_check.proofs.stamps.push_looks.Goals as goal
 
 pub next_close-close-requires-clause-known : goal.next_close-close-requires-clause-known
 next_close-close-requires-clause-known c =

@@ -6,7 +6,7 @@ use Rattle.org_check.specs.Marks.{mark_at}
 use Rattle.org_check.specs.Said.{said}
 use Rattle.org_check.specs.UnreadStamps.{unread_from, unread_in}
 use Rattle.org_check.specs.declared.look.Look.TheVariants.{Stamp}
-use Rattle.org_check.proofs.stamps.push_unread.Given as goal
+use Rattle.org_check.proofs.stamps.push_looks.Given as goal
 
 abbrev pub invariant-loop-from : goal.invariant-loop-from
 invariant-loop-from l = record {
