@@ -25,7 +25,7 @@ use Rattle.org_engine.specs.Rest.{LimitsAreNamed, PinsKeepTheWorld, CommandsLeav
 use Rattle.org_engine.proofs.LawLemmas.{next_state}
 
 pub limits : LimitsAreNamed
-limits = (refl, refl, refl)
+limits = (refl, refl)
 
 -- names that are the same, and names that differ
 same_number : (n : ℕ) → eqb n n ≡ true
