@@ -430,7 +430,8 @@ def page(specs, laws, first):
            "settles what the definition gives, and may be read in its place; one that ties *one way* says a part of it.", ""]
     out += [f"- {line}" for line in said(specs, counts)]
     out += ["", "| Settled by its law | Falls away, lines | Read instead |", "|---|---|---|"]
-    out += [f"| `{key[2]}` of `{key[0]}`: {', '.join(f'`{law}`' for law in tied[key])} | {each[key][0]} | {each[key][1]} |" for key in tied]
+    for key in sorted(tied, key=lambda key: each[key][1] - each[key][0]):
+        out.append(f"| `{key[2]}` of `{key[0]}`: {', '.join(f'`{law}`' for law in tied[key])} | {each[key][0]} | {each[key][1]} |")
     out += ["", "| Chapter | Definitions | Lines | Without comments | May be skipped |", "|---|---|---|---|---|"]
     for name in ordered:
         lines, bare, count = sizes(specs, chapters[name])
