@@ -3,4 +3,4 @@ use Rattle.org_check.specs.Clean.{AreCleanLines}
 use Rattle.orgq.proofs.findings.report_of.Given as goal
 
 abbrev pub invariant-loop-file : goal.invariant-loop-file
-invariant-loop-file g l = AreCleanLines l.all.lines.items
+invariant-loop-file l = AreCleanLines l.all.lines.items
