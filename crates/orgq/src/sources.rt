@@ -26,7 +26,7 @@ pub fn paths<R: AllocGlobal + Files + Env>(
     let paths = if named.is_empty() && bare.is_empty() && own.is_empty() {
         listed(rt)?
     } else {
-        joined(rt.alloc(), &[named, bare, own])?
+        joined(rt.alloc(), named, bare, own)?
     };
     if paths.is_empty() {
         return Err(Problem::Files);
@@ -34,11 +34,16 @@ pub fn paths<R: AllocGlobal + Files + Env>(
     Ok(paths)
 }
 
-fn joined(alloc: Global, parts: &[&[&str]]) -> Result<Vec<String>, AllocError> {
+fn joined(
+    alloc: Global,
+    named: &[&str],
+    bare: &[&str],
+    own: &[&str],
+) -> Result<Vec<String>, AllocError> {
     let mut paths = Vec::new(alloc);
-    for part in parts {
-        push_each(alloc, &mut paths, part)?;
-    }
+    push_each(alloc, &mut paths, named)?;
+    push_each(alloc, &mut paths, bare)?;
+    push_each(alloc, &mut paths, own)?;
     Ok(paths)
 }
 
