@@ -1,0 +1,5 @@
+pub mod Changes
+pub mod Clocks
+pub mod Entry
+pub mod Laws
+pub mod Planning
