@@ -2,7 +2,7 @@
 # Checks the layers of crates.txt: no crate of the store of files stands on one of views or of patterns, straight or through
 # others. Says which does; and prints the longest chain of crates. The last line counts.
 cd "$(dirname "$0")/.." || exit 2
-store="org_text org_sequence org_pieces org_lines org_settings org_class org_head org_entry org_outline org_inherit org_index org_dated org_kept"
+store="org_text org_sequence org_pieces org_lines org_settings org_class org_head org_entry org_outline org_inherit org_index org_stamp_index org_store"
 above="org_expression org_match org_agenda org_near org_clocktable org_layout regex"
 sed 's/#.*//; /^ *$/d' crates.txt | awk -v store="$store" -v above="$above" '
     {

@@ -9,7 +9,7 @@
 # The count of growths ends a round, and not that none was refused, since some are done without. The last line counts.
 # To see it bite, build the program with an `Engine::edit` that takes the bytes out of the file first and then puts the others
 # in: where the second step finds no memory the first one stands, and this stops there.
-# And with a `read_one` of org_kept that keeps what an empty section says where `read_entry` finds no memory, so that a
+# And with a `read_one` of org_store that keeps what an empty section says where `read_entry` finds no memory, so that a
 # background step takes the mark away and loses what the section says: then the call `Work` lists no heading, and is named.
 here=$(cd "$(dirname "$0")" && pwd)
 streams="every-command places-and-what-is-made-from-them lists-of-one-file-in-every-form edits-of-one-section-among-many headings-that-come-and-go-among-many"

@@ -10,7 +10,7 @@ failed=0
 # A number, the file with its constant, and words that have to stand in a line for it to be meant, if it may mean something else.
 rules='
 14	crates/org_index/src/delays.rs	delay_or|today \+|WARNING
-4_194_304	crates/org_index/src/spots.rt	.
+4_194_304	crates/org_index/src/keys.rt	.
 366	crates/org_base/src/limits.rt	.
 256	crates/org_base/src/limits.rt	files|FILES
 67_108_864	crates/org_text/src/text.rt	.
@@ -53,8 +53,8 @@ done < "${TMPDIR:-/tmp}/rules.$$"
 # Functions that may have more: their parameters are the words of a command, or those of a trait.
 wide='org_engine::edit org_engine::complete org_engine::complete_and_tell org_engine::add org_engine::change org_engine::completed
 org_engine::dated_text org_engine::days_text org_engine::todo_text org_engine::match_text org_engine::matching_text
-org_engine::view_text org_engine::view_over org_agenda::near org_near::near org_file::complete org_file::complete_entry
-org_kept::set_text'
+org_engine::view_text org_engine::view_over org_agenda::near org_near::near org_complete::complete org_complete::complete_entry
+org_store::set_text'
 for file in $(find crates -name out -prune -o -type f -path '*/src/*.rt' -print | sort); do
     crate=${file#crates/}
     crate=${crate%%/*}

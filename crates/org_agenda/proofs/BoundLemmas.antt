@@ -13,12 +13,12 @@ use Rattle.org_agenda.specs.Bound.{RowsAreOfNear, gives_row, is_some_row, kept_a
 use Rattle.org_agenda.specs.Days.{source_rows}
 use Rattle.org_agenda.specs.Near.{IsSound, is_near}
 use Rattle.org_agenda.specs.Sources.{entry_sources, head_sources, owner_of, sources_at, sources_from, sources_of}
-use Rattle.org_agenda.specs.declared.source.Source.{Source}
+use Rattle.org_agenda.specs.declared.source.HeadingStamp.{HeadingStamp}
 use Rattle.org_agenda.proofs.ListLemmas.{filter_append}
 use Rattle.org_agenda.proofs.NearRowLemmas.{rows_are_near}
 
 -- what passes one test passes the other
-fewer : (p q : Source → Bool) (xs : List Source) → All (λ s. p s ≡ true → q s ≡ true) xs → length (filter p xs) ≤ length (filter q xs)
+fewer : (p q : HeadingStamp → Bool) (xs : List HeadingStamp) → All (λ s. p s ≡ true → q s ≡ true) xs → length (filter p xs) ≤ length (filter q xs)
 fewer p q [] all = omega arith
 fewer p q (x ∷ xs) all =
     let more : length (filter p xs) ≤ length (filter q xs) = fewer p q xs (λ k d lt. all (suc k) d (omega (arith, lt))) in
@@ -36,7 +36,7 @@ none_any f first (suc n) none =
     ap (λ b. b || list_any f (range_with_len (first + 1) n)) (none first (omega arith) (omega arith))
     ∙ none_any f (first + 1) n (λ day low high. none day (omega (arith, low)) (omega (arith, high)))
 
-gives_near : (p : Profile) (first count today : ℕ) (s : Source) → IsSound s → gives_row p first count today s ≡ true → is_near p first (first + count - 1) today s ≡ true
+gives_near : (p : Profile) (first count today : ℕ) (s : HeadingStamp) → IsSound s → gives_row p first count today s ≡ true → is_near p first (first + count - 1) today s ≡ true
 gives_near p first count today s sound gives = elim (cases_Bool (is_near p first (first + count - 1) today s)) [
   | inl near ↦ near
   | inr far ↦
@@ -45,8 +45,8 @@ gives_near p first count today s sound gives = elim (cases_Bool (is_near p first
       absurd (true≢false (sym gives ∙ none))
 ]
 
-module _ (q : Source → Bool) where
-  joined_count : (xs ys : List Source) → length (filter q (xs ++ ys)) ≡ length (filter q xs) + length (filter q ys)
+module _ (q : HeadingStamp → Bool) where
+  joined_count : (xs ys : List HeadingStamp) → length (filter q (xs ++ ys)) ≡ length (filter q xs) + length (filter q ys)
   joined_count xs ys = ap length (filter_append q xs ys) ∙ length-append (filter q xs) (filter q ys)
 
   at_most : (scope : Scope) (file i : ℕ) (e : Entry) (head : Option Head) → length (filter q (head_sources scope file i e head)) ≤ length (filter q (kept_at scope file i e head))
@@ -68,7 +68,7 @@ module _ (q : Source → Bool) where
 pub rows_are_of_near : RowsAreOfNear
 rows_are_of_near p first count today scopes sound =
     let all = sources_of 0 scopes in
-    let near : Source → Bool = is_near p first (first + count - 1) today in
+    let near : HeadingStamp → Bool = is_near p first (first + count - 1) today in
     let one : length (filter (gives_row p first count today) all) ≤ length (filter near all) = fewer (gives_row p first count today) near all (λ k d lt. gives_near p first count today (slice_index_or all k d) (sound k d lt)) in
     let two : length (filter near all) ≤ length (filter near (kept_of 0 scopes)) = of_most near 0 scopes in
     omega (arith, one, two)

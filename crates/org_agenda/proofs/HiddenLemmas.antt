@@ -16,8 +16,8 @@ use Rattle.org_agenda.specs.Order.{by_key}
 use Rattle.org_agenda.specs.Sources.{entry_sources, file_sources, head_sources, owner_of, sources_from, sources_of, under}
 use Rattle.org_agenda.specs.declared.lists.TheConstants.{PRIORITIES}
 use Rattle.org_agenda.specs.declared.row.Row.{Row}
-use Rattle.org_agenda.specs.declared.source.Owner.{Owner}
-use Rattle.org_agenda.specs.declared.source.Source.{Source}
+use Rattle.org_agenda.specs.declared.source.HeadingRef.{HeadingRef}
+use Rattle.org_agenda.specs.declared.source.HeadingStamp.{HeadingStamp}
 use Rattle.org_agenda.proofs.DayLemmas.{all_by}
 
 -- a heading of the file at a place, which isn't hidden there
@@ -81,26 +81,26 @@ stand_nowhere listing over scopes =
     (all_by (RowInSight scopes) (λ (r : Ranked). r.priority) PRIORITIES came (files_shown listing over scopes 0 scopes (λ k. ap (slice_get scopes) (omega arith))))
 
 -- stamps of agendas
-abbrev IsOwn : Owner → Source → Type 0
+abbrev IsOwn : HeadingRef → HeadingStamp → Type 0
 IsOwn owner s = s.owner ≡ owner
 
-all_own : (owner : Owner) (ss : List EntryStamp) → All (IsOwn owner) (map (under owner) ss)
+all_own : (owner : HeadingRef) (ss : List EntryStamp) → All (IsOwn owner) (map (under owner) ss)
 all_own owner [] = All-nil (IsOwn owner)
 all_own owner (s ∷ ss) = All-cons (IsOwn owner) (under owner s) (map (under owner) ss) refl (all_own owner ss)
 
 module _ (scope : Scope) (file : ℕ) where
-  abbrev StampOf : Source → Type 0
+  abbrev StampOf : HeadingStamp → Type 0
   StampOf s = IsOf scope file s.owner.file s.owner.heading
 
-  own_stamp : (i : ℕ) (e : Entry) (head : Head) (s : Source) → is_hidden scope.entries i ≡ false → IsOwn (owner_of scope file i e head) s → StampOf s
-  own_stamp i e head s shown is = (ap (λ (o : Owner). o.file) is, ap (λ (o : Owner). is_hidden scope.entries o.heading) is ∙ shown)
+  own_stamp : (i : ℕ) (e : Entry) (head : Head) (s : HeadingStamp) → is_hidden scope.entries i ≡ false → IsOwn (owner_of scope file i e head) s → StampOf s
+  own_stamp i e head s shown is = (ap (λ (o : HeadingRef). o.file) is, ap (λ (o : HeadingRef). is_hidden scope.entries o.heading) is ∙ shown)
 
   stamps_of_head : (i : ℕ) (e : Entry) (head : Option Head) → All StampOf (head_sources scope file i e head)
   stamps_of_head i e None = All-nil StampOf
   stamps_of_head i e (Some head) = elim (cases_Bool (is_hidden scope.entries i)) [
     | inl yes' ↦ rw yes' (All-nil StampOf)
     | inr no' ↦
-        let owner : Owner = owner_of scope file i e head in
+        let owner : HeadingRef = owner_of scope file i e head in
         rw no' (All-weaker (IsOwn owner) StampOf (λ s is. own_stamp i e head s no' is) (entry_sources owner e) (all_own owner (stamps_under owner.is_open e)))
   ]
 
@@ -108,7 +108,7 @@ module _ (scope : Scope) (file : ℕ) where
   stamps_from i [] = All-nil StampOf
   stamps_from i (e ∷ es) = All-append StampOf (head_sources scope file i e e.head) (sources_from scope file (i + 1) es) (stamps_of_head i e e.head) (stamps_from (i + 1) es)
 
-abbrev StampInSight : List Scope → Source → Type 0
+abbrev StampInSight : List Scope → HeadingStamp → Type 0
 StampInSight all s = IsInSight all s.owner.file s.owner.heading
 
 stamps_of_files : (all : List Scope) (file : ℕ) (scopes : List Scope) → AreFrom all file scopes → All (StampInSight all) (sources_of file scopes)

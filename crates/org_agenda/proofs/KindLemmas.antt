@@ -17,7 +17,7 @@ use Rattle.org_stamp.specs.declared.mark.Delay.{Delay}
 use Rattle.org_stamp.specs.declared.stamp.Stamp.{Stamp}
 use Rattle.org_agenda.specs.Days.{due_day, is_due, occurs_delayed, occurs_later}
 use Rattle.org_index.specs.Delays.{days_in, delay_or}
-use Rattle.org_agenda.specs.declared.source.Source.{Source}
+use Rattle.org_agenda.specs.declared.source.HeadingStamp.{HeadingStamp}
 use Rattle.org_agenda.specs.declared.row.RowKind.TheVariants.{Listed, OnDay, InRange, OnSchedule, LateSchedule, OnDeadline, Warning, LateDeadline}
 use Rattle.org_agenda.specs.Rules.{ComesNear, DeadlinesWarnAhead, IsDays, IsDelayOr, IsDueToday, IsLater, IsOnSchedule, IsRangeOn, IsWarnedOf, KindsAreByRule}
 use Rattle.org_agenda.proofs.RuleLemmas.{delays}
@@ -117,10 +117,10 @@ none_is : (o : Option (ℕ × Option ℕ)) → is_none o ≡ true → o ≡ None
 none_is None h = refl
 none_is (Some x) h = absurd cc
 
-due_parts : (s : Source) (t d : ℕ) → is_due s t d ≡ true → IsDueToday s t d
+due_parts : (s : HeadingStamp) (t d : ℕ) → is_due s t d ≡ true → IsDueToday s t d
 due_parts s t d h = (eqb-true d t (left _ _ h), right _ _ h)
 
-due : (s : Source) (t d : ℕ) → IsDueToday s t d → is_due s t d ≡ true
+due : (s : HeadingStamp) (t d : ℕ) → IsDueToday s t d → is_due s t d ≡ true
 due s t d h = and_from _ _ (eq-eqb d t h.0) h.1
 
 -- the day of which a deadline warns
@@ -136,10 +136,10 @@ warned_only : (p : Profile) (s : Stamp) (t day : ℕ) → IsDay s.day → IsWarn
 warned_only One s t day base h = sym h
 warned_only Two s t day base h = ap (λ (o : Option ℕ). unwrap_or o 0) ((next_is_decided s t day base).0 h)
 
-near : (p : Profile) (s : Source) (t : ℕ) → IsDay s.stamp.day → due_day p s.stamp t ≤ t + delay_or 14 s.stamp.delay → t < due_day p s.stamp t → ComesNear p s t
+near : (p : Profile) (s : HeadingStamp) (t : ℕ) → IsDay s.stamp.day → due_day p s.stamp t ≤ t + delay_or 14 s.stamp.delay → t < due_day p s.stamp t → ComesNear p s t
 near p s t base le lt = (due_day p s.stamp t, delay_or 14 s.stamp.delay, warned_there p s.stamp t base lt, delay_there 14 s.stamp.delay, lt, le)
 
-near_back : (p : Profile) (s : Source) (t : ℕ) → IsDay s.stamp.day → ComesNear p s t → (t < due_day p s.stamp t) × (due_day p s.stamp t ≤ t + delay_or 14 s.stamp.delay)
+near_back : (p : Profile) (s : HeadingStamp) (t : ℕ) → IsDay s.stamp.day → ComesNear p s t → (t < due_day p s.stamp t) × (due_day p s.stamp t ≤ t + delay_or 14 s.stamp.delay)
 near_back p s t base h =
     let day = warned_only p s.stamp t h.0 base h.2 in
     let days = delay_only 14 h.1 s.stamp.delay h.3 in

@@ -11,9 +11,9 @@ use Rattle.org_cal.specs.Days.{IsDay}
 use Rattle.org_cal.specs.declared.unit.Unit.{Unit as TimeUnit}
 use Rattle.org_cal.specs.declared.unit.Unit.TheVariants.{Hour, Day, Week, Month, Year}
 use Rattle.org_index.specs.Delays.{days_in, delay_or}
-use Rattle.org_index.specs.Extents.{extent_of, last_day, repeats}
+use Rattle.org_index.specs.Reaches.{reach_of, last_day, repeats}
 use Rattle.org_index.specs.Near.{lies_in, touches, warns}
-use Rattle.org_index.specs.declared.extent.Extent.{Extent}
+use Rattle.org_index.specs.declared.reach.Reach.{Reach}
 use Rattle.org_repeat.specs.Decided.{next_after, occurs, occurs_in, range_start, start_of}
 use Rattle.org_repeat.specs.Occurs.{Begins, HoldsCopy, OccursBy, OccursOn, Repeats}
 use Rattle.org_repeat.proofs.DecidedLemmas.{next_is_decided, occurs_is_decided}
@@ -23,12 +23,12 @@ use Rattle.org_stamp.specs.declared.mark.Repeater.{Repeater}
 use Rattle.org_stamp.specs.declared.stamp.Stamp.{Stamp}
 use Rattle.org_agenda.specs.Days.{by_start, day_rows, due_day, is_due, is_shown, kind_rows, occurs_delayed, occurs_later, role_rows, source_rows}
 use Rattle.org_agenda.specs.Lists.{Ranked, in_order}
-use Rattle.org_agenda.specs.Near.{IsSound, NearGiveAll, RowsAreNear, is_near, is_planned, is_pressing}
+use Rattle.org_agenda.specs.Near.{IsSound, NearGiveAll, RowsAreNear, is_near, is_planned, is_reminding}
 use Rattle.org_agenda.specs.declared.row.RowKind.{RowKind}
 use Rattle.org_agenda.specs.declared.row.RowKind.TheVariants.{OnDay, InRange, OnSchedule, LateSchedule, OnDeadline, Warning, LateDeadline}
 use Rattle.org_entry.specs.declared.active.Role.{Role}
 use Rattle.org_entry.specs.declared.active.Role.TheVariants.{Plain, Scheduled, Deadline}
-use Rattle.org_agenda.specs.declared.source.Source.{Source}
+use Rattle.org_agenda.specs.declared.source.HeadingStamp.{HeadingStamp}
 
 le_is : (a b : ℕ) → a ≤ b → nat_le a b ≡ true
 le_is a b h = grind (arith, nat_tests)
@@ -84,7 +84,7 @@ due_late One s today real late = omega arith
 due_late Two s today real late = next_late s today (next_after s today) refl real late
 
 -- what touches the days
-module _ (from to : ℕ) (e : Extent) where
+module _ (from to : ℕ) (e : Reach) where
   abbrev some_day : Bool
   some_day = nat_le e.first to && (e.repeats || nat_le from e.last)
 
@@ -122,18 +122,18 @@ copy_occurs p s (Some last) day h = h
 
 module _ (p : Profile) (s : Stamp) (from to : ℕ) (real : IsDay s.day) where
   abbrev Touches : Type 0
-  Touches = touches from to (extent_of p s) ≡ true
+  Touches = touches from to (reach_of p s) ≡ true
 
   own_touches : from ≤ s.day → s.day ≤ to → Touches
-  own_touches low high = let own : s.day ≤ last_day s.day s.last = own_in s.day s.last in by_reach from to (extent_of p s) high (omega (arith, low, own))
+  own_touches low high = let own : s.day ≤ last_day s.day s.last = own_in s.day s.last in by_reach from to (reach_of p s) high (omega (arith, low, own))
 
   written_touches : (last : ℕ × Option ℕ) (day : ℕ) → s.last ≡ Some last → from ≤ day → day ≤ to → s.day ≤ day → day ≤ last.0 → Touches
   written_touches last day is low high begun within =
       let there : day ≤ last_day s.day s.last = subst (λ (l : Option (ℕ × Option ℕ)). day ≤ last_day s.day l) (sym is) (last_in s.day last day begun within) in
-      by_reach from to (extent_of p s) (omega (arith, begun, high)) (omega (arith, low, there))
+      by_reach from to (reach_of p s) (omega (arith, begun, high)) (omega (arith, low, there))
 
   again_touches : (r : Repeater) → s.repeater ≡ Some r → s.last ≡ None → s.day ≤ to → Touches
-  again_touches r again single high = by_again from to (extent_of p s) high (single_repeats p s r again single)
+  again_touches r again single high = by_again from to (reach_of p s) high (single_repeats p s r again single)
 
   -- an occurrence lies in the days
   begin_touches : (repeater : Option Repeater) (day : ℕ) → s.repeater ≡ repeater → s.last ≡ None → s.day ≤ day → from ≤ day → day ≤ to → OccursBy s.day (unwrap_or s.time 0) repeater day → Touches
@@ -145,7 +145,7 @@ module _ (p : Profile) (s : Stamp) (from to : ℕ) (real : IsDay s.day) where
       OccursBy s.day (unwrap_or s.time 0) repeater begins → begins ≤ day → day + s.day ≤ begins + last.0 → Touches
   copy_touches q None last day begins same two is there late low high at begun whole = written_touches last day there low high (omega (arith, late, begun)) (omega (arith, at, whole))
   copy_touches q (Some r) last day begins same two is there late low high o begun whole =
-      by_again from to (extent_of p s) (omega (arith, late, begun, high)) (ap (λ (x : Profile). repeats x s) (same ∙ two) ∙ ap is_some is)
+      by_again from to (reach_of p s) (omega (arith, late, begun, high)) (ap (λ (x : Profile). repeats x s) (same ∙ two) ∙ ap is_some is)
 
   on_touches : (q : Profile) (last : Option (ℕ × Option ℕ)) (day : ℕ) → p ≡ q → s.last ≡ last → from ≤ day → day ≤ to → OccursOn q s last day → Touches
   on_touches q None day same is low high o = begin_touches s.repeater day refl is (no_earlier_begin s day real o) low high o
@@ -165,7 +165,7 @@ module _ (p : Profile) (s : Stamp) (from to : ℕ) (real : IsDay s.day) where
   -- an occurrence so many days before lies in the days with its delay
   before_by : (repeater : Option Repeater) (n day : ℕ) → s.repeater ≡ repeater → s.last ≡ None → s.day + delay_or 0 s.delay ≡ s.day + n → n < day → s.day ≤ day - n → from ≤ day → day ≤ to → OccursBy s.day (unwrap_or s.time 0) repeater (day - n) → Touches
   before_by None n day is single delay past begun low high at =
-      by_delay from to (extent_of p s) (omega (arith, at, delay, past, low)) (omega (arith, at, delay, past, high))
+      by_delay from to (reach_of p s) (omega (arith, at, delay, past, low)) (omega (arith, at, delay, past, high))
   before_by (Some r) n day is single delay past begun low high o = again_touches r is single (omega (arith, begun, past, high))
 
   before_touches : (n day : ℕ) → s.last ≡ None → s.day + delay_or 0 s.delay ≡ s.day + n → n < day → from ≤ day → day ≤ to → occurs p s (day - n) ≡ true → Touches
@@ -175,7 +175,7 @@ module _ (p : Profile) (s : Stamp) (from to : ℕ) (real : IsDay s.day) where
 
   later_touches : (first_only : Bool) (n day : ℕ) → s.last ≡ None → s.day + delay_or 0 s.delay ≡ s.day + n → from ≤ day → day ≤ to → occurs_later p first_only s n day ≡ true → Touches
   later_touches true n day single delay low high h = elim (or_cases (day == s.day + n) (not (day == s.day) && occurs p s day) h) [
-    | inl moved ↦ let at : day ≡ s.day + n = eq_of day (s.day + n) moved in by_delay from to (extent_of p s) (omega (arith, at, delay, low)) (omega (arith, at, delay, high))
+    | inl moved ↦ let at : day ≡ s.day + n = eq_of day (s.day + n) moved in by_delay from to (reach_of p s) (omega (arith, at, delay, low)) (omega (arith, at, delay, high))
     | inr other ↦ occurs_touches day low high (and_parts (not (day == s.day)) (occurs p s day) other).1
   ]
   later_touches false n day single delay low high h =
@@ -186,15 +186,15 @@ module _ (p : Profile) (s : Stamp) (from to : ℕ) (real : IsDay s.day) where
   delayed_touches None day is single low high h = occurs_touches day low high h
   delayed_touches (Some d) day is single low high h = later_touches d.first_only (days_in d.unit d.n) day single (ap (λ (o : Option Delay). s.day + delay_or 0 o) is) low high h
 
-module _ (p : Profile) (s : Source) (from to today day : ℕ) (sound : IsSound s) (low : from ≤ day) (high : day ≤ to) where
+module _ (p : Profile) (s : HeadingStamp) (from to today day : ℕ) (sound : IsSound s) (low : from ≤ day) (high : day ≤ to) where
   abbrev Near : Type 0
   Near = is_near p from to today s ≡ true
 
   abbrev Touched : Bool
-  Touched = touches from to (extent_of p s.stamp)
+  Touched = touches from to (reach_of p s.stamp)
 
   abbrev Warned : Bool
-  Warned = is_pressing s && warns from to today (extent_of p s.stamp)
+  Warned = is_reminding s && warns from to today (reach_of p s.stamp)
 
   touched : Touched ≡ true → Near
   touched h = left Touched Warned h
@@ -205,7 +205,7 @@ module _ (p : Profile) (s : Source) (from to today day : ℕ) (sound : IsSound s
       let t = and_parts (day == today) s.owner.is_open due in
       let at : day ≡ today = eq_of day today t.0 in
       right Touched Warned
-      (both (is_pressing s) (warns from to today (extent_of p s.stamp)) (both (is_planned s.role) s.owner.is_open planned t.1)
+      (both (is_reminding s) (warns from to today (reach_of p s.stamp)) (both (is_planned s.role) s.owner.is_open planned t.1)
       (both (lies_in from to today) (nat_le (s.stamp.day - delay_or 14 s.stamp.delay) today)
       (both (nat_le from today) (nat_le today to) (le_is from today (omega (arith, at, low))) (le_is today to (omega (arith, at, high))))
       (le_is (s.stamp.day - delay_or 14 s.stamp.delay) today (omega (arith, soon)))))
@@ -266,7 +266,7 @@ pub rows_are_near : RowsAreNear
 rows_are_near p s from to today day sound low high far = no_rows p s from to today day sound low high far
 
 -- what a test leaves out may be left out
-kept : (f : Source → List Ranked) (p : Source → Bool) (xs : List Source) → All (λ s. p s ≡ false → f s ≡ []) xs → flat_map f (filter p xs) ≡ flat_map f xs
+kept : (f : HeadingStamp → List Ranked) (p : HeadingStamp → Bool) (xs : List HeadingStamp) → All (λ s. p s ≡ false → f s ≡ []) xs → flat_map f (filter p xs) ≡ flat_map f xs
 kept f p [] none = refl
 kept f p (x ∷ xs) none =
     let more : All (λ s. p s ≡ false → f s ≡ []) xs = λ k d lt. none (suc k) d (omega (arith, lt)) in
@@ -275,7 +275,7 @@ kept f p (x ∷ xs) none =
       | inr no' ↦ rw no' (kept f p xs more ∙ sym (ap (λ ys. ys ++ flat_map f xs) (none 0 x (omega arith) no')) ∙ sym (flat_map-cons f x xs))
     ]
 
-far_from : (p : Profile) (xs : List Source) (from to today day : ℕ) → All IsSound xs → from ≤ day → day ≤ to → All (λ s. is_near p from to today s ≡ false → source_rows p today day s ≡ []) xs
+far_from : (p : Profile) (xs : List HeadingStamp) (from to today day : ℕ) → All IsSound xs → from ≤ day → day ≤ to → All (λ s. is_near p from to today s ≡ false → source_rows p today day s ≡ []) xs
 far_from p xs from to today day sound low high = λ k d lt far. rows_are_near p (slice_index_or xs k d) from to today day (sound k d lt) low high far
 
 pub near_give_all : NearGiveAll

@@ -38,10 +38,10 @@ use Rattle.org_stamp.proofs.ReadLemmas.{single_found}
 use Rattle.org_stamp.proofs.SpelledLemmas.{inner_is_spelled}
 use Rattle.org_agenda.specs.Near.{IsSound, ReadStampsAreSound}
 use Rattle.org_agenda.specs.Sources.{entry_sources, file_sources, head_sources, owner_of, sources_at, sources_from, sources_of, under}
-use Rattle.org_agenda.specs.declared.source.Owner.{Owner}
+use Rattle.org_agenda.specs.declared.source.HeadingRef.{HeadingRef}
 use Rattle.org_entry.specs.declared.active.Role.{Role}
 use Rattle.org_entry.specs.declared.active.Role.TheVariants.{Plain, Scheduled, Deadline}
-use Rattle.org_agenda.specs.declared.source.Source.{Source}
+use Rattle.org_agenda.specs.declared.source.HeadingStamp.{HeadingStamp}
 
 -- it is a day's, and no range
 abbrev Single : Stamp → Type 0
@@ -166,16 +166,16 @@ lines_dated settings (l ∷ ls) =
     (append_dated (stamps_of settings l.at l.class l.bytes) _ (class_dated settings l.at l.class l.bytes) (lines_dated settings ls))
 
 -- the stamps of headings
-abbrev AllSound : List Source → Type 0
+abbrev AllSound : List HeadingStamp → Type 0
 AllSound [] = Unit {0}
 AllSound (s ∷ ss) = IsSound s × AllSound ss
 
-pub all_sound : (ss : List Source) → AllSound ss → All IsSound ss
+pub all_sound : (ss : List HeadingStamp) → AllSound ss → All IsSound ss
 all_sound [] h k d lt = absurd (omega (arith, lt))
 all_sound (s ∷ ss) h zero d lt = h.0
 all_sound (s ∷ ss) h (suc k) d lt = all_sound ss h.1 k d (omega (arith, lt))
 
-append_sound : (ss ts : List Source) → AllSound ss → AllSound ts → AllSound (ss ++ ts)
+append_sound : (ss ts : List HeadingStamp) → AllSound ss → AllSound ts → AllSound (ss ++ ts)
 append_sound [] ts a b = b
 append_sound (s ∷ ss) ts a b = (a.0, append_sound ss ts a.1 b)
 
@@ -198,13 +198,13 @@ plain_sound : (opens : Bool) (fs : List Found) → AllDated fs → All IsSoundSt
 plain_sound opens [] h = All-nil IsSoundStamp
 plain_sound opens (f ∷ fs) h = All-cons IsSoundStamp (stamp_at opens Plain f.at f.stamp) (plain_stamps opens fs) (h.0, λ is. absurd (cc)) (plain_sound opens fs h.1)
 
-under_sound : (owner : Owner) (ss : List EntryStamp) → All IsSoundStamp ss → AllSound (map (under owner) ss)
+under_sound : (owner : HeadingRef) (ss : List EntryStamp) → All IsSoundStamp ss → AllSound (map (under owner) ss)
 under_sound owner [] all = tt
 under_sound owner (s ∷ ss) all =
     let one = All-head IsSoundStamp s ss all in
     (record { day = one.0; single = one.1 }, under_sound owner ss (All-tail IsSoundStamp s ss all))
 
-entry_sound : (owner : Owner) (settings : FileSettings) (section : List ℕ) → AllSound (entry_sources owner (entry_of settings section))
+entry_sound : (owner : HeadingRef) (settings : FileSettings) (section : List ℕ) → AllSound (entry_sources owner (entry_of settings section))
 entry_sound owner settings section =
     let e = entry_of settings section in
     let plain = plain_sound owner.is_open e.details.stamps (lines_dated settings (placed 0 (lines section) (section_classes section))) in

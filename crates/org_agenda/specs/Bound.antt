@@ -9,20 +9,20 @@ use Rattle.org_agenda.specs.Days.{source_rows}
 use Rattle.org_agenda.specs.Lists.{Ranked}
 use Rattle.org_agenda.specs.Near.{IsSound, near_sources}
 use Rattle.org_agenda.specs.Sources.{entry_sources, owner_of, sources_of}
-use Rattle.org_agenda.specs.declared.source.Source.{Source}
+use Rattle.org_agenda.specs.declared.source.HeadingStamp.{HeadingStamp}
 
 -- the active stamps of a heading, whether it is hidden or not
-abbrev pub kept_at : Scope → ℕ → ℕ → Entry → Option Head → List Source
+abbrev pub kept_at : Scope → ℕ → ℕ → Entry → Option Head → List HeadingStamp
 kept_at scope file i e None = []
 kept_at scope file i e (Some head) = entry_sources (owner_of scope file i e head) e
 
 -- those of entries, the first of which stands at a place
-abbrev pub kept_from : Scope → ℕ → ℕ → List Entry → List Source
+abbrev pub kept_from : Scope → ℕ → ℕ → List Entry → List HeadingStamp
 kept_from scope file i [] = []
 kept_from scope file i (e ∷ es) = kept_at scope file i e e.head ++ kept_from scope file (i + 1) es
 
 -- those of files, the first of which stands at a place
-abbrev pub kept_of : ℕ → List Scope → List Source
+abbrev pub kept_of : ℕ → List Scope → List HeadingStamp
 kept_of file [] = []
 kept_of file (scope ∷ scopes) = kept_from scope file 0 scope.entries ++ kept_of (file + 1) scopes
 
@@ -36,7 +36,7 @@ is_some_row [] = false
 is_some_row (r ∷ rs) = true
 
 -- the stamp gives a row on one of so many days from a first one on
-abbrev pub gives_row : Profile → ℕ → ℕ → ℕ → Source → Bool
+abbrev pub gives_row : Profile → ℕ → ℕ → ℕ → HeadingStamp → Bool
 gives_row p first count today s = list_any (λ day. is_some_row (source_rows p today day s)) (range_with_len first count)
 
 -- how many stamps give one

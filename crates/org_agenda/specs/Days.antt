@@ -12,13 +12,13 @@ use Rattle.org_index.specs.declared.delays.TheConstants.{WARNING_DAYS}
 use Rattle.org_agenda.specs.Lists.{Ranked, in_order}
 use Rattle.org_agenda.specs.Order.{by_key}
 use Rattle.org_agenda.specs.declared.days.TheConstants.{STARTS}
-use Rattle.org_agenda.specs.declared.source.Source.{Source}
+use Rattle.org_agenda.specs.declared.source.HeadingStamp.{HeadingStamp}
 use Rattle.org_entry.specs.declared.active.Role.{Role}
 use Rattle.org_entry.specs.declared.active.Role.TheVariants.{Plain, Scheduled, Deadline}
 use Rattle.org_agenda.specs.declared.row.Row.{Row}
 use Rattle.org_agenda.specs.declared.row.RowKind.{RowKind}
 use Rattle.org_agenda.specs.declared.row.RowKind.TheVariants.{Listed, OnDay, InRange, OnSchedule, LateSchedule, OnDeadline, Warning, LateDeadline}
-use Rattle.org_agenda.specs.declared.standpoint.Standpoint.{Standpoint}
+use Rattle.org_agenda.specs.declared.as_of.AsOf.{AsOf}
 
 -- `-N` moves each occurrence, `--N` the base day alone
 abbrev pub occurs_later : Profile → Bool → Stamp → ℕ → ℕ → Bool
@@ -37,11 +37,11 @@ due_day One s today = s.day
 due_day Two s today = unwrap_or (next_after s today) 0
 
 -- the day is today, and the heading has no done keyword
-abbrev pub is_due : Source → ℕ → ℕ → Bool
+abbrev pub is_due : HeadingStamp → ℕ → ℕ → Bool
 is_due s today day = (day == today) && s.owner.is_open
 
 -- the test of each kind, on a day with the moment's day
-abbrev pub is_shown : Profile → RowKind → Source → ℕ → ℕ → Bool
+abbrev pub is_shown : Profile → RowKind → HeadingStamp → ℕ → ℕ → Bool
 is_shown p Listed s today day = false
 is_shown p OnDay s today day = is_none s.stamp.last && occurs p s.stamp day
 is_shown p InRange s today day = is_some (range_start p s.stamp day)
@@ -87,7 +87,7 @@ numbers p LateDeadline s day = (day - s.day, 0)
 numbers p _ s day = (0, 0)
 
 -- the row of a kind that a stamp gives on a day
-abbrev pub stamp_row : Profile → RowKind → Source → ℕ → Row
+abbrev pub stamp_row : Profile → RowKind → HeadingStamp → ℕ → Row
 stamp_row p kind s day = record {
   kind = kind;
   start = (times p kind s.stamp day).0;
@@ -100,17 +100,17 @@ stamp_row p kind s day = record {
 }
 
 -- the row of a kind, where the day shows it
-abbrev pub kind_rows : Profile → RowKind → Source → ℕ → ℕ → List Ranked
+abbrev pub kind_rows : Profile → RowKind → HeadingStamp → ℕ → ℕ → List Ranked
 kind_rows p kind s today day = if is_shown p kind s today day then record { priority = s.owner.priority; row = stamp_row p kind s day } ∷ [] else []
 
 -- a plain stamp shows its day or its range, a scheduled one when it is due or late, a deadline when it is due, warns or is late
-abbrev pub role_rows : Profile → Role → Source → ℕ → ℕ → List Ranked
+abbrev pub role_rows : Profile → Role → HeadingStamp → ℕ → ℕ → List Ranked
 role_rows p Plain s today day = kind_rows p OnDay s today day ++ kind_rows p InRange s today day
 role_rows p Scheduled s today day = kind_rows p OnSchedule s today day ++ kind_rows p LateSchedule s today day
 role_rows p Deadline s today day = kind_rows p OnDeadline s today day ++ (kind_rows p Warning s today day ++ kind_rows p LateDeadline s today day)
 
 -- the rows that a stamp gives on a day
-unfoldable pub source_rows : Profile → ℕ → ℕ → Source → List Ranked
+unfoldable pub source_rows : Profile → ℕ → ℕ → HeadingStamp → List Ranked
 source_rows p today day s = role_rows p s.role s today day
 
 -- rows with a start first, by start
@@ -127,19 +127,19 @@ abbrev pub by_start : List Row → List Row
 by_start rows = map (λ (r : Ranked). r.row) (by_key (λ (r : Ranked). r.priority) STARTS (map started rows))
 
 -- the rows of stamps on a day: by start, then by priority, then in the order of the stamps
-unfoldable pub day_rows : Profile → List Source → ℕ → ℕ → List Row
+unfoldable pub day_rows : Profile → List HeadingStamp → ℕ → ℕ → List Row
 day_rows p sources today day = by_start (in_order (flat_map (source_rows p today day) sources))
 
 -- the agenda of some days: the profile, the stamps that it looks at, the moment's day, the first day, and how many there are
 pub record AgendaView : Type 0 where
   pub profile : Profile
-  pub sources : List Source
+  pub sources : List HeadingStamp
   pub today : ℕ
   pub first : ℕ
   pub count : ℕ
 
 -- the agenda of so many days from a first one on
-abbrev pub agenda_of : Profile → List Source → ℕ → ℕ → ℕ → AgendaView
+abbrev pub agenda_of : Profile → List HeadingStamp → ℕ → ℕ → ℕ → AgendaView
 agenda_of p sources today first count = record { profile = p; sources = sources; today = today; first = first; count = count }
 
 -- the rows of the day so many days after an agenda's first
@@ -147,5 +147,5 @@ abbrev pub rows_ahead : AgendaView → ℕ → List Row
 rows_ahead agenda ahead = day_rows agenda.profile agenda.sources agenda.today (agenda.first + ahead)
 
 -- some stamps give the rows that all give, on each day from one to another
-abbrev pub GiveAllRows : Standpoint → List Source → ℕ → ℕ → List Source → Type 0
+abbrev pub GiveAllRows : AsOf → List HeadingStamp → ℕ → ℕ → List HeadingStamp → Type 0
 GiveAllRows seen all from to some = (day : ℕ) → from ≤ day → day ≤ to → day_rows seen.profile some seen.today day ≡ day_rows seen.profile all seen.today day

@@ -18,7 +18,7 @@ use Rattle.org_agenda.specs.Days.{is_shown, numbers, times}
 use Rattle.org_index.specs.Delays.{days_in}
 use Rattle.org_agenda.specs.Headings.{keyword_in}
 use Rattle.org_agenda.specs.Sources.{owner_of}
-use Rattle.org_agenda.specs.declared.source.Source.{Source}
+use Rattle.org_agenda.specs.declared.source.HeadingStamp.{HeadingStamp}
 use Rattle.org_agenda.specs.declared.row.RowKind.{RowKind}
 use Rattle.org_agenda.specs.declared.row.RowKind.TheVariants.{Listed, OnDay, InRange, OnSchedule, LateSchedule, OnDeadline, Warning, LateDeadline}
 
@@ -50,7 +50,7 @@ IsOnSchedule p s None day = Occurs p s day
 IsOnSchedule p s (Some d) day = (n : ℕ) × IsDays d.unit d.n n × IsLater p d.first_only s n day
 
 -- today, of a heading that is open
-abbrev pub IsDueToday : Source → ℕ → ℕ → Type 0
+abbrev pub IsDueToday : HeadingStamp → ℕ → ℕ → Type 0
 IsDueToday s today day = (day ≡ today) × (s.owner.is_open ≡ true)
 
 -- the day of which a deadline warns today: in the first profile its own, in the second where it begins next
@@ -59,11 +59,11 @@ IsWarnedOf One s today due = due ≡ s.day
 IsWarnedOf Two s today due = IsNextAfter s today due
 
 -- late from the day after the base, so many days more where it has a delay
-abbrev pub IsLateBy : Source → ℕ → Type 0
+abbrev pub IsLateBy : HeadingStamp → ℕ → Type 0
 IsLateBy s today = (n : ℕ) × IsDelayOr 0 s.stamp.delay n × (s.stamp.day + n < today)
 
 -- it comes within 14 days, or within those of its delay
-abbrev pub ComesNear : Profile → Source → ℕ → Type 0
+abbrev pub ComesNear : Profile → HeadingStamp → ℕ → Type 0
 ComesNear p s today = (due days : ℕ) × IsWarnedOf p s.stamp today due × IsDelayOr 14 s.stamp.delay days × (today < due) × (due ≤ today + days)
 
 -- a range that has the day
@@ -71,7 +71,7 @@ abbrev pub IsRangeOn : Profile → Stamp → ℕ → Type 0
 IsRangeOn p s day = (last : ℕ × Option ℕ) × (s.last ≡ Some last) × OccursInRange p s last.0 day
 
 -- when there is a row of a kind on a day
-abbrev pub IsByRule : Profile → RowKind → Source → ℕ → ℕ → Type 0
+abbrev pub IsByRule : Profile → RowKind → HeadingStamp → ℕ → ℕ → Type 0
 IsByRule p Listed s today day = ⊥
 IsByRule p OnDay s today day = (s.stamp.last ≡ None) × Occurs p s.stamp day
 IsByRule p InRange s today day = IsRangeOn p s.stamp day
@@ -83,11 +83,11 @@ IsByRule p LateDeadline s today day = IsDueToday s today day × (s.stamp.day < t
 
 -- a day shows a row of a kind exactly where the kind's rule says so
 abbrev pub KindsAreByRule : Type 0
-KindsAreByRule = (p : Profile) (kind : RowKind) (s : Source) (today day : ℕ) → IsDay s.stamp.day → IsTrue (is_shown p kind s today day) ↔ IsByRule p kind s today day
+KindsAreByRule = (p : Profile) (kind : RowKind) (s : HeadingStamp) (today day : ℕ) → IsDay s.stamp.day → IsTrue (is_shown p kind s today day) ↔ IsByRule p kind s today day
 
 -- a deadline of an open heading, without a delay of its own, warns today exactly where it is ahead by at most 14 days
 abbrev pub DeadlinesWarnAhead : Type 0
-DeadlinesWarnAhead = (p : Profile) (s : Source) (today due : ℕ) → s.owner.is_open ≡ true → s.stamp.delay ≡ None → IsDay s.stamp.day → IsWarnedOf p s.stamp today due →
+DeadlinesWarnAhead = (p : Profile) (s : HeadingStamp) (today due : ℕ) → s.owner.is_open ≡ true → s.stamp.delay ≡ None → IsDay s.stamp.day → IsWarnedOf p s.stamp today due →
     IsTrue (is_shown p Warning s today today) ↔ ((today < due) × (due ≤ today + 14))
 
 -- the heading has a done keyword of its file

@@ -9,10 +9,10 @@ ghost use Rattle.org_index.specs.Delays.{delay_or};
 ghost use Rattle.org_index.specs.declared.delays.TheConstants.{DELAY_LIMIT, WARNING_DAYS};
 ghost use Rattle.org_repeat.specs.Decided.{occurs};
 
+use crate::as_of::AsOf;
 use crate::buckets::Buckets;
 use crate::row::{Row, RowKind};
-use crate::source::Source;
-use crate::standpoint::Standpoint;
+use crate::source::HeadingStamp;
 use org_base::Profile;
 use org_cal::{Day, TimeOfDay};
 use org_entry::Role;
@@ -57,7 +57,7 @@ fn occurs_before(stamp: &Stamp, profile: Profile, later: u32, day: Day) -> bool
     }
 }
 
-fn is_due(source: &Source, today: Day, day: Day) -> bool
+fn is_due(source: &HeadingStamp, today: Day, day: Day) -> bool
     ensures value { result ≡ is_due source.now today day }
 {
     day.number() == today.number() && source.owner.is_open
@@ -76,14 +76,14 @@ fn due_day(stamp: &Stamp, profile: Profile, today: Day) -> u32
 // The number of the first day of the copy of a range that the day shows, or 0 where it shows none.
 fn shown_from(stamp: &Stamp, profile: Profile, day: Day) -> u32
     ensures value { result ≡ shown_from profile stamp.now day }
-    ensures small { result ≤ LAST_DAY }
+    ensures fits { result ≤ LAST_DAY }
 {
     number_or_none(range_start(stamp, profile, day))
 }
 
 fn number_or_none(day: Option<Day>) -> u32
     ensures value { result ≡ unwrap_or day 0 }
-    ensures small { result ≤ LAST_DAY }
+    ensures fits { result ≤ LAST_DAY }
 {
     match day {
         Some(day) => day.number(),
@@ -92,11 +92,11 @@ fn number_or_none(day: Option<Day>) -> u32
 }
 
 // Whether the stamp, if its role has rows of that kind, gives one on the day.
-fn is_shown(kind: RowKind, source: &Source, standpoint: &Standpoint, day: Day) -> bool
-    ensures { result ≡ is_shown standpoint.now.profile kind source.now standpoint.now.today day }
+fn is_shown(kind: RowKind, source: &HeadingStamp, as_of: &AsOf, day: Day) -> bool
+    ensures { result ≡ is_shown as_of.now.profile kind source.now as_of.now.today day }
 {
     let stamp = &source.stamp;
-    let (profile, today) = (standpoint.profile, standpoint.today);
+    let (profile, today) = (as_of.profile, as_of.today);
     match kind {
         RowKind::Listed => false,
         RowKind::OnDay => stamp.last.is_none() && occurs_on(stamp, profile, day),
@@ -143,7 +143,7 @@ fn times_of(
 
 // The times that a copy of a range shows that begins on the day of a number.
 fn range_times_of(stamp: &Stamp, begins: u32, day: Day) -> (Option<TimeOfDay>, Option<TimeOfDay>)
-    requires small { begins ≤ LAST_DAY }
+    requires fits { begins ≤ LAST_DAY }
     ensures value { result ≡ range_times stamp.now stamp.now.last begins day }
 {
     let Some((last, start)) = stamp.last else {
@@ -193,19 +193,19 @@ fn numbers_of(kind: RowKind, stamp: &Stamp, profile: Profile, day: Day) -> (u32,
 fn push_kind(
     rows: &mut Buckets,
     kind: RowKind,
-    source: &Source,
-    standpoint: &Standpoint,
+    source: &HeadingStamp,
+    as_of: &AsOf,
     day: Day,
 ) -> Result<(), AllocError>
-    requires room { length rows.old ≡ PRIORITIES }
-    ensures ok { Gathers result rows.old rows.new (seen_kind standpoint.now kind source.now day) }
-    ensures room { OnOk result (length rows.new ≡ PRIORITIES) }
+    requires has_room { length rows.old ≡ PRIORITIES }
+    ensures ok { Gathers result rows.old rows.new (seen_kind as_of.now kind source.now day) }
+    ensures has_room { OnOk result (length rows.new ≡ PRIORITIES) }
 {
-    if !is_shown(kind, source, standpoint, day) {
+    if !is_shown(kind, source, as_of, day) {
         return Ok(());
     }
-    let (start, end) = times_of(kind, &source.stamp, standpoint.profile, day);
-    let (number, of) = numbers_of(kind, &source.stamp, standpoint.profile, day);
+    let (start, end) = times_of(kind, &source.stamp, as_of.profile, day);
+    let (number, of) = numbers_of(kind, &source.stamp, as_of.profile, day);
     let owner = source.owner;
     rows.add(
         owner.priority.number() as usize,
@@ -226,26 +226,26 @@ fn push_kind(
 // Adds the rows that a stamp gives on a day.
 pub(crate) fn push_source(
     rows: &mut Buckets,
-    source: &Source,
-    standpoint: &Standpoint,
+    source: &HeadingStamp,
+    as_of: &AsOf,
     day: Day,
 ) -> Result<(), AllocError>
-    requires room { length rows.old ≡ PRIORITIES }
-    ensures ok { Gathers result rows.old rows.new (seen_rows standpoint.now day source.now) }
+    requires has_room { length rows.old ≡ PRIORITIES }
+    ensures ok { Gathers result rows.old rows.new (seen_rows as_of.now day source.now) }
 {
     match source.role {
         Role::Plain => {
-            push_kind(rows, RowKind::OnDay, source, standpoint, day)?;
-            push_kind(rows, RowKind::InRange, source, standpoint, day)?;
+            push_kind(rows, RowKind::OnDay, source, as_of, day)?;
+            push_kind(rows, RowKind::InRange, source, as_of, day)?;
         }
         Role::Scheduled => {
-            push_kind(rows, RowKind::OnSchedule, source, standpoint, day)?;
-            push_kind(rows, RowKind::LateSchedule, source, standpoint, day)?;
+            push_kind(rows, RowKind::OnSchedule, source, as_of, day)?;
+            push_kind(rows, RowKind::LateSchedule, source, as_of, day)?;
         }
         Role::Deadline => {
-            push_kind(rows, RowKind::OnDeadline, source, standpoint, day)?;
-            push_kind(rows, RowKind::Warning, source, standpoint, day)?;
-            push_kind(rows, RowKind::LateDeadline, source, standpoint, day)?;
+            push_kind(rows, RowKind::OnDeadline, source, as_of, day)?;
+            push_kind(rows, RowKind::Warning, source, as_of, day)?;
+            push_kind(rows, RowKind::LateDeadline, source, as_of, day)?;
         }
     }
     Ok(())

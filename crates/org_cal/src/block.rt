@@ -22,12 +22,12 @@ impl Period {
         ensures value { IfOk result (λ period. block_of text.now today ≡ Some (period.first, period.last)) }
         ensures option { IfErr result (λ fault. (fault ≡ option_fault) × (block_of text.now today ≡ None)) }
     {
-        named(text, today).ok_or(Fault::Plain(Code::Option))
+        block_named(text, today).ok_or(Fault::Plain(Code::Option))
     }
 }
 
 // The block that a text names on a day.
-fn named(text: &[u8], today: Day) -> Option<Period>
+fn block_named(text: &[u8], today: Day) -> Option<Period>
     ensures value { option_map days_of result ≡ block_of text.now today }
 {
     if text == b"today".as_slice() {
@@ -62,7 +62,7 @@ fn dated_block(text: &[u8]) -> Option<Period>
             let year = four_digits(*a, *b, *c, *d)?;
             week_block(year, two_digits(*m, *n)?)
         }
-        _ => day_block(Day::spelled(text)?.number()),
+        _ => day_block(Day::of_text(text)?.number()),
     }
 }
 
@@ -106,7 +106,7 @@ fn month_block(year: u16, month: u8) -> Option<Period>
 fn week_block(year: u16, week: u8) -> Option<Period>
     ensures value { option_map days_of result ≡ week_block year week }
 {
-    let fourth = Day::made(year, 1, 4)?;
+    let fourth = Day::of_parts(year, 1, 4)?;
     let weeks = week.saturating_sub(1) as u32;
     let period = week_from(fourth.monday().number() + 7 * weeks)?;
     if period.first.iso_week() == (year, week) {
@@ -150,7 +150,7 @@ fn this_month(day: Day) -> u32
 fn months_from(index: u32, count: u32) -> Option<Period>
     requires some { 1 ≤ count }
     requires within_year { count ≤ 12 }
-    requires small { index < 2 ^ 31 }
+    requires fits { index < 2 ^ 31 }
     ensures value { option_map days_of result ≡ months_from index count }
 {
     if index < 12 || index + count > LAST_MONTH + 1 {

@@ -71,24 +71,24 @@ impl Day {
         ensures value { IfOk result (λ day. date_of text.now ≡ Some day) }
         ensures date { IfErr result (λ fault. (fault ≡ date_fault) × (date_of text.now ≡ None)) }
     {
-        Day::spelled(text).ok_or(Fault::Plain(Code::Date))
+        Day::of_text(text).ok_or(Fault::Plain(Code::Date))
     }
 
     /// The day that the text spells, `YYYY-MM-DD`, if there is one.
-    pub fn spelled(text: &[u8]) -> Option<Day>
+    pub fn of_text(text: &[u8]) -> Option<Day>
         ensures value { result ≡ date_of text.now }
     {
         match text {
             [a, b, c, d, b'-', e, f, b'-', g, h] => {
                 let year = four_digits(*a, *b, *c, *d)?;
-                Day::made(year, two_digits(*e, *f)?, two_digits(*g, *h)?)
+                Day::of_parts(year, two_digits(*e, *f)?, two_digits(*g, *h)?)
             }
             _ => None,
         }
     }
 
     // The day with these parts, if there is one.
-    pub(crate) fn made(year: u16, month: u8, day: u8) -> Option<Day>
+    pub(crate) fn of_parts(year: u16, month: u8, day: u8) -> Option<Day>
         ensures value { result ≡ day_of year month day }
     {
         match Day::of(year, month, day) {

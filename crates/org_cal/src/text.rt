@@ -8,7 +8,7 @@ use crate::day::Day;
 use crate::time_of_day::TimeOfDay;
 use std::alloc::AllocError;
 
-/// Appends a number below 100 in two digits. Want of memory is the only refusal, and leaves `out` as it was.
+/// Appends a number below 100 in two digits. Out of memory leaves `out` as it was.
 pub fn push_two(out: &mut String, number: u8) -> Result<(), AllocError>
     requires below { number < 100 }
     ensures ok { Writes result out.old out.new (two number) }
@@ -19,7 +19,7 @@ pub fn push_two(out: &mut String, number: u8) -> Result<(), AllocError>
     Ok(())
 }
 
-/// Appends `YYYY-MM-DD`. Want of memory is the only refusal, and leaves `out` as it was.
+/// Appends `YYYY-MM-DD`. Out of memory leaves `out` as it was.
 pub fn push_date(out: &mut String, day: Day) -> Result<(), AllocError>
     ensures ok { Writes result out.old out.new (date_text day) }
     ensures err { OnErr result (string_bytes out.new ≡ string_bytes out.old) }
@@ -35,7 +35,7 @@ pub fn push_date(out: &mut String, day: Day) -> Result<(), AllocError>
     Ok(())
 }
 
-/// Appends `HH:MM`. Want of memory is the only refusal, and leaves `out` as it was.
+/// Appends `HH:MM`. Out of memory leaves `out` as it was.
 pub fn push_time(out: &mut String, time: TimeOfDay) -> Result<(), AllocError>
     ensures ok { Writes result out.old out.new (time_text time) }
     ensures err { OnErr result (string_bytes out.new ≡ string_bytes out.old) }
@@ -51,10 +51,10 @@ pub fn push_time(out: &mut String, time: TimeOfDay) -> Result<(), AllocError>
 // Appends two digits, for which there is room.
 fn put_two(out: &mut String, number: u8)
     requires below { number < 100 }
-    requires room { string_len out.old + 2 ≤ string_capacity out.old }
+    requires has_room { string_len out.old + 2 ≤ string_capacity out.old }
     ensures value { string_bytes out.new ≡ string_bytes out.old ++ two number }
     ensures len { string_len out.new ≡ string_len out.old + 2 }
-    ensures room { string_capacity out.old ≤ string_capacity out.new }
+    ensures has_room { string_capacity out.old ≤ string_capacity out.new }
 {
     put_byte(out, b'0' + number / 10);
     put_byte(out, b'0' + number % 10);
@@ -63,10 +63,10 @@ fn put_two(out: &mut String, number: u8)
 // Appends an ASCII character, for which there is room.
 fn put_byte(out: &mut String, byte: u8)
     requires ascii { byte < 128 }
-    requires room { string_len out.old < string_capacity out.old }
+    requires has_room { string_len out.old < string_capacity out.old }
     ensures value { string_bytes out.new ≡ string_bytes out.old ++ byte ∷ [] }
     ensures len { string_len out.new ≡ string_len out.old + 1 }
-    ensures room { string_capacity out.old ≤ string_capacity out.new }
+    ensures has_room { string_capacity out.old ≤ string_capacity out.new }
 {
     out.push(char::from(byte)).unwrap();
 }

@@ -19,7 +19,7 @@ masked before bs later =
 kept : (before b : ℕ) (bs : List ℕ) → is_control b ≡ false → ends_control before b ≡ false → is_clean_after b bs ≡ true → (is_clean_after before (b ∷ bs) ≡ true) × (is_clean_after 63 (b ∷ bs) ≡ true)
 kept before b bs plain other later = (rw plain (rw other later), rw plain later)
 
--- what is shown behind a byte has none, behind that byte or behind what is shown in its place
+-- what is shown after a byte has none, after that byte or after what is shown in its place
 shown : (before : ℕ) (bs : List ℕ) → (is_clean_after before (cleaned_after before bs) ≡ true) × (is_clean_after 63 (cleaned_after before bs) ≡ true)
 shown before [] = (refl, refl)
 shown before (b ∷ bs) =

@@ -20,7 +20,7 @@ use Rattle.org_check.specs.declared.look.Look.TheVariants as look
 use Rattle.org_check.specs.declared.look.Mark.{Mark}
 use Rattle.org_check.proofs.UnreadLemmas.{none_here, none_left, one_here}
 
--- findings behind findings
+-- findings after findings
 said_both : (a b : List Finding) → said (a ++ b) ≡ said a ++ said b
 said_both [] b = refl
 said_both (f ∷ a) b =

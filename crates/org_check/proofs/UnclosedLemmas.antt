@@ -15,7 +15,7 @@ use Rattle.org_stamp.specs.Pair.{is_planning}
 use Rattle.org_check.specs.Marks.{is_text}
 use Rattle.org_check.specs.Unclosed.{NoneEnds}
 
--- a line that isn't text says nothing of blocks, whatever stands behind it
+-- a line that isn't text says nothing of blocks, whatever stands after it
 passed : (l : List ℕ) (ls : List (List ℕ)) (c : Class) (cs : List Class) → is_text c ≡ false → NoneEnds ls cs → NoneEnds (l ∷ ls) (c ∷ cs)
 passed l ls c cs other rest = ((λ text some. absurd (let never : true ≡ false = sym text ∙ other in cc)), rest)
 

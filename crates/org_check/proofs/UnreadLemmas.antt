@@ -33,7 +33,7 @@ chosen_false : {A : Type 0} (t : Bool) (x y : A) → t ≡ false → (if t then 
 chosen_false true x y e = absurd (cc)
 chosen_false false x y e = refl
 
--- one that stands here comes first, and then those behind it
+-- one that stands here comes first, and then those after it
 pub one_here : (line : List ℕ) (at : ℕ) → at < length line → is_unread (drop at line) ≡ true → unread_from (drop at line) at ≡ at ∷ unread_from (drop (at + 1) line) (at + 1)
 one_here line at lt is =
     let cut = drop-cons line at 0 lt in
@@ -43,7 +43,7 @@ one_here line at lt is =
     ∙ (chosen_true _ _ _ (sym (ap is_unread cut) ∙ is)
     ∙ ap (λ k. at ∷ unread_from (drop k line) (at + 1)) next))
 
--- where none stands, they are those behind the byte
+-- where none stands, they are those after the byte
 pub none_here : (line : List ℕ) (at : ℕ) → at < length line → is_unread (drop at line) ≡ false → unread_from (drop at line) at ≡ unread_from (drop (at + 1) line) (at + 1)
 none_here line at lt not_is =
     let cut = drop-cons line at 0 lt in

@@ -10,7 +10,7 @@ is_control b = nat_lt b 32 || (b == 127)
 abbrev pub ends_control : ℕ → ℕ → Bool
 ends_control before b = (before == 194) && (nat_le 128 b && nat_le b 159)
 
--- no control character stands in the bytes behind a byte, nor across both
+-- no control character stands in the bytes after a byte, nor across both
 abbrev pub is_clean_after : ℕ → List ℕ → Bool
 is_clean_after before [] = true
 is_clean_after before (b ∷ bs) = not (is_control b) && (not (ends_control before b) && is_clean_after b bs)
@@ -23,7 +23,7 @@ IsClean bytes = is_clean_after 0 bytes ≡ true
 abbrev pub clean_byte : ℕ → ℕ → ℕ → ℕ
 clean_byte before b after = if is_control b || (ends_control before b || ends_control b after) then 63 else b
 
--- bytes as they are shown behind another
+-- bytes as they are shown after another
 abbrev pub cleaned_after : ℕ → List ℕ → List ℕ
 cleaned_after before [] = []
 cleaned_after before (b ∷ bs) = clean_byte before b (slice_index bs 0) ∷ cleaned_after b bs

@@ -38,7 +38,7 @@ said (f ∷ fs) = option_list (mark_of f) ++ said fs
 abbrev pub kind_marks : Kind → ℕ → ℕ → List Mark
 kind_marks k at p = option_list (option_map (λ what. record { line_at = at; place = p; look = what }) (look_of k))
 
--- findings that explain these marks stand behind those that were there, unless it's refused
+-- findings that explain these marks stand after those that were there, unless it's refused
 abbrev pub Says : {T E : Type 0} → Result T E → List Finding → List Finding → List Mark → Type 0
 Says result old new marks = OnOk result (said new ≡ said old ++ marks)
 

@@ -86,25 +86,25 @@ impl BesideKind {
                 "wrong-day-name",
                 "the name isn't that of this day; the date counts",
             )
-            .quoting(),
+            .with_quote(),
             BesideKind::ReversedRange => Entry::error(
                 "reversed-range",
                 "shows on no day, since it ends before it begins; swap its days",
             )
-            .quoting(),
+            .with_quote(),
             BesideKind::ReversedTimes => {
                 Entry::warning(
                     "reversed-times",
                     "it ends before it begins; swap its times",
-                ).quoting()
+                ).with_quote()
             }
             BesideKind::RangeWithRepeater => Entry::warning(
                 "range-with-repeater",
                 "the range shows once; its repeater says nothing",
             )
-            .quoting(),
+            .with_quote(),
             BesideKind::ZeroRepeater => {
-                Entry::warning("zero-repeater", "a repeater of 0 repeats nothing").quoting()
+                Entry::warning("zero-repeater", "a repeater of 0 repeats nothing").with_quote()
             }
             BesideKind::DiarySexp => Entry::error(
                 "diary-sexp",
@@ -114,20 +114,20 @@ impl BesideKind {
                 "stamp-in-drawer",
                 "shows on no day; write it under the drawer, as text",
             )
-            .quoting(),
+            .with_quote(),
             BesideKind::StampInBlock => Entry::warning(
                 "stamp-in-block",
                 "shows on no day; write it before the block or after it",
             )
-            .quoting(),
+            .with_quote(),
             BesideKind::StampInComment => {
                 Entry::note("stamp-in-comment", "shows on no day, in a comment")
                     .rare()
-                    .quoting()
+                    .with_quote()
             }
             _ => Entry::note("stamp-in-example", "shows on no day, in an example")
                 .rare()
-                .quoting(),
+                .with_quote(),
         }
     }
 
@@ -141,7 +141,7 @@ impl BesideKind {
                 "inactive-planning",
                 "shows on no day, in square brackets; write < and >",
             )
-            .quoting(),
+            .with_quote(),
             BesideKind::PlanningRest => Entry::error(
                 "planning-rest",
                 "not read; a planning line holds nothing but SCHEDULED:, DEADLINE: and CLOSED: \
@@ -160,13 +160,13 @@ impl BesideKind {
                 "planning-range",
                 "planning has one day, and of a range the first counts",
             )
-            .quoting(),
+            .with_quote(),
             _ => Entry::note(
                 "repeater-on-done",
                 "the heading is done for each day that comes; set its keyword back, or take the \
                  repeater away",
             )
-            .quoting(),
+            .with_quote(),
         }
     }
 
@@ -176,12 +176,12 @@ impl BesideKind {
                 "keyword-of-other-file",
                 "a keyword of another file and none of this one; add it to #+TODO:",
             )
-            .quoting(),
+            .with_quote(),
             BesideKind::MissingKeyword => Entry::warning(
                 "missing-keyword",
                 "no keyword of this file; add it to #+TODO:",
             )
-            .quoting(),
+            .with_quote(),
             BesideKind::HeadingWithoutSpace => Entry::warning(
                 "heading-without-space",
                 "no heading; write a space after the stars",
@@ -194,17 +194,17 @@ impl BesideKind {
                 "keyword-after-cookie",
                 "no keyword here; write it before the priority",
             )
-            .quoting(),
+            .with_quote(),
             BesideKind::UnreadPriority => Entry::warning(
                 "unread-priority",
                 "no priority; write [#A] to [#Z] or [#0] to [#64]",
             )
-            .quoting(),
+            .with_quote(),
             _ => Entry::warning(
                 "unread-tags",
                 "no tags; they have letters, digits and _@#% alone",
             )
-            .quoting(),
+            .with_quote(),
         }
     }
 
@@ -214,7 +214,7 @@ impl BesideKind {
                 "unread-effort",
                 "no effort, and counts 0; write H:MM, or a number with min, h, d, w, m or y",
             )
-            .quoting(),
+            .with_quote(),
             BesideKind::RepeatedProperty => Entry::warning(
                 "repeated-property",
                 "the drawer has this property already, and the first counts; add to it by \
@@ -226,7 +226,7 @@ impl BesideKind {
                  property another name",
             ),
             BesideKind::StrayBlockEnd => {
-                Entry::warning("stray-block-end", "no block begins for it").quoting()
+                Entry::warning("stray-block-end", "no block begins for it").with_quote()
             }
             BesideKind::SettingInBlock => {
                 Entry::note("setting-in-block", "no setting, in a block").rare()

@@ -4,7 +4,7 @@ use crate::beside_kinds::BesideKind;
 use crate::here::Here;
 use crate::notes::Notes;
 use crate::settings::is_known_setting;
-use org_base::words::{first_word, same_word, trimmed};
+use org_base::words::{first_word, same_word, trim};
 use org_class::{Class, begins_with, block_name};
 use org_stamp::{leading_spaces, stamps_in};
 use std::alloc::AllocError;
@@ -28,17 +28,17 @@ pub(crate) fn push_block_end(notes: &mut Notes, here: Here, line: &[u8]) -> Resu
     notes.push(here.note(
         BesideKind::StrayBlockEnd,
         leading_spaces(line),
-        trimmed(line).len(),
+        trim(line).len(),
     ))
 }
 
 // Puts what a line inside a block says and doesn't do.
 pub(crate) fn push_verbatim(notes: &mut Notes, here: Here, line: &[u8]) -> Result<(), AllocError> {
-    if is_known_setting(trimmed(line), true) {
+    if is_known_setting(trim(line), true) {
         notes.push(here.note(
             BesideKind::SettingInBlock,
             leading_spaces(line),
-            trimmed(line).len(),
+            trim(line).len(),
         ))?;
     }
     let kind = if here.above.in_example {

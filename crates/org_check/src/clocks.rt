@@ -8,7 +8,7 @@ use crate::here::Here;
 use crate::notes::{Note, Notes};
 use crate::unread_kinds::MinutesKind;
 use crate::unread_lines::past_spaces;
-use org_base::words::{first_word, trimmed};
+use org_base::words::{first_word, trim};
 use org_cal::{MINUTES_PER_DAY, Minute};
 use org_drawer::{ClockLine, read_clock};
 use org_stamp::leading_spaces;
@@ -79,7 +79,7 @@ fn closed_clock(here: Here, line: &[u8]) -> Option<Closed> {
         to,
         line_at: here.at,
         place: leading_spaces(line),
-        len: trimmed(line).len(),
+        len: trim(line).len(),
         line: here.number,
     })
 }
@@ -139,7 +139,7 @@ pub(crate) fn push_clock_item(
     notes.push(here.note(
         BesideKind::ClockInList,
         leading_spaces(line),
-        trimmed(line).len(),
+        trim(line).len(),
     ))
 }
 

@@ -19,7 +19,7 @@ impl Draft {
     }
 
     // The bytes as they are shown.
-    pub(crate) fn cleaned(&self) -> Result<CleanLine, AllocError> {
+    pub(crate) fn clean_line(&self) -> Result<CleanLine, AllocError> {
         CleanLine::of(self.alloc, self.bytes.as_slice())
     }
 
@@ -56,7 +56,7 @@ impl Draft {
         self.push(b"\"")
     }
 
-    // Puts a byte behind another at the end. The first byte of a control character of two bytes, which stands there already
+    // Puts a byte after another at the end. The first byte of a control character of two bytes, which stands there already
     // when the second comes, is taken back.
     fn push_escaped(&mut self, before: u8, byte: u8) -> Result<(), AllocError> {
         if before == 0xC2 && byte >= 0x80 && byte <= 0x9F {

@@ -9,7 +9,7 @@ use crate::findings::Findings;
 use crate::notes::Note;
 use crate::section::check_section;
 use crate::seen::Seen;
-use org_base::{Fault, Meter, Names, Span};
+use org_base::{Fault, Meter, NameSet, Span};
 use org_cal::Minute;
 use org_class::{classify, sections};
 use org_settings::Settings;
@@ -22,14 +22,13 @@ pub struct About<'a> {
     /// What its setting lines say.
     pub settings: &'a Settings,
     /// The keywords of the other files of the set.
-    pub others: &'a Names,
+    pub others: &'a NameSet,
     /// When it is asked. Without it each running clock counts as one that has run for long.
     pub now: Option<Minute>,
 }
 
-/// What looks planned in a text and will not show, or shows otherwise than it is written, in the order of the places. Each
-/// place and line that looks planned and isn't read so has its finding, and each finding of such a kind is of one. Want of
-/// memory is the only refusal.
+/// What looks planned in a text and will not show, or shows otherwise than it is written, in the order of the places.
+/// Each place and line that looks planned and isn't read so has its finding, and each finding of such a kind is of one.
 pub fn checks<'a, T: Text>(
     alloc: Global,
     meter: &mut Meter,

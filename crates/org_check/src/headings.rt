@@ -9,7 +9,7 @@ use crate::here::Here;
 use crate::notes::Notes;
 use crate::unread_lines::past_spaces;
 use org_base::Fault;
-use org_base::words::{first_word, trimmed};
+use org_base::words::{first_word, trim};
 use org_class::leading_stars;
 use org_head::{Head, part, read_head};
 use org_settings::Settings;
@@ -133,7 +133,7 @@ pub(crate) fn push_heading_like(
     let gap = leading_spaces(line);
     let text = past_spaces(line);
     match heading_like_kind(gap, text, settings) {
-        Some(kind) => notes.push(here.note(kind, gap, trimmed(text).len())),
+        Some(kind) => notes.push(here.note(kind, gap, trim(text).len())),
         None => Ok(()),
     }
 }

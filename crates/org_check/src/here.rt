@@ -34,7 +34,7 @@ impl Above {
         }
     }
 
-    // Behind a heading.
+    // After a heading.
     pub(crate) fn of_heading(is_done: bool) -> Above {
         Above {
             headed: true,
@@ -45,7 +45,7 @@ impl Above {
         }
     }
 
-    // Behind a line that is no heading.
+    // After a line that is no heading.
     pub(crate) fn after(self, class: Class, line: &[u8], number: u32) -> Above {
         let cause = match class {
             Class::Planning => Cause::Planning(number),

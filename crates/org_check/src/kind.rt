@@ -52,7 +52,7 @@ impl Kind {
                 "no block, since its end doesn't come before the next line that begins with \
                  stars and a space; write its end, or a comma before those stars",
             )
-            .quoting(),
+            .with_quote(),
             Kind::UnreadClock => Entry::error(
                 "unread-clock",
                 "no clock, and counts 0; write inactive stamps, as CLOCK: [2024-02-09 Fri \
@@ -79,7 +79,7 @@ impl Kind {
     }
 
     /// The kind of this name.
-    pub fn named(name: &str) -> Option<Kind> {
+    pub fn of_name(name: &str) -> Option<Kind> {
         for kind in &ALL_KINDS {
             if kind.name() == name {
                 return Some(*kind);

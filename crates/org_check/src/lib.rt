@@ -1,5 +1,7 @@
 //! What looks planned in a text and will not show: findings, each with its place, kind and remedy.
 //!
+//! Every call that allocates may be refused memory. Where it names no other refusal, that is its only one.
+//!
 //! A missed deadline is mostly no wrong sum but a line that looks like planning and isn't. Whatever looks planned and
 //! isn't read so has its finding, and beside these are tests of what was read and counts for something else.
 //! `docs/findings.md` lists the kinds.

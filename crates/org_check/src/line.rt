@@ -16,7 +16,7 @@ use crate::seen::Seen;
 use crate::settings::push_setting;
 use crate::unread_lines::{has_stamps, is_unclosed_block};
 use org_base::Fault;
-use org_base::words::{trim_start, trimmed};
+use org_base::words::{trim, trim_start};
 use org_class::Class;
 use org_stamp::leading_spaces;
 
@@ -65,7 +65,7 @@ fn check_clock(seen: &mut Seen<'_>, here: Here, line: &[u8]) -> Result<(), Fault
     seen.notes.push(here.note(
         BesideKind::ClockBeforeHeadings,
         leading_spaces(line),
-        trimmed(line).len(),
+        trim(line).len(),
     ))?;
     Ok(())
 }

@@ -17,7 +17,7 @@ use crate::unread_lines::{
     counts_nothing_in, is_stray_drawer, is_stray_planning, is_unclosed_block, is_unread_clock,
 };
 use org_base::Fault;
-use org_base::words::trimmed;
+use org_base::words::trim;
 use org_cal::Minute;
 use org_stamp::leading_spaces;
 use org_text::Text;
@@ -31,7 +31,7 @@ fn whole_line(line: &[u8], kind: Kind, cause: Option<Cause>) -> Found
     Found {
         kind,
         place: leading_spaces(line),
-        len: trimmed(line).len(),
+        len: trim(line).len(),
         cause,
     }
 }

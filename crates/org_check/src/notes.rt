@@ -17,7 +17,7 @@ pub(crate) struct Note {
 
 impl Note {
     // The same, where this stands in its way.
-    pub(crate) fn caused(self, cause: Option<Cause>) -> Note {
+    pub(crate) fn with_cause(self, cause: Option<Cause>) -> Note {
         Note { cause, ..self }
     }
 }

@@ -7,7 +7,7 @@ use crate::notes::Notes;
 use crate::unread_kinds::PlanningKind;
 use crate::unread_lines::past_spaces;
 use memchr::memchr2;
-use org_base::words::trimmed;
+use org_base::words::trim;
 use org_class::begins_with;
 use org_stamp::{Pair, PlanningKeyword, leading_spaces, next_pair, planning_word, stamps_in};
 use std::alloc::AllocError;
@@ -96,7 +96,7 @@ fn push_rest(notes: &mut Notes, here: Here, line: &[u8], at: usize) -> Result<()
         return Ok(());
     }
     let place = at.saturating_add(leading_spaces(rest));
-    notes.push(here.note(BesideKind::PlanningRest, place, trimmed(rest).len()))
+    notes.push(here.note(BesideKind::PlanningRest, place, trim(rest).len()))
 }
 
 fn has_active_stamp(text: &[u8]) -> bool {
@@ -159,9 +159,9 @@ pub(crate) fn push_planning_case(
     let note = here.note(
         BesideKind::PlanningCase,
         leading_spaces(line),
-        trimmed(text).len(),
+        trim(text).len(),
     );
-    notes.push(note.caused(here.above.first))
+    notes.push(note.with_cause(here.above.first))
 }
 
 // Puts planning that stands in a heading line, where it begins.
@@ -179,7 +179,7 @@ pub(crate) fn push_heading_planning(
         }
         let text = &line[at..];
         if planning_word(text).is_some() && looks_like_stamp(after_colon(text)) {
-            let len = trimmed(text).len();
+            let len = trim(text).len();
             return notes.push(here.note(BesideKind::PlanningInHeading, at, len));
         }
     }

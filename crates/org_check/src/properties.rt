@@ -5,8 +5,8 @@ use crate::blocks::push_first_active;
 use crate::finding::Cause;
 use crate::here::Here;
 use crate::notes::Notes;
-use org_base::Names;
-use org_base::words::{first_word, same_word, trim_start, trimmed};
+use org_base::NameSet;
+use org_base::words::{first_word, same_word, trim, trim_start};
 use org_drawer::effort_minutes;
 use org_stamp::leading_spaces;
 use std::alloc::{AllocError, Global};
@@ -15,7 +15,7 @@ use std::alloc::{AllocError, Global};
 #[derive(Drop)]
 pub(crate) struct DrawerNames {
     alloc: Global,
-    names: Names,
+    names: NameSet,
     lines: Vec<u32>,
 }
 
@@ -24,7 +24,7 @@ impl DrawerNames {
     pub(crate) fn new(alloc: Global) -> DrawerNames {
         DrawerNames {
             alloc,
-            names: Names::new(alloc),
+            names: NameSet::new(alloc),
             lines: Vec::new(alloc),
         }
     }
@@ -52,7 +52,7 @@ pub(crate) fn push_node(
     let text = trim_start(line);
     if let [b':', name @ .., b':'] = word {
         if word.len() <= text.len() {
-            push_effort(notes, here, line, name, trimmed(&text[word.len()..]))?;
+            push_effort(notes, here, line, name, trim(&text[word.len()..]))?;
         }
         push_name(notes, names, here, line, name)?;
     }
@@ -105,8 +105,8 @@ fn push_line(
     line: &[u8],
     cause: Option<Cause>,
 ) -> Result<(), AllocError> {
-    let note = here.note(kind, leading_spaces(line), trimmed(line).len());
-    notes.push(note.caused(cause))
+    let note = here.note(kind, leading_spaces(line), trim(line).len());
+    notes.push(note.with_cause(cause))
 }
 
 // Whether match expressions take the name for what a heading says itself, whatever its drawer says.

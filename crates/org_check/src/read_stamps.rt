@@ -6,7 +6,7 @@ use crate::here::Here;
 use crate::notes::Notes;
 use crate::quotes::{Quotes, counts_inactive, is_fixed_width};
 use memchr::memchr2;
-use org_base::words::{first_word, trimmed};
+use org_base::words::{first_word, trim};
 use org_cal::TimeOfDay;
 use org_stamp::{Found, Stamp, read_single, stamps_in};
 use std::alloc::AllocError;
@@ -18,7 +18,7 @@ pub(crate) fn push_read_stamps(
     line: &[u8],
 ) -> Result<(), AllocError> {
     if line.starts_with(b"%%(") {
-        return notes.push(here.note(BesideKind::DiarySexp, 0, trimmed(line).len()));
+        return notes.push(here.note(BesideKind::DiarySexp, 0, trim(line).len()));
     }
     if memchr2(b'<', b'[', line).is_none() || is_fixed_width(line) {
         return Ok(());
@@ -63,7 +63,7 @@ fn push_name(
         return Ok(None);
     };
     if len >= 13 && at + len <= line.len() {
-        // Behind the bracket stand ten bytes of the date.
+        // After the bracket stand ten bytes of the date.
         let name = first_word(&line[at + 11..at + len - 1]);
         if is_name_of_other(name, stamp.day) {
             notes.push(here.note(BesideKind::WrongDayName, at, len))?;
@@ -131,7 +131,7 @@ fn push_sexp(notes: &mut Notes, here: Here, line: &[u8]) -> Result<(), AllocErro
     let mut quotes = Quotes::new(here.class);
     for at in 0..line.len() {
         if line[at] == b'<' && line[at..].starts_with(b"<%%(") && !quotes.holds(line, at) {
-            let len = trimmed(&line[at..]).len();
+            let len = trim(&line[at..]).len();
             return notes.push(here.note(BesideKind::DiarySexp, at, len));
         }
     }

@@ -87,7 +87,7 @@ fn holds(kinds: &[Kind], kind: Kind) -> bool {
 // Puts the kinds of the names at the end that aren't there.
 fn add_named(kinds: &mut Vec<Kind>, names: &str) -> Result<(), AllocError> {
     for name in names.split(',') {
-        if let Some(kind) = Kind::named(name) {
+        if let Some(kind) = Kind::of_name(name) {
             add(kinds, kind)?;
         }
     }
@@ -104,7 +104,7 @@ fn add(kinds: &mut Vec<Kind>, kind: Kind) -> Result<(), AllocError> {
 /// The first of some names, with commas between, that no kind has.
 pub fn unknown_kind(names: &str) -> Option<&str> {
     for name in names.split(',') {
-        if Kind::named(name).is_none() {
+        if Kind::of_name(name).is_none() {
             return Some(name);
         }
     }

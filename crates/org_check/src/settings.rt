@@ -4,12 +4,12 @@ use crate::beside_kinds::BesideKind;
 use crate::finding::Cause;
 use crate::here::Here;
 use crate::notes::Notes;
-use org_base::words::{first_word, same_word, trimmed};
+use org_base::words::{first_word, same_word, trim};
 use org_class::Class;
 use org_stamp::leading_spaces;
 use std::alloc::AllocError;
 
-// Whether the first word is `#+KEY`, and with a colon behind it where one is wanted, of a KEY that says something of a file.
+// Whether the first word is `#+KEY`, and with a colon after it where one is wanted, of a KEY that says something of a file.
 pub(crate) fn is_known_setting(line: &[u8], colon: bool) -> bool {
     match first_word(line) {
         [b'#', b'+', key @ .., b':'] if colon => is_known_key(key),
@@ -40,7 +40,7 @@ pub(crate) fn push_setting(
             notes.push(here.note(
                 BesideKind::SettingWithoutColon,
                 leading_spaces(line),
-                trimmed(line).len(),
+                trim(line).len(),
             ))?;
         }
         return Ok(category);
@@ -54,8 +54,8 @@ pub(crate) fn push_setting(
     let note = here.note(
         BesideKind::SecondCategory,
         leading_spaces(line),
-        trimmed(line).len(),
+        trim(line).len(),
     );
-    notes.push(note.caused(Some(Cause::Other(first))))?;
+    notes.push(note.with_cause(Some(Cause::Other(first))))?;
     Ok(category)
 }

@@ -96,7 +96,7 @@ pub fn finding_line<T: Text>(
         Form::Lines => push_plain(&mut out, name, finding, sentence.as_slice())?,
         Form::Json => push_object(&mut out, name, finding, sentence.as_slice())?,
     }
-    out.cleaned()
+    out.clean_line()
 }
 
 // Puts what is said of a finding.

@@ -30,7 +30,7 @@ fn inner_kind(inner: &[u8]) -> StampKind {
     if date.len() > 10 {
         return StampKind::UnreadStamp;
     }
-    if Day::spelled(date).is_some() {
+    if Day::of_text(date).is_some() {
         return words_kind(&inner[date.len().min(inner.len())..]);
     }
     if date.len() == 10 && date[4] == b'-' && date[7] == b'-' {

@@ -22,7 +22,7 @@ impl Severity {
     }
 
     /// The severity of this name.
-    pub fn named(name: &str) -> Option<Severity> {
+    pub fn of_name(name: &str) -> Option<Severity> {
         let all = [Severity::Note, Severity::Warning, Severity::Error];
         for severity in all {
             if severity.name() == name {
@@ -83,7 +83,7 @@ impl Entry {
     }
 
     // The same, with the text that it is about in front of the sentence.
-    pub(crate) fn quoting(self) -> Entry {
+    pub(crate) fn with_quote(self) -> Entry {
         Entry {
             quotes: true,
             ..self

@@ -19,45 +19,48 @@ impl StampKind {
     pub(crate) fn entry(self) -> Entry {
         match self {
             StampKind::NoSuchDate => {
-                Entry::error("no-such-date", "no timestamp, since there is no such day").quoting()
+                Entry::error(
+                    "no-such-date",
+                    "no timestamp, since there is no such day",
+                ).with_quote()
             }
             StampKind::NoSuchTime => Entry::error(
                 "no-such-time",
                 "no timestamp, since a time is 0:00 to 23:59, as 9:30 or 9:30-11:00",
             )
-            .quoting(),
+            .with_quote(),
             StampKind::BadRepeater => Entry::error(
                 "bad-repeater",
                 "no timestamp; last stand at most one repeater and one warning, as +1w -3d",
             )
-            .quoting(),
+            .with_quote(),
             StampKind::ShortDate => Entry::error(
                 "short-date",
                 "no timestamp, since a date has four, two and two digits, as 2024-02-09",
             )
-            .quoting(),
+            .with_quote(),
             StampKind::UnclosedStamp => Entry::error(
                 "unclosed-stamp",
                 "no timestamp, since its own bracket doesn't close it in this line",
             )
-            .quoting(),
+            .with_quote(),
             StampKind::UnreadStamp => Entry::error(
                 "unread-stamp",
                 "no timestamp; after the date come, each optional and in this order, the day's \
                  name, a time, a repeater and a warning",
             )
-            .quoting(),
+            .with_quote(),
             StampKind::UnreadInactiveStamp => {
                 Entry::note("unread-inactive-stamp", "no timestamp")
                     .rare()
-                    .quoting()
+                    .with_quote()
             }
             StampKind::QuotedStamp => Entry::note(
                 "quoted-stamp",
                 "no timestamp, as part of a link, of code or of an example",
             )
             .rare()
-            .quoting(),
+            .with_quote(),
         }
     }
 }

@@ -40,7 +40,7 @@ cond_over : {X Y : Type 0} (f : X → Y) (b : Bool) (x y : X) → f (cond b x y)
 cond_over f true x y = refl
 cond_over f false x y = refl
 
--- a name's value behind an insertion
+-- a name's value after an insertion
 pub insert-seen : (q : List ℕ) (es : Entries) (k : Vec ℕ Global) (v : ℕ) →
     lookup (bytes_eq q) (seen (insert_entry key_cmp es k v)) ≡ cond (bytes_eq k.items q) (Some v) (lookup (bytes_eq q) (seen es))
 insert-seen q es k v = inserted es ∙ ap (λ b. cond b (Some v) (lookup (bytes_eq q) (seen es))) (nat_list_eq_equiv.symm q k.items)
@@ -78,7 +78,7 @@ place_of-insert q name es k v e =
     ∙ cond_over (λ o. unwrap_or o 0) (bytes_eq k.items (map to_ascii_lowercase q)) (Some v) (lookup (bytes_eq (map to_ascii_lowercase q)) (seen es))
     ∙ ap (λ n. cond (bytes_eq n (map to_ascii_lowercase q)) v (place_of (seen es) q)) e
 
--- the last so far, or the last of the elements behind so many
+-- the last so far, or the last of the elements after so many
 abbrev pub last_behind : {X : Type 0} → ℕ → ℕ → (X → Bool) → List X → ℕ
 last_behind last n test xs = cond (last_where test xs == 0) last (n + last_where test xs)
 
@@ -98,7 +98,7 @@ last_more last n test x xs = elim (cases_Bool (last_where test xs == 0)) [
 pub none_behind : {X : Type 0} (last n : ℕ) (test : X → Bool) → last_behind last n test [] ≡ last
 none_behind last n test = refl
 
--- elements behind so many pass the test where the last one that does is among them
+-- elements after so many pass the test where the last one that does is among them
 pub any_is_last : {X : Type 0} (test : X → Bool) (xs : List X) → list_any test xs ≡ nat_lt 0 (last_where test xs)
 any_is_last test [] = refl
 any_is_last test (x ∷ xs) = elim (cases_Bool (last_where test xs == 0)) [
@@ -129,7 +129,7 @@ any_behind test (suc n) (x ∷ xs) = any_behind test n xs ∙ shift n (last_wher
         same : nat_lt n (suc m) ≡ nat_lt (suc n) (suc (suc m))
         same = elim (cases_lt n (suc m)) [ inl h ↦ lt-ltb n (suc m) h ∙ sym (lt-ltb (suc n) (suc (suc m)) (omega arith)) | inr h ↦ le-ltb n (suc m) h ∙ sym (le-ltb (suc n) (suc (suc m)) (omega arith)) ]
 
--- where the last ends of all lines are known, those behind so many lines are
+-- where the last ends of all lines are known, those after so many lines are
 pub ends_known : (places : Places) (n : ℕ) (ls rest : List (List ℕ)) → rest ≡ drop n ls → AreLastEnds places ls → KnowsEnds places n rest
 ends_known places n ls rest behind known name =
     ap (nat_lt n) (known name) ∙ sym (any_behind (ends_block name) n ls) ∙ ap (list_any (ends_block name)) (sym behind)

@@ -39,7 +39,7 @@ headed_is (b ∷ l) = elim (cases_Bool (b == 42)) [
   | inr e ↦ rw e refl
 ]
 
--- what stands behind a line feed doesn't matter to stars and a space
+-- what stands after a line feed doesn't matter to stars and a space
 after_star_front : (a b : List ℕ) (x : ℕ) → ends_line (x ∷ a) ≡ true → after_star (x ∷ a ++ b) ≡ after_star (x ∷ a)
 after_star_front [] b x h = rw (eqb-true x 10 h) refl
 after_star_front (y ∷ a) b x h = rw (after_star_front a b y h) refl

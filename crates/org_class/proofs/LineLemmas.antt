@@ -1,4 +1,4 @@
--- The lines behind a line.
+-- The lines after a line.
 use Rattle.std.proofs.Common.{◌≡◌, ℕ, ◌+◌, ◌-◌, ◌<◌, ◌≤◌, inl, inr, ◌==◌, List, [], ◌∷◌, length, take, drop, refl, sym, ap, ◌∙◌, arith}
 use Rattle.std.proofs.lemmas.Bool.{cases_Bool}
 use Rattle.std.proofs.lemmas.List.{drop-drop, drop-take}
@@ -8,7 +8,7 @@ use Rattle.org_lines.specs.Cuts.{lines}
 use Rattle.org_lines.proofs.LineLemmas.{range_is, length_range}
 use Rattle.org_base.specs.Spans.{bytes_in}
 
--- a line at the front of a text, and the lines behind it
+-- a line at the front of a text, and the lines after it
 pub record FirstLine (t l : List ℕ) (ls : List (List ℕ)) : Type 0 where
   pub some : 0 < length l
   pub within : length l ≤ length t
@@ -43,7 +43,7 @@ bytes_behind t part n short =
     let front : bytes_in t part ≡ take (n + (part.len - n)) (drop part.at t) = range_is t part.at part.len ∙ ap (λ k. take k (drop part.at t)) sum in
     ap (drop n) front ∙ drop-take n (part.len - n) (drop part.at t) ∙ ap (take (part.len - n)) (drop-drop n part.at t) ∙ sym (range_is t (part.at + n) (part.len - n))
 
--- the part of a text behind the first line of another part
+-- the part of a text after the first line of another part
 pub record PartBehind (t l : List ℕ) (ls : List (List ℕ)) (part : Span) : Type 0 where
   pub within : length l ≤ part.len
   pub behind : lines (bytes_in t (record { at = part.at + length l; len = part.len - length l })) ≡ ls

@@ -11,7 +11,7 @@ use Rattle.org_class.specs.Ticks.{classified}
 use Rattle.org_class.specs.declared.class.Class.{Class}
 use Rattle.org_class.proofs.StepLemmas.{bytes_of}
 
--- texts behind texts that stand still
+-- texts after texts that stand still
 pub still_more : (old a b s : List (List ℕ)) → StandStill old a → b ≡ a ++ s → StandStill old b
 still_more old a b s still more = (still.0 ++ s, more ∙ ap (λ t. t ++ s) still.1 ∙ append_assoc old still.0 s)
 

@@ -15,13 +15,13 @@ bytes_of cuts = map (λ c. c.bytes) cuts
 
 -- the number of a name's last end line so far, or among the lines left
 pub end_more : (name : List ℕ) (old new n all : ℕ) (s t : List Cut) (cut : Cut) (line : List ℕ) → s ≡ cut ∷ t → line ≡ cut.bytes → new ≡ cond (ends_block name line) (n + 1) old → last_behind old n (ends_block name) (bytes_of s) ≡ all → last_behind new (n + 1) (ends_block name) (bytes_of t) ≡ all
-end_more name old new n all s t cut line first is noted so_far =
-    ap (λ v. last_behind v (n + 1) (ends_block name) (bytes_of t)) (noted ∙ ap (λ b. cond (ends_block name b) (n + 1) old) is)
+end_more name old new n all s t cut line first is note_lines so_far =
+    ap (λ v. last_behind v (n + 1) (ends_block name) (bytes_of t)) (note_lines ∙ ap (λ b. cond (ends_block name b) (n + 1) old) is)
     ∙ sym (last_more old n (ends_block name) cut.bytes (bytes_of t))
     ∙ ap (λ x. last_behind old n (ends_block name) (bytes_of x)) (sym first)
     ∙ so_far
 
--- the part of a text behind a line
+-- the part of a text after a line
 pub record Passed (t : List ℕ) (part : Span) (n : ℕ) (ls : List (List ℕ)) : Type 0 where
   pub within : n ≤ part.len
   pub behind : lines (bytes_in t (record { at = part.at + n; len = part.len - n })) ≡ ls

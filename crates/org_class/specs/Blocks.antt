@@ -27,7 +27,7 @@ ends_block name l = let t = trimmed l in begins_with t (codes "#+END_") && same_
 abbrev pub opens_block : List ℕ → List (List ℕ) → Bool
 opens_block l ls = not (length (block_name l) == 0) && list_any (ends_block (block_name l)) ls
 
--- the classes of the lines behind a section's drawer, outside blocks, or inside the block of a name
+-- the classes of the lines after a section's drawer, outside blocks, or inside the block of a name
 abbrev pub body_classes : Option (List ℕ) → List (List ℕ) → List Class
 body_classes name [] = []
 body_classes None (l ∷ ls) = if opens_block l ls then BlockOpen ∷ body_classes (Some (block_name l)) ls else line_class l ∷ body_classes None ls

@@ -64,11 +64,11 @@ lines_of_setting (l ∷ ls) (c ∷ cs) = if is_setting_class c then l ∷ lines_
 abbrev pub setting_line : Option Class → Line → List (List ℕ)
 setting_line class line = setting_of class (cow_slice_items line.bytes)
 
--- the lines of class Setting of a section of a text stand behind the texts, unless that is refused
+-- the lines of class Setting of a section of a text stand after the texts, unless that is refused
 abbrev pub GainsSettings : {T E : Type 0} → Result T E → List (List ℕ) → List (List ℕ) → List ℕ → Span → List Class → Type 0
 GainsSettings result old new text section cs = OnOk result (new ≡ old ++ lines_of_setting (lines_in text section) cs)
 
--- what stood there stands there still, with more behind it
+-- what stood there stands there still, with more after it
 abbrev pub StandStill : List (List ℕ) → List (List ℕ) → Type 0
 StandStill old new = (more : List (List ℕ)) × (new ≡ old ++ more)
 

@@ -20,12 +20,12 @@ abbrev pub closes_drawer : List (List ℕ) → Bool
 closes_drawer [] = false
 closes_drawer (l ∷ ls) = is_drawer_end l || (is_node l && closes_drawer ls)
 
--- the classes of the lines behind the opening line of a drawer
+-- the classes of the lines after the opening line of a drawer
 abbrev pub drawer_classes : List (List ℕ) → List Class
 drawer_classes [] = []
 drawer_classes (l ∷ ls) = if is_drawer_end l then DrawerEnd ∷ body_classes None ls else Node ∷ drawer_classes ls
 
--- the classes of the lines behind the heading and its planning line: a drawer may stand at the front
+-- the classes of the lines after the heading and its planning line: a drawer may stand at the front
 abbrev pub classes_below : List (List ℕ) → List Class
 classes_below [] = []
 classes_below (l ∷ ls) = if is_drawer_open l && closes_drawer ls then DrawerOpen ∷ drawer_classes ls else body_classes None (l ∷ ls)

@@ -25,7 +25,7 @@ place_of places name = unwrap_or (lookup (bytes_eq (map to_ascii_lowercase name)
 abbrev pub AreLastEnds : Places → List (List ℕ) → Type 0
 AreLastEnds places ls = (name : List ℕ) → place_of places name ≡ last_where (ends_block name) ls
 
--- behind so many lines, a name's end line stands among the lines left just where its number is greater
+-- after so many lines, a name's end line stands among the lines left just where its number is greater
 abbrev pub KnowsEnds : Places → ℕ → List (List ℕ) → Type 0
 KnowsEnds places number ls = (name : List ℕ) → nat_lt number (place_of places name) ≡ list_any (ends_block name) ls
 

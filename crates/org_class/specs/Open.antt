@@ -11,7 +11,7 @@ goes_on part l = (part.len == 0) || not (begins_heading l)
 abbrev pub ended : Span → List ℕ → List Span
 ended part l = if goes_on part l then [] else part ∷ []
 
--- the part that is open behind the line
+-- the part that is open after the line
 abbrev pub opened : Span → List ℕ → Span
 opened part l = if goes_on part l then record { at = part.at; len = part.len + length l } else record { at = part.at + part.len; len = length l }
 

@@ -14,7 +14,7 @@ use Rattle.org_class.specs.declared.class.Class.TheVariants.{Heading, Planning, 
 abbrev pub HasNoDrawer : List (List ℕ) → Type 0
 HasNoDrawer ls = (nodes rest : List (List ℕ)) → HasDrawer ls nodes rest → ⊥
 
--- a drawer and the body behind it, or the body alone where no drawer stands at its front
+-- a drawer and the body after it, or the body alone where no drawer stands at its front
 pub data AreBelow : List (List ℕ) → List Class → Type 0 where
   WithDrawer : (ls nodes rest : List (List ℕ)) (cs : List Class) → HasDrawer ls nodes rest → AreBlocks rest cs → AreBelow ls (DrawerOpen ∷ (replicate (length nodes) Node ++ DrawerEnd ∷ cs))
   NoDrawer : (ls : List (List ℕ)) (cs : List Class) → HasNoDrawer ls → AreBlocks ls cs → AreBelow ls cs

@@ -6,12 +6,12 @@ use Rattle.org_base.specs.declared.span.Span.{Span}
 use Rattle.org_settings.specs.Pieces.{put_before}
 use Rattle.org_class.specs.Heading.{begins_heading}
 
--- the list cut behind each x where the test of x and of what follows it says so
+-- the list cut after each x where the test of x and of what follows it says so
 abbrev pub cut_where : {X : Type 0} → (X → List X → Bool) → List X → List (List X)
 cut_where cuts [] = []
 cut_where cuts (x ∷ xs) = put_before (cuts x xs) x (cut_where cuts xs)
 
--- a section ends behind a line feed behind which a heading line stands
+-- a section ends after a line feed after which a heading line stands
 abbrev pub ends_section : ℕ → List ℕ → Bool
 ends_section b bs = (b == 10) && begins_heading bs
 

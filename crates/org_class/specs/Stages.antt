@@ -1,4 +1,4 @@
--- How far a section was classified, and what that leaves of the rules to the lines behind.
+-- How far a section was classified, and what that leaves of the rules to the lines after.
 use Rattle.std.specs.Prelude.{ℕ, List, Some, None, ◌≡◌, ◌∷◌}
 use Rattle.org_class.specs.Blocks.{body_classes}
 use Rattle.org_class.specs.Classes.{classes, classes_under_heading, front_classes}
@@ -17,6 +17,6 @@ classes_at stage.Drawer ls = drawer_classes ls
 classes_at stage.Body ls = body_classes None ls
 classes_at (stage.Block name) ls = body_classes (Some name) ls
 
--- a rule for the lines from a place on gives the first of them this class, and the lines behind it what a stage gives them
+-- a rule for the lines from a place on gives the first of them this class, and the lines after it what a stage gives them
 abbrev pub IsPassed : (List (List ℕ) → List Class) → List ℕ → List (List ℕ) → Stage → Class → Type 0
 IsPassed rule line ahead stage class = rule (line ∷ ahead) ≡ class ∷ classes_at stage ahead

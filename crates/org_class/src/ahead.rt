@@ -1,4 +1,4 @@
-//! What stands behind a line of a section.
+//! What stands after a line of a section.
 ghost use Rattle.std.specs.Prelude.{◌≡◌, ◌+◌, ◌≤◌, length, IsOkUnless};
 ghost use Rattle.org_base.specs.Codes.{memory_fault};
 ghost use Rattle.org_base.specs.Results.{Gives};
@@ -19,7 +19,7 @@ use org_text::Text;
 use std::alloc::{AllocError, Global};
 use std::marker::Model;
 
-// The lines behind a line of a section, seen as their list.
+// The lines after a line of a section, seen as their list.
 #[derive(Drop)]
 pub(crate) struct Ahead<'a, T: Text> {
     text: &'a T,
@@ -45,7 +45,7 @@ impl<'a, T: Text> Model for Ahead<'a, T> {
 }
 
 impl<'a, T: Text> Ahead<'a, T> {
-    // The lines of a part of the text that are behind so many lines of a section, whose end lines are known.
+    // The lines of a part of the text that are after so many lines of a section, whose end lines are known.
     pub(crate) fn new(text: &'a T, rest: Span, number: usize, ends: &'a EndPlaces) -> Ahead<'a, T>
         requires within { rest.at + rest.len ≤ length (T.content text.now) }
         requires known { KnowsEnds ends.now number (lines (bytes_in (T.content text.now) rest)) }

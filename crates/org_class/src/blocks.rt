@@ -2,7 +2,7 @@
 ghost use Rattle.std.specs.Prelude.{◌≡◌};
 ghost use Rattle.org_class.specs.Blocks.{begins_with, block_name, ends_block};
 
-use org_base::words::{first_word, same_word, trimmed};
+use org_base::words::{first_word, same_word, trim};
 
 /// Whether the text begins with the word, but for the case of ASCII letters.
 pub fn begins_with(text: &[u8], word: &[u8]) -> bool
@@ -27,6 +27,6 @@ pub fn block_name(line: &[u8]) -> &[u8]
 pub(crate) fn ends_block(name: &[u8], line: &[u8]) -> bool
     ensures value { result ≡ ends_block name.now line.now }
 {
-    let text = trimmed(line);
+    let text = trim(line);
     begins_with(text, b"#+END_") && text.len() >= 6 && same_word(&text[6..], name)
 }

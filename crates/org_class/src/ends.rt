@@ -11,7 +11,7 @@ ghost use Rattle.org_base.specs.Spans.{bytes_in};
 
 use crate::blocks::begins_with;
 use memchr::memchr;
-use org_base::words::trimmed;
+use org_base::words::trim;
 use org_base::{Fault, Span};
 use org_lines::{Line, Lines};
 use org_text::Text;
@@ -58,7 +58,7 @@ impl EndPlaces {
     fn note_end(&mut self, alloc: Global, line: Line<'_>, place: usize) -> Result<(), AllocError>
         ensures ok { OnOk result (IsRenumbered self.old self.new (is_ended_by line.entry) place) }
     {
-        let text = trimmed(line.bytes.as_slice());
+        let text = trim(line.bytes.as_slice());
         if begins_with(text, b"#+END_") && text.len() >= 6 {
             self.note(alloc, &text[6..], place)?;
         }
@@ -74,11 +74,11 @@ impl EndPlaces {
         if !has_hash(text, part) {
             return Ok(EndPlaces::new(alloc));
         }
-        EndPlaces::noted(alloc, text, part)
+        EndPlaces::note_lines(alloc, text, part)
     }
 
     // The same, line by line.
-    fn noted<T: Text>(alloc: Global, text: &T, part: Span) -> Result<EndPlaces, Fault>
+    fn note_lines<T: Text>(alloc: Global, text: &T, part: Span) -> Result<EndPlaces, Fault>
         requires within { part.at + part.len ≤ length (T.content text.now) }
         ensures value { IfOk result (λ places. AreLastEnds places (lines_in (T.content text.now) part)) }
         ensures memory { IsOkUnless result memory_fault }

@@ -29,8 +29,8 @@ fn push_setting(texts: &mut Texts, class: Option<Class>, line: Line<'_>) -> Resu
     }
 }
 
-/// Puts the setting lines of a section, whose lines are of these classes, at the end of the texts. Want of memory is
-/// the only refusal; some of the lines may stand behind the texts then.
+/// Puts the setting lines of a section, whose lines are of these classes, at the end of the texts. Out of memory is
+/// the only refusal; some of the lines may stand after the texts then.
 pub fn push_setting_lines<T: Text>(
     alloc: Global,
     texts: &mut Texts,
@@ -69,13 +69,12 @@ fn push_lines<T: Text>(
     Ok(())
 }
 
-/// The settings of a whole text: what its setting lines, those of all sections, say together. Want of memory is the
-/// only refusal. The meter counts one classified section for each section of the text, where memory is refused for
-/// some of them alone.
+/// The settings of a whole text: what its setting lines, those of all sections, say together. The meter counts one
+/// classified section for each section of the text, where memory is refused for some of them alone.
 pub fn read_settings<T: Text>(alloc: Global, meter: &mut Meter, text: &T) -> Result<Settings, Fault>
     ensures value { Gives result (settings_of (setting_lines (T.content text.now))) }
     ensures counts { OnOk result (AllClassified (T.content text.now) meter.old meter.new) }
-    ensures few { OnErr result (SomeClassified (T.content text.now) meter.old meter.new) }
+    ensures partial { OnErr result (SomeClassified (T.content text.now) meter.old meter.new) }
     ensures memory { IsOkUnless result memory_fault }
 {
     let spans = sections(alloc, text)?;

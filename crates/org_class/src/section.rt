@@ -13,12 +13,12 @@ use crate::ends::EndPlaces;
 use crate::heading;
 use crate::stage::Stage;
 use org_base::{Fault, Meter, Span, Tick};
-use org_lines::{Lines, lent};
+use org_lines::{Lines, lend};
 use org_text::Text;
 use std::alloc::Global;
 
 /// The class of each line of a section, in order (Org Syntax, "Headings"; "Planning"; "Property Drawers"; "Blocks"). A
-/// section that doesn't begin with a heading line is taken for the one before the first heading. Want of memory is the
+/// section that doesn't begin with a heading line is taken for the one before the first heading. Out of memory is the
 /// only refusal; the meter counts one classified section then too.
 pub fn classify<T: Text>(
     alloc: Global,
@@ -43,7 +43,7 @@ fn is_heading_alone<T: Text>(text: &T, section: Span) -> bool
     requires within { section.at + section.len ≤ length (T.content text.now) }
     ensures alone { result ≡ true → classes_in (T.content text.now) section ≡ Heading ∷ [] }
 {
-    match lent(text, section) {
+    match lend(text, section) {
         Some(bytes) => heading::is_heading_alone(bytes),
         None => false,
     }

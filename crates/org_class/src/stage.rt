@@ -27,19 +27,18 @@ pub(crate) enum Stage {
     Front,
     // The line directly under the heading.
     UnderHeading,
-    // The line behind the heading and its planning line, where a drawer may begin.
+    // The line after the heading and its planning line, where a drawer may begin.
     Below,
     // A line of a drawer.
     Drawer,
-    // Any line behind them.
+    // Any line after them.
     Body,
     // A line of a block of this name.
     Block(Bytes),
 }
 
 impl Stage {
-    // The class of the line that comes next. The stage is then what may come behind it. Want of memory is the only
-    // refusal.
+    // The class of the line that comes next. The stage is then what may come after it.
     pub(crate) fn pass<T: Text>(
         &mut self,
         alloc: Global,

@@ -11,9 +11,9 @@ use Rattle.org_sum.specs.Measures as measures
 use Rattle.org_sum.specs.Sums.{own, own_at, sum_below, total}
 use Rattle.org_sum.specs.Texts.{AreOfText}
 use Rattle.org_clocktable.specs.Counted.{clocks_at, clocks_from, placed}
-use Rattle.org_clocktable.specs.Marks.{AreInOrder, minutes_before, minutes_of}
-use Rattle.org_clocktable.specs.declared.marks.PlacedClock.{PlacedClock}
-use Rattle.org_clocktable.proofs.MarkLemmas.{before_none, lt_true}
+use Rattle.org_clocktable.specs.RunningSums.{AreInOrder, minutes_before, minutes_of}
+use Rattle.org_clocktable.specs.declared.running_sums.PlacedClock.{PlacedClock}
+use Rattle.org_clocktable.proofs.RunningSumLemmas.{before_none, lt_true}
 
 placed_in_order : (i : ℕ) (clocks : List ClockLine) (rest : List PlacedClock) → AreInOrder i rest → AreInOrder i (placed i clocks ++ rest)
 placed_in_order i [] rest order = order
@@ -33,7 +33,7 @@ clocks_in_order i (e ∷ es) [] = tt
 clocks_in_order i (e ∷ es) (c ∷ cs) =
     at_in_order (is_some (level_of e) && c) i e.details.clocks (clocks_from (i + 1) es cs) (sooner i (i + 1) (clocks_from (i + 1) es cs) (omega arith) (clocks_in_order (i + 1) es cs))
 
--- what they have before a place behind theirs
+-- what they have before a place after theirs
 placed_before : (days : ℕ × ℕ) (i x : ℕ) (clocks : List ClockLine) (rest : List PlacedClock) → i < x →
     minutes_before days (placed i clocks ++ rest) x ≡ measures.minutes_of days clocks + minutes_before days rest x
 placed_before days i x [] rest lt = omega arith

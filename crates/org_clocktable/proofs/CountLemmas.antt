@@ -17,7 +17,7 @@ taken [] i x at = absurd cc
 taken (y ∷ ys) zero x at = let same : y ≡ x = cc in ap (λ z. z ∷ []) same
 taken (y ∷ ys) (suc i) x at = let next : suc i + 1 ≡ suc (i + 1) = omega arith in rw next (ap (λ zs. y ∷ zs) (taken ys i x at))
 
--- what is made of one more stands behind what was made of those before
+-- what is made of one more stands after what was made of those before
 pub mapped_more : {X Y : Type 0} (f : X → Y) (xs : List X) (i : ℕ) (x : X) (y : Y) (old new : List Y) → slice_get xs i ≡ Some x → y ≡ f x → old ≡ map f (take i xs) → new ≡ old ++ y ∷ [] → new ≡ map f (take (i + 1) xs)
 mapped_more f xs i x y old new at is so_far pushed =
     pushed ∙ (λ j. so_far j ++ is j ∷ []) ∙ sym (ap (map f) (taken xs i x at) ∙ map-append f (take i xs) (x ∷ []))

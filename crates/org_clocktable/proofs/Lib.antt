@@ -3,7 +3,7 @@ pub mod CountLemmas
 pub mod TableLemmas
 pub mod LawLemmas
 pub mod ClockedLemmas
-pub mod MarkLemmas
+pub mod RunningSumLemmas
 pub mod WalkLemmas
 pub mod TotalLemmas
 pub mod LevelLemmas

@@ -33,7 +33,7 @@ joined words = join_with_byte 32 words
 abbrev IsApart : List ℕ → Type 0
 IsApart word = AllByRecursion (λ b. b ≢ 32) word
 
--- what stands behind a word
+-- what stands after a word
 abbrev behind : List (List ℕ) → List ℕ
 behind [] = []
 behind (word ∷ words) = 32 ∷ joined (word ∷ words)
@@ -111,7 +111,7 @@ is_so word name yes' = (bytes_eq-Decides word name).0 yes'
 abbrev named : List ℕ → Option ℕ → List (List ℕ)
 named text at = option_to_list (option_map (word_at text) at)
 
--- a draft has what another one has, and what options say behind it
+-- a draft has what another one has, and what options say after it
 record Gains (text : List ℕ) (d e : Draft) (os : List TableOption) : Type 0 where
   blocks : named text e.block_at ≡ named text d.block_at ++ flat_map blocks os
   levels : option_to_list e.level ≡ option_to_list d.level ++ flat_map levels os
@@ -205,7 +205,7 @@ module _ (text : List ℕ) (d : Draft) where
 
 -- ---- one word
 
--- the word at a place behind its name
+-- the word at a place after its name
 value_at : (text : List ℕ) (at : ℕ) (name value : List ℕ) (words : List (List ℕ)) → drop at text ≡ (name ++ value) ++ behind words → IsApart value → word_at text (at + length name) ≡ value
 value_at text at name value words is apart =
     let there : drop (at + length name) text ≡ value ++ behind words =
@@ -321,7 +321,7 @@ module _ (text : List ℕ) (at : ℕ) (word : List ℕ) (words : List (List ℕ)
 
 -- ---- all words
 
--- what words lead to: options, and the expression behind them
+-- what words lead to: options, and the expression after them
 record AreAdded (text : List ℕ) (words : List (List ℕ)) (d e : Draft) : Type 0 where
   options : List TableOption
   expression : Option (List ℕ)
@@ -495,7 +495,7 @@ no_match ByDay = refl
 no_match ByWeek = refl
 no_match Effort = refl
 
--- the words behind `match=` begin with it
+-- the words after `match=` begin with it
 record BeginsSo (text : List ℕ) : Type 0 where
   word : List ℕ
   words : List (List ℕ)
@@ -629,7 +629,7 @@ text_back : (bytes : Option (List ℕ)) → IfSome bytes IsUtf8 → text_if byte
 text_back None is = refl
 text_back (Some bytes) is = rw (is_utf8-from_IsUtf8 bytes is) refl
 
--- a text is the words that are said where they stand behind it
+-- a text is the words that are said where they stand after it
 whole_text : (text : List ℕ) (words said : List (List ℕ)) → 0 < length words → text ≡ joined words → behind words ≡ behind said → text ≡ joined said
 whole_text text [] said some is e = absurd (omega (arith, some))
 whole_text text (w ∷ ws) [] some is e = absurd cc

@@ -12,14 +12,14 @@ use Rattle.org_sum.specs.Measures.{clock_minutes, effort_minutes}
 use Rattle.org_sum.specs.Sums.{own_at, sum_below}
 use Rattle.org_clocktable.specs.Clocked.{AreOf, IsHeadingOrEnd, IsLastClocked, NoneHas}
 use Rattle.org_clocktable.specs.Counted.{Counted, clocks_before, heading_sum}
-use Rattle.org_clocktable.specs.Marks.{IsLastRise, IsLater, Sums, before}
+use Rattle.org_clocktable.specs.RunningSums.{IsLastRise, IsLater, Sums, before}
 use Rattle.org_clocktable.specs.Table.{level_rows, rows_at, rows_from}
 use Rattle.org_clocktable.specs.declared.row.Of.TheVariants.{Heading}
 use Rattle.org_clocktable.specs.declared.row.TableRow.{TableRow}
-use Rattle.org_clocktable.proofs.MarkLemmas.{split}
+use Rattle.org_clocktable.proofs.RunningSumLemmas.{split}
 use Rattle.org_clocktable.proofs.TableLemmas.{entries_more}
 
--- a subtree that begins behind a heading's parent, and before the heading, ends before it
+-- a subtree that begins after a heading's parent, and before the heading, ends before it
 end_before : (ls : List (Option ℕ)) (i below : ℕ) → i < below → is_some (level_at ls below) ≡ true → ((p : ℕ) → parent ls below ≡ Some p → p < i) → end_of ls i ≤ below
 end_before ls i below lt heading behind = elim (split below (end_of ls i)) [
   | inl inside ↦ absurd (apart (is_smaller (level_at ls i) (level_at ls below)) (ancestors_fall ls i below ((subtree_is_what_is_below ls i below).1 (lt, inside, heading))).1 (by (parent ls below) refl))
@@ -77,12 +77,12 @@ rise_of sums file below None are h = sym (are below) ∙ h ∙ are 0
 rise_of sums file below (Some p) are h =
     (h.0, omega (arith, are p, are (p + 1), h.1), sym (are (p + 1)) ∙ h.2 ∙ are below)
 
--- behind what the clocks' own headings say, all sums up to a place are one
+-- after what the clocks' own headings say, all sums up to a place are one
 flat_behind : (days : ℕ × ℕ) (file : Counted) (below : ℕ) (own : Option ℕ) (i : ℕ) → RiseOf days file below own → ((p : ℕ) → own ≡ Some p → p < i) → i ≤ below → upto days file i ≡ upto days file below
 flat_behind days file below None i rise behind le = between days file 0 i below (omega arith) le (sym rise)
 flat_behind days file below (Some p) i rise behind le = between days file (p + 1) i below (omega (arith, behind p refl)) le rise.2
 
--- ends of subtrees that begin behind what is found
+-- ends of subtrees that begin after what is found
 abbrev EndsBefore : Counted → ℕ → Option ℕ → Type 0
 EndsBefore file below above = (i : ℕ) → i < below → ((p : ℕ) → above ≡ Some p → p < i) → end_of (levels file.entries) i ≤ below
 
@@ -152,7 +152,7 @@ level_here [] i e lt is = absurd (omega (arith, lt))
 level_here (x ∷ xs) zero e lt is = ap level_of (sym is)
 level_here (x ∷ xs) (suc i) e lt is = level_here xs i e (omega (arith, lt)) is
 
--- the rows from a place on are that of the entry there, and those behind it
+-- the rows from a place on are that of the entry there, and those after it
 rows_more : (days : ℕ × ℕ) (most file : ℕ) (counted : Counted) (i : ℕ) → i < length counted.entries →
     rows_from days most file counted i (drop i counted.entries) ≡ rows_at days most file counted i ++ rows_from days most file counted (i + 1) (drop (i + 1) counted.entries)
 rows_more days most file counted i lt =

@@ -1,7 +1,7 @@
 -- Which headings of a file have minutes in some days, their own or of headings below them.
 use Rattle.std.specs.Prelude.{◌≡◌, ℕ, ◌+◌, ◌<◌, ◌≤◌, true, is_some, List, Option, None, Some, length}
 use Rattle.org_clocktable.specs.Counted.{Counted, clocks_before, heading_sum}
-use Rattle.org_clocktable.specs.Marks.{Sums, before}
+use Rattle.org_clocktable.specs.RunningSums.{Sums, before}
 use Rattle.org_entry.specs.declared.entry.Entry.{Entry}
 use Rattle.org_outline.specs.Levels.{levels}
 use Rattle.org_outline.specs.Tree.{level_at}
@@ -20,7 +20,7 @@ pub record IsHeadingOrEnd (es : List Entry) (place : ℕ) : Type 0 where
 abbrev pub NoneHas : ℕ × ℕ → Counted → ℕ → ℕ → Type 0
 NoneHas days file from to = (i : ℕ) → from ≤ i → i < to → heading_sum (clock_minutes days) file i ≡ 0
 
--- a heading before a place, behind which none has minutes up to there; none where none before has
+-- a heading before a place, after which none has minutes up to there; none where none before has
 abbrev pub IsLastClocked : ℕ × ℕ → Counted → ℕ → Option ℕ → Type 0
 IsLastClocked days file below None = NoneHas days file 0 below
 IsLastClocked days file below (Some place) = (place < below) × IsHeadingOrEnd file.entries place × NoneHas days file (place + 1) below

@@ -5,7 +5,7 @@ use Rattle.std.specs.Borrow.{Bor}
 use Rattle.std.specs.List.{range_with_len}
 use Rattle.org_agenda.specs.Holding.{holds_of}
 use Rattle.org_cal.specs.declared.moment.Moment.{Moment}
-use Rattle.org_clocktable.specs.declared.marks.PlacedClock.{PlacedClock}
+use Rattle.org_clocktable.specs.declared.running_sums.PlacedClock.{PlacedClock}
 use Rattle.org_drawer.specs.declared.clock.ClockLine.{ClockLine}
 use Rattle.org_entry.specs.declared.entry.Entry.{Entry}
 use Rattle.org_expression.specs.Grammar.{Expr}

@@ -74,7 +74,7 @@ step_said Week = Week ∷ []
 abbrev pub effort_said : Bool → List TableOption
 effort_said with_effort = if with_effort then Effort ∷ [] else []
 
--- the text says this on a day: options in any order with one space between, and the expression behind them; one block and
+-- the text says this on a day: options in any order with one space between, and the expression after them; one block and
 -- one level, and of the others each at most once
 pub record IsTable (text : List ℕ) (today : ℕ) (asked : TableRequest (List ℕ)) : Type 0 where
   pub options : List TableOption

@@ -6,14 +6,14 @@ ghost use Rattle.org_base.specs.Results.{Adds, Gives, GivesItems};
 ghost use Rattle.org_cal.specs.Periods.{days_of};
 ghost use Rattle.org_clocktable.specs.Clocked.{AreOf};
 ghost use Rattle.org_clocktable.specs.Counted.{clocks_at, clocks_from, counted_files, file_sum, heading_sums, matching_of, whole_of, placed, IsCounted};
-ghost use Rattle.org_clocktable.specs.Marks.{before};
+ghost use Rattle.org_clocktable.specs.RunningSums.{before};
 ghost use Rattle.org_inherit.specs.Scope.{Scope};
 ghost use Rattle.org_outline.specs.Levels.{levels};
 ghost use Rattle.org_outline.specs.Tree.{all_ends};
 ghost use Rattle.org_sum.specs.Measures.{effort_minutes};
 ghost use Rattle.org_sum.specs.Texts.{AreOfText};
 
-use crate::marks::{Marks, PlacedClock};
+use crate::running_sums::{PlacedClock, RunningSums};
 use org_agenda::holds_of;
 use org_base::Fault;
 use org_cal::{Moment, Period};
@@ -88,14 +88,18 @@ impl<'a> CountedFile<'a> {
     }
 
     // What its clocks have in a period.
-    pub(crate) fn marks(&self, alloc: Global, period: &Period) -> Result<Marks, AllocError>
-        ensures days { IfOk result (λ marks. marks.days ≡ days_of period.now) }
-        ensures sums { IfOk result (λ marks. AreOf marks self.now) }
-        ensures below { IfOk result (λ marks. before marks (length self.now.entries) < 2 ^ 55) }
+    pub(crate) fn running_sums(
+        &self,
+        alloc: Global,
+        period: &Period,
+    ) -> Result<RunningSums, AllocError>
+        ensures days { IfOk result (λ running. running.days ≡ days_of period.now) }
+        ensures sums { IfOk result (λ running. AreOf running self.now) }
+        ensures below { IfOk result (λ running. before running (length self.now.entries) < 2 ^ 55) }
     {
         // For the proof alone: the period ends on a day.
         let _last = period.last.number();
-        Marks::of(alloc, self.clocks.as_slice(), period)
+        RunningSums::of(alloc, self.clocks.as_slice(), period)
     }
 
     // The effort of the whole file.
@@ -160,8 +164,8 @@ fn push_all(
     Ok(())
 }
 
-/// The files, each with the headings that count in a clock table: all, or those of which the expression holds at the moment.
-/// Hidden headings count too. Each file is one text's. Want of memory is the only refusal.
+/// The files, each with the headings that count in a clock table: all, or those of which the expression holds at the
+/// moment. Hidden headings count too. Each file is one text's.
 pub fn counted_files<'a>(
     alloc: Global,
     inherits: &'a Inherits<'_>,

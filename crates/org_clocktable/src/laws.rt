@@ -18,13 +18,13 @@ pub fn totals_are_of_all_that_count()
     ensures { TotalsAreOfAllThatCount }
 {}
 
-/// The word behind `maxlevel=` is a level exactly where it is the decimal text of 1 to 99.
+/// The word after `maxlevel=` is a level exactly where it is the decimal text of 1 to 99.
 pub fn levels_are_spelled()
     ensures { LevelsAreSpelled }
 {}
 
 /// A text asks for a table exactly where it spells it: options in any order with one space between, one block, one level of
-/// 1 to 99, each of the others at most once, and the expression behind them with the rest of the text.
+/// 1 to 99, each of the others at most once, and the expression after them with the rest of the text.
 pub fn options_are_spelled()
     ensures { OptionsAreSpelled }
 {}

@@ -1,5 +1,7 @@
 //! Clock tables: what their options ask for, and their rows.
 //!
+//! Every call that allocates may be refused memory. Where it names no other refusal, that is its only one.
+//!
 //! Options are read first, as places in their text, then the block by the moment's day, then the expression. What
 //! doesn't depend on the step is worked out once for each file: the efforts, and a list of the clocks of the headings
 //! that count. A step goes over that list once, keeps the clocks with minutes in its days as a sum that rises from
@@ -18,11 +20,11 @@
 
 mod counted;
 pub mod laws;
-mod marks;
 mod options;
 mod request;
 mod row;
 mod rows;
+mod running_sums;
 mod spec;
 
 pub use counted::{CountedFile, counted_files};

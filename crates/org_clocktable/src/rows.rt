@@ -6,13 +6,13 @@ ghost use Rattle.org_base.specs.declared.limits.TheConstants.{MOST_FILES};
 ghost use Rattle.org_cal.specs.Periods.{days_of};
 ghost use Rattle.org_clocktable.specs.Clocked.{AreOf, IsHeadingOrEnd, IsLastClocked};
 ghost use Rattle.org_clocktable.specs.Counted.{file_sum, total};
-ghost use Rattle.org_clocktable.specs.Marks.{IsLater};
+ghost use Rattle.org_clocktable.specs.RunningSums.{IsLater};
 ghost use Rattle.org_clocktable.specs.Table.{entry_rows, files_rows, heading_lines, line_at, lines_of, step_rows};
 ghost use Rattle.org_sum.specs.Measures.{clock_minutes, effort_minutes};
 
 use crate::counted::CountedFile;
-use crate::marks::Marks;
 use crate::row::{Of, TableRow};
+use crate::running_sums::RunningSums;
 use org_base::Fault;
 use org_cal::Period;
 use org_entry::Entry;
@@ -21,14 +21,14 @@ use std::alloc::{AllocError, Global};
 /// The rows of a clock table over a period (Org manual 9.6, "The clock table"): the total; then each file with clocks
 /// in the period, followed by its headings of at most this level that have some. They are at most as many files as an
 /// engine has. Each clock is looked at once, and then only headings with minutes in the period, their own or below
-/// them. Want of memory is the only refusal.
+/// them.
 pub fn step_rows(
     alloc: Global,
     period: &Period,
     most: u32,
     files: &[CountedFile<'_>],
 ) -> Result<Vec<TableRow>, Fault>
-    requires few { length files.now ≤ MOST_FILES }
+    requires at_most { length files.now ≤ MOST_FILES }
     ensures value { GivesItems result (step_rows (days_of period.now) most files.now) }
     ensures memory { IsOkUnless result memory_fault }
 {
@@ -36,7 +36,7 @@ pub fn step_rows(
     Ok(rows)
 }
 
-// The same; the total is known behind the files.
+// The same; the total is known after the files.
 #[tactic(auto, unfolding(crate::specs::Table::step_rows))]
 fn rows_of(
     alloc: Global,
@@ -44,7 +44,7 @@ fn rows_of(
     most: u32,
     files: &[CountedFile<'_>],
 ) -> Result<Vec<TableRow>, AllocError>
-    requires few { length files.now ≤ MOST_FILES }
+    requires at_most { length files.now ≤ MOST_FILES }
     ensures { GivesItems result (step_rows (days_of period.now) most files.now) }
 {
     let effort = total_effort(files);
@@ -63,7 +63,7 @@ fn rows_of(
 
 // The efforts of all files.
 fn total_effort(files: &[CountedFile<'_>]) -> u64
-    requires few { length files.now ≤ MOST_FILES }
+    requires at_most { length files.now ≤ MOST_FILES }
     ensures { result ≡ total effort_minutes files.now }
 {
     let mut sum = 0;
@@ -74,7 +74,7 @@ fn total_effort(files: &[CountedFile<'_>]) -> u64
     sum
 }
 
-// Puts the rows of files behind others; answers what the clocks of all have.
+// Puts the rows of files after others; answers what the clocks of all have.
 fn push_files(
     alloc: Global,
     rows: &mut Vec<TableRow>,
@@ -82,7 +82,7 @@ fn push_files(
     most: u32,
     files: &[CountedFile<'_>],
 ) -> Result<u64, AllocError>
-    requires few { length files.now ≤ MOST_FILES }
+    requires at_most { length files.now ≤ MOST_FILES }
     ensures sum { Gives result (total (clock_minutes (days_of period.now)) files.now) }
     ensures rows { Adds result rows.old rows.new (files_rows (days_of period.now) most 0 files.now) }
 {
@@ -102,7 +102,7 @@ pub(crate) struct TableFile<'a, 'b> {
     pub counted: &'a CountedFile<'b>,
 }
 
-// Puts the rows of a file behind others; answers what its clocks have.
+// Puts the rows of a file after others; answers what its clocks have.
 fn push_file(
     alloc: Global,
     rows: &mut Vec<TableRow>,
@@ -115,8 +115,8 @@ fn push_file(
     ensures rows { Adds result rows.old rows.new (lines_of (days_of period.now) most file.now) }
 {
     let counted = file.counted;
-    let marks = counted.marks(alloc, period)?;
-    let clock = marks.before(counted.outline().count());
+    let running = counted.running_sums(alloc, period)?;
+    let clock = running.before(counted.outline().count());
     if clock == 0 {
         return Ok(0);
     }
@@ -125,7 +125,7 @@ fn push_file(
         clock,
         effort: counted.effort(),
     })?;
-    push_headings(alloc, rows, most, file, &marks)?;
+    push_headings(alloc, rows, most, file, &running)?;
     Ok(clock)
 }
 
@@ -134,12 +134,12 @@ fn push_headings(
     rows: &mut Vec<TableRow>,
     most: u32,
     file: &TableFile<'_, '_>,
-    marks: &Marks,
+    running: &RunningSums,
 ) -> Result<(), AllocError>
-    requires { AreOf marks.now file.now.counted.now }
-    ensures { Adds result rows.old rows.new (heading_lines marks.now.days most file.now) }
+    requires { AreOf running.now file.now.counted.now }
+    ensures { Adds result rows.old rows.new (heading_lines running.now.days most file.now) }
 {
-    let mut found = headings_up(alloc, most, file, marks)?;
+    let mut found = headings_up(alloc, most, file, running)?;
     found.reverse();
     rows.extend_from_slice(found.as_slice())?;
     Ok(())
@@ -150,37 +150,37 @@ fn headings_up(
     alloc: Global,
     most: u32,
     file: &TableFile<'_, '_>,
-    marks: &Marks,
+    running: &RunningSums,
 ) -> Result<Vec<TableRow>, AllocError>
-    requires { AreOf marks.now file.now.counted.now }
-    ensures { IfOk result (λ rows. reverse rows.items ≡ heading_lines marks.now.days most file.now) }
+    requires { AreOf running.now file.now.counted.now }
+    ensures { IfOk result (λ rows. reverse rows.items ≡ heading_lines running.now.days most file.now) }
 {
     let mut rows = Vec::new(alloc);
     let mut below = file.counted.outline().count();
-    while let Some(place) = heading_before(file.counted, marks, below) {
-        push_heading(&mut rows, most, file, marks, place)?;
+    while let Some(place) = heading_before(file.counted, running, below) {
+        push_heading(&mut rows, most, file, running, place)?;
         below = place;
     }
     Ok(rows)
 }
 
 // The last heading before another one, or before the end, that may have minutes: the parent of that one, or the last
-// with clocks of its own. What stands behind both has none, since all subtrees that begin there end before that
+// with clocks of its own. What stands after both has none, since all subtrees that begin there end before that
 // heading.
-fn heading_before(file: &CountedFile<'_>, marks: &Marks, below: usize) -> Option<usize>
-    requires marks { AreOf marks.now file.now }
+fn heading_before(file: &CountedFile<'_>, running: &RunningSums, below: usize) -> Option<usize>
+    requires running { AreOf running.now file.now }
     requires heading { IsHeadingOrEnd file.now.entries below }
-    ensures { IsLastClocked marks.now.days file.now below result }
+    ensures { IsLastClocked running.now.days file.now below result }
 {
     let outline = file.outline();
-    let own = marks.last_before(below);
+    let own = running.last_before(below);
     if below == outline.count() {
         return own;
     }
-    later(outline.parent(below), own)
+    later_of(outline.parent(below), own)
 }
 
-fn later(a: Option<usize>, b: Option<usize>) -> Option<usize>
+fn later_of(a: Option<usize>, b: Option<usize>) -> Option<usize>
     ensures { IsLater a b result }
 {
     match (a, b) {
@@ -190,22 +190,22 @@ fn later(a: Option<usize>, b: Option<usize>) -> Option<usize>
     }
 }
 
-// Puts the row of a heading behind others, if it has one.
+// Puts the row of a heading after others, if it has one.
 fn push_heading(
     rows: &mut Vec<TableRow>,
     most: u32,
     file: &TableFile<'_, '_>,
-    marks: &Marks,
+    running: &RunningSums,
     place: usize,
 ) -> Result<(), AllocError>
-    requires marks { AreOf marks.now file.now.counted.now }
+    requires running { AreOf running.now file.now.counted.now }
     requires within { place < length file.now.counted.now.entries }
-    ensures { Adds result rows.old rows.new (line_at marks.now.days most file.now place) }
+    ensures { Adds result rows.old rows.new (line_at running.now.days most file.now place) }
 {
     let counted = file.counted;
     let outline = counted.outline();
     let end = counted.ends()[place];
-    let clock = marks.before(end) - marks.before(place);
+    let clock = running.before(end) - running.before(place);
     let sums = HeadingSums {
         file: file.place,
         heading: place,

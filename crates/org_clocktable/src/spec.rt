@@ -36,7 +36,7 @@ impl<'a> TableSpec<'a> {
     /// What options ask for on a day (Org manual 9.6, "The clock table"): `block=NAME` and `maxlevel=N`, N from 1 to 99;
     /// and where they stand `file=NAME`, `step=day` or `step=week`, `effort`, and `match=EXPR`. Each stands at most once,
     /// one space between them, in any order, but `match=` is the last and takes the rest of the text. `Option` exactly where
-    /// the text isn't that, or names no block; then `MatchAt`, `Regexp` or want of memory as [`Match::read`].
+    /// the text isn't that, or names no block; then `MatchAt`, `Regexp` or out of memory as [`Match::read`].
     pub fn read(alloc: Global, text: &'a str, today: Day) -> Result<TableSpec<'a>, Fault>
         requires short { length text.now < 2 ^ 32 }
         ensures value { IfOk result (AsksFor text.now today) }

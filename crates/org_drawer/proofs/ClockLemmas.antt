@@ -6,15 +6,15 @@ use Rattle.std.proofs.lemmas.List.Sums.{sum_by-cons}
 use Rattle.org_cal.specs.Minutes.{minute_of}
 use Rattle.org_cal.specs.Pieces.{AreJoined}
 use Rattle.org_drawer.specs.declared.clock.ClockLine.{ClockLine}
-use Rattle.org_drawer.specs.Clock.{common, minutes_to, minutes_in, runs_at}
+use Rattle.org_drawer.specs.Clock.{common_minutes, minutes_to, minutes_in, runs_at}
 use Rattle.org_drawer.specs.Laws.{MinutesAreCounted, PiecesMakeTheWhole, ReversedClocksHaveNone}
 
--- pieces that are joined end where they begin or behind it
+-- pieces that are joined end where they begin or after it
 joined_end : (first : ℕ) (ps : List (ℕ × ℕ)) (last : ℕ) → AreJoined first ps last → first ≤ last + 1
 joined_end first [] last e = omega (arith, e)
 joined_end first (p ∷ ps) last h = omega (arith, h.0, h.1, joined_end (p.1 + 1) ps last h.2)
 
-common_cut : (from to first middle past : ℕ) → first ≤ middle → middle ≤ past → common from to first middle + common from to middle past ≡ common from to first past
+common_cut : (from to first middle past : ℕ) → first ≤ middle → middle ≤ past → common_minutes from to first middle + common_minutes from to middle past ≡ common_minutes from to first past
 common_cut from to first middle past a b = omega arith
 
 to_cut : (from : ℕ) (to : Option ℕ) (first middle past : ℕ) → first ≤ middle → middle ≤ past →
@@ -42,15 +42,15 @@ pub pieces_make_the_whole : PiecesMakeTheWhole
 pieces_make_the_whole c first last ps one h = pieces c first last ps one h
 
 -- one minute of a stretch
-one_minute : (from to n first : ℕ) → cond (runs_at from to first) 1 0 + common from to (first + 1) (first + 1 + n) ≡ common from to first (first + suc n)
+one_minute : (from to n first : ℕ) → cond (runs_at from to first) 1 0 + common_minutes from to (first + 1) (first + 1 + n) ≡ common_minutes from to first (first + suc n)
 one_minute from to n first = by (nat_le from first) (nat_lt first to) refl refl
   where
-    by : (a b : Bool) → nat_le from first ≡ a → nat_lt first to ≡ b → cond (a && b) 1 0 + common from to (first + 1) (first + 1 + n) ≡ common from to first (first + suc n)
+    by : (a b : Bool) → nat_le from first ≡ a → nat_lt first to ≡ b → cond (a && b) 1 0 + common_minutes from to (first + 1) (first + 1 + n) ≡ common_minutes from to first (first + suc n)
     by true true e d = let begun : from ≤ first = grind (arith, nat_tests, e) in let runs : first < to = grind (arith, nat_tests, d) in omega (arith, begun, runs)
     by true false e d = let over : to ≤ first = grind (arith, nat_tests, d) in omega (arith, over)
     by false b e d = let before : first < from = grind (arith, nat_tests, e) in omega (arith, before)
 
-counted : (from to n first : ℕ) → count_by (runs_at from to) (range_with_len first n) ≡ common from to first (first + n)
+counted : (from to n first : ℕ) → count_by (runs_at from to) (range_with_len first n) ≡ common_minutes from to first (first + n)
 counted from to zero first = omega arith
 counted from to (suc n) first =
     sum_by-cons (λ m. cond (runs_at from to m) 1 0) first (range_with_len (first + 1) n)
@@ -60,7 +60,7 @@ pub minutes_are_counted : MinutesAreCounted
 minutes_are_counted from to first last =
     let a = minute_of first 0 in
     let b = minute_of (last + 1) 0 in
-    let ends : common from to a (a + (b - a)) ≡ common from to a b = omega arith in
+    let ends : common_minutes from to a (a + (b - a)) ≡ common_minutes from to a b = omega arith in
     sym (counted from to (b - a) a ∙ ends)
 
 pub reversed_clocks_have_none : ReversedClocksHaveNone

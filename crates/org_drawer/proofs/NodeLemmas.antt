@@ -112,7 +112,7 @@ with_parts appends xs k some plus len long last plain name is =
       front = ap (λ n. take n xs) at ∙ is;
     }
 
--- the last byte of a name with more behind it
+-- the last byte of a name with more after it
 last_byte : (name more : List ℕ) (j : ℕ) → length name ≡ suc j → (get_or name (length name - 1) 0 == 43) ≡ false → (get_or (name ++ more) j 0 == 43) ≡ false
 last_byte name more j e plain =
     let at : length name - 1 ≡ j = omega (arith, e) in

@@ -15,13 +15,13 @@ abbrev pub runs_at : ℕ → ℕ → ℕ → Bool
 runs_at from to minute = nat_le from minute && nat_lt minute to
 
 -- how many minutes two stretches have in common, each up to its end
-abbrev pub common : ℕ → ℕ → ℕ → ℕ → ℕ
-common from to first past = min to past - max from first
+abbrev pub common_minutes : ℕ → ℕ → ℕ → ℕ → ℕ
+common_minutes from to first past = min to past - max from first
 
 -- the minutes of a clock with this end in a stretch; a running clock has none
 abbrev pub minutes_to : ℕ → Option ℕ → ℕ → ℕ → ℕ
 minutes_to from None first past = 0
-minutes_to from (Some to) first past = common from to first past
+minutes_to from (Some to) first past = common_minutes from to first past
 
 -- the minutes of a clock from the beginning of a first day to the end of a last one
 abbrev pub minutes_in : ClockLine → ℕ × ℕ → ℕ

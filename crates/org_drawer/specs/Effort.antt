@@ -26,11 +26,11 @@ abbrev pub sixtieths : List ℕ → Option ℕ
 sixtieths (a ∷ b ∷ []) = option_and_then (λ n. if nat_lt n 60 then Some n else None) (two_digits a b)
 sixtieths _ = None
 
--- H:MM of its digits before the colon and of what stands behind it, H having up to six digits
+-- H:MM of its digits before the colon and of what stands after it, H having up to six digits
 abbrev pub hours : List ℕ → List ℕ → Option ℕ
 hours digits rest = option_and_then (λ hour. option_map (λ n. hour * 60 + n) (sixtieths rest)) (number_of 6 digits)
 
--- a number of up to four digits and what stands behind it: white space or none, a unit
+-- a number of up to four digits and what stands after it: white space or none, a unit
 abbrev pub units : List ℕ → List ℕ → Option ℕ
 units digits rest = option_and_then (λ n. option_map (λ minutes. n * minutes) (unit_minutes (past_spaces rest))) (number_of 4 digits)
 

@@ -2,7 +2,7 @@
 ghost use Rattle.std.specs.Prelude.{◌≡◌, ◌<◌, ◌≤◌};
 ghost use Rattle.org_cal.specs.Periods.{days_of};
 ghost use Rattle.org_cal.specs.declared.minute.TheConstants.{CALENDAR_MINUTES};
-ghost use Rattle.org_drawer.specs.Clock.{clock_of, common, minutes_in};
+ghost use Rattle.org_drawer.specs.Clock.{clock_of, common_minutes, minutes_in};
 
 use org_cal::{MINUTES_PER_DAY, Minute, Period};
 use org_stamp::clock_stamp;
@@ -36,15 +36,15 @@ impl ClockLine {
         let first = (period.first.number() as u64 - 1) * MINUTES_PER_DAY;
         let past = period.last.number() as u64 * MINUTES_PER_DAY;
         match self.to {
-            Some(to) => common(self.from.number(), to.number(), first, past),
+            Some(to) => common_minutes(self.from.number(), to.number(), first, past),
             None => 0,
         }
     }
 }
 
 // How many minutes two stretches have in common, each up to its end.
-fn common(from: u64, to: u64, first: u64, past: u64) -> u64
-    ensures value { result ≡ common from to first past }
+fn common_minutes(from: u64, to: u64, first: u64, past: u64) -> u64
+    ensures value { result ≡ common_minutes from to first past }
     ensures most { result ≤ to }
 {
     to.min(past).saturating_sub(from.max(first))

@@ -14,7 +14,6 @@ pub use org_base::Properties as Drawer;
 /// The properties that node lines give (Org Syntax, "Property Drawers"): a line's first word is `:NAME:` or `:NAME+:`,
 /// NAME not empty and not ending in `+`, and its value is the rest without white space at the ends. A line that is none
 /// gives nothing. `:PROPERTIES:` and `:END:` are such words too, so a drawer's first and last line are to be left out.
-/// Want of memory is its only refusal.
 pub fn read_drawer(alloc: Global, lines: &Texts) -> Result<Drawer, Fault>
     ensures value { Gives result (drawer_of lines.now) }
     ensures memory { IsOkUnless result memory_fault }

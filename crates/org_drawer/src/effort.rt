@@ -35,7 +35,7 @@ pub fn effort_minutes(text: &[u8]) -> Option<u64>
 #[tactic(auto, using(crate::proofs::EffortLemmas::digits_before))]
 fn split_digits(text: &[u8]) -> (&[u8], &[u8])
     ensures front { result.0.now ≡ take (prefix_len is_ascii_digit text.now) text.now }
-    ensures back { result.1.now ≡ drop (prefix_len is_ascii_digit text.now) text.now }
+    ensures rest { result.1.now ≡ drop (prefix_len is_ascii_digit text.now) text.now }
     ensures digits { AllDigits 10 result.0.now }
 {
     text.split_at(leading_digits(text))
@@ -52,7 +52,7 @@ fn leading_digits(text: &[u8]) -> usize
 // The number that digits write, where they are at most so many.
 #[tactic(auto, using(crate::proofs::EffortLemmas::digits_below))]
 fn number_of(most: usize, digits: &[u8]) -> Option<u64>
-    requires few { most ≤ 6 }
+    requires at_most { most ≤ 6 }
     requires digits { AllDigits 10 digits.now }
     ensures value { result ≡ number_of most digits.now }
     ensures below { IfSome result (λ n. n < 10 ^ most) }
@@ -66,7 +66,7 @@ fn number_of(most: usize, digits: &[u8]) -> Option<u64>
 
 // The number that up to six digits write.
 fn value_of(digits: &[u8]) -> u64
-    requires few { length digits.now ≤ 6 }
+    requires at_most { length digits.now ≤ 6 }
     requires digits { AllDigits 10 digits.now }
     ensures value { result ≡ digits_value 10 digits.now }
 {
@@ -77,7 +77,7 @@ fn value_of(digits: &[u8]) -> u64
     n
 }
 
-// `H:MM`, of the digits before the colon and what stands behind it.
+// `H:MM`, of the digits before the colon and what stands after it.
 fn hours(digits: &[u8], rest: &[u8]) -> Option<u64>
     requires { AllDigits 10 digits.now }
     ensures value { result ≡ hours digits.now rest.now }
@@ -99,7 +99,7 @@ fn sixtieths(text: &[u8]) -> Option<u64>
     if n < 60 { Some(n as u64) } else { None }
 }
 
-// A number and a unit, of the digits and what stands behind them.
+// A number and a unit, of the digits and what stands after them.
 fn units(digits: &[u8], rest: &[u8]) -> Option<u64>
     requires { AllDigits 10 digits.now }
     ensures value { result ≡ units digits.now rest.now }

@@ -1,5 +1,7 @@
 //! What the lines under a heading say: its planning line, its property drawer, its clock lines and its effort.
 //!
+//! Every call that allocates may be refused memory. Where it names no other refusal, that is its only one.
+//!
 //! What is read of a line is what one definition says of it, and nothing exactly where it is no such line. Only
 //! `read_drawer` takes memory.
 //!

@@ -3,7 +3,7 @@ ghost use Rattle.std.specs.Prelude.{◌≡◌, ◌+◌, ◌≤◌, true, length}
 ghost use Rattle.std.specs.Option.{option_map};
 ghost use Rattle.org_drawer.specs.Node.{given, given_by, given_of, has_plus, is_node, is_node_word, name_len};
 
-use org_base::words::{first_word, trim_start, trimmed};
+use org_base::words::{first_word, trim, trim_start};
 
 // What a node line gives (Org Syntax, "Node Properties").
 #[derive(Drop)]
@@ -76,6 +76,6 @@ fn node_from<'a>(word: &'a [u8], rest: &'a [u8]) -> Node<'a>
     Node {
         name: &word[1..][..len],
         appends: has_plus(word),
-        value: trimmed(&rest[word.len()..]),
+        value: trim(&rest[word.len()..]),
     }
 }

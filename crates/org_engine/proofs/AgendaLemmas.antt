@@ -7,7 +7,7 @@ use Rattle.org_base.specs.declared.profile.Profile.{Profile}
 use Rattle.org_agenda.specs.Bound.{near_count}
 use Rattle.org_agenda.specs.Days.{AgendaView, day_rows}
 use Rattle.org_agenda.specs.Sources.{sources_of}
-use Rattle.org_agenda.specs.declared.source.Source.{Source}
+use Rattle.org_agenda.specs.declared.source.HeadingStamp.{HeadingStamp}
 use Rattle.org_inherit.specs.Scope.{Scope}
 use Rattle.org_layout.specs.Days.{agenda_lines, day_line, day_lines, row_lines}
 use Rattle.org_layout.specs.Shown.{day_lines_shown, lines_of}
@@ -32,12 +32,12 @@ same_texts f g first zero same = refl
 same_texts f g first (suc n) same =
     ap₂ (λ a b. a ++ b) (same first (omega arith) (omega arith)) (same_texts f g (first + 1) n (λ day late early. same day (omega (arith, late)) (omega (arith, early))))
 
-same_day : (p : Profile) (scopes : List Scope) (some all : List Source) (today day : ℕ) → day_rows p some today day ≡ day_rows p all today day → day_lines p scopes some today day ≡ day_lines p scopes all today day
+same_day : (p : Profile) (scopes : List Scope) (some all : List HeadingStamp) (today day : ℕ) → day_rows p some today day ≡ day_rows p all today day → day_lines p scopes some today day ≡ day_lines p scopes all today day
 unfolding day_lines
 same_day p scopes some all today day same = λ i. day_line day ++ row_lines scopes (same i)
 
 -- stamps that give the rows of all stamps on each day of a period
-pub same_days : (p : Profile) (scopes : List Scope) (some all : List Source) (today first count last : ℕ) → all ≡ sources_of 0 scopes → last + 1 ≡ first + count → ((day : ℕ) → first ≤ day → day ≤ last → day_rows p some today day ≡ day_rows p all today day) →
+pub same_days : (p : Profile) (scopes : List Scope) (some all : List HeadingStamp) (today first count last : ℕ) → all ≡ sources_of 0 scopes → last + 1 ≡ first + count → ((day : ℕ) → first ≤ day → day ≤ last → day_rows p some today day ≡ day_rows p all today day) →
     (agenda : AgendaView) → agenda ≡ record { profile = p; sources = some; today = today; first = first; count = count } → agenda_lines scopes agenda ≡ days_over p scopes today first count
 same_days p scopes some all today first count last are end same agenda is =
     (λ i. agenda_lines scopes (is i))
@@ -50,7 +50,7 @@ same_lists f g first (suc n) same =
     ap₂ (λ a b. a ++ b) (same first (omega arith) (omega arith)) (same_lists f g (first + 1) n (λ day late early. same day (omega (arith, late)) (omega (arith, early))))
 
 -- what their lines stand for
-pub same_lines : (p : Profile) (scopes : List Scope) (some all : List Source) (today first count last : ℕ) → all ≡ sources_of 0 scopes → last + 1 ≡ first + count → ((day : ℕ) → first ≤ day → day ≤ last → day_rows p some today day ≡ day_rows p all today day) →
+pub same_lines : (p : Profile) (scopes : List Scope) (some all : List HeadingStamp) (today first count last : ℕ) → all ≡ sources_of 0 scopes → last + 1 ≡ first + count → ((day : ℕ) → first ≤ day → day ≤ last → day_rows p some today day ≡ day_rows p all today day) →
     (agenda : AgendaView) → agenda ≡ record { profile = p; sources = some; today = today; first = first; count = count } → lines_of agenda ≡ days_shown p scopes today first count
 same_lines p scopes some all today first count last are end same agenda is =
     (λ i. lines_of (is i))

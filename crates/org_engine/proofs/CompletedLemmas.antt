@@ -5,13 +5,13 @@ use Rattle.org_base.specs.Counts.{Counts}
 use Rattle.org_base.specs.declared.fault.Fault.{Fault}
 use Rattle.org_class.specs.Changes.{new_sections}
 use Rattle.org_class.specs.Ticks.{classified}
-use Rattle.org_file.specs.Completion.{completion_part}
-use Rattle.org_file.specs.Parts.{Part}
-use Rattle.org_file.specs.Reading.{with_one_read}
-use Rattle.org_file.specs.Written.{part_of}
-use Rattle.org_file.specs.declared.revision.Revision.{Revision}
-use Rattle.org_kept.specs.File.{FileView as KeptFile, IsChanged, marked}
-use Rattle.org_kept.specs.declared.change.Change.{Change}
+use Rattle.org_complete.specs.Completion.{completion_part}
+use Rattle.org_complete.specs.Parts.{Part}
+use Rattle.org_complete.specs.Reading.{with_one_read}
+use Rattle.org_complete.specs.Written.{part_of}
+use Rattle.org_complete.specs.declared.revision.Revision.{Revision}
+use Rattle.org_store.specs.File.{FileView as KeptFile, IsChanged, marked}
+use Rattle.org_store.specs.declared.change.Change.{Change}
 use Rattle.org_engine.specs.Calls.{IsCompletionIn}
 use Rattle.org_engine.specs.Marks.{Completes, CompletesMarks, CompletesNone, IsQuiet, KeepsOthers, PutsMarks, PutsNoMarks, ReadsAtMostOne, ReadsOne, completed_count, kept_named, marks_named, new_count, part_count, with_marks, with_section_read}
 use Rattle.org_engine.specs.Step.{file_named}

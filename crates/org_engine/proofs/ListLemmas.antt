@@ -20,7 +20,7 @@ use Rattle.org_base.specs.declared.code.Code.TheVariants as code
 use Rattle.org_base.specs.declared.fault.Fault.TheVariants.{Plain}
 use Rattle.org_expression.specs.Grammar.{Expr, Reads}
 use Rattle.org_engine.specs.Questions.{IsMissingFault, IsPlaceOver, IsReadAs, IsUnread, TellsOf}
-use Rattle.org_engine.specs.Step.{MatchList, Refused, Reply, Shown, TodoList, file_named, is_missing, over_file, place_named, view_of}
+use Rattle.org_engine.specs.Step.{MatchList, Refused, Reply, Shown, TodoList, file_named, is_missing, over_file, place_named, render_view}
 use Rattle.org_engine.specs.declared.question.View.TheVariants.{Match, Todo}
 use Rattle.org_engine.specs.Views.{list_view, scopes_named}
 use Rattle.org_engine.specs.World.{FileView, WorldView}
@@ -100,7 +100,7 @@ match_declined form file asked world over fault (there, place) why =
     (MatchList (option_copied file) (Err fault), (refl, why), there_is (option_copied file) world _ _ there refl)
 
 -- a file that isn't there is told, whatever the text is read as
-gone_either : (form : Form) (file : Option (List ℕ)) (world : WorldView) (read : Result Expr Fault) (fault : Fault) → IsMissingFault file world fault → view_of form (MatchList file read) world ≡ Refused fault
+gone_either : (form : Form) (file : Option (List ℕ)) (world : WorldView) (read : Result Expr Fault) (fault : Fault) → IsMissingFault file world fault → render_view form (MatchList file read) world ≡ Refused fault
 gone_either form file world (Ok expr) fault why = is_gone file world _ fault why
 gone_either form file world (Err f) fault why = is_gone file world _ fault why
 

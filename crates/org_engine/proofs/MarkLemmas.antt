@@ -7,16 +7,16 @@ use Rattle.std.proofs.lemmas.List.{take_all}
 use Rattle.indexmap.specs.IndexMap.{set_value_at}
 use Rattle.org_base.specs.Counts.{Counts, ticked}
 use Rattle.org_base.specs.declared.meter.Tick.TheVariants.{Read}
-use Rattle.org_kept.specs.Counts.{have_read}
+use Rattle.org_store.specs.Counts.{have_read}
 use Rattle.org_base.specs.Results.{Gives, IfRefused}
 use Rattle.org_base.specs.declared.fault.Fault.{Fault}
-use Rattle.org_file.specs.Completion.{completion_part}
-use Rattle.org_file.specs.Reading.{HasReadOne, with_one_read}
-use Rattle.org_file.specs.Written.{IsRevision, part_of}
-use Rattle.org_file.specs.declared.revision.Revision.{Revision}
+use Rattle.org_complete.specs.Completion.{completion_part}
+use Rattle.org_complete.specs.Reading.{HasReadOne, with_one_read}
+use Rattle.org_complete.specs.Written.{IsRevision, part_of}
+use Rattle.org_complete.specs.declared.revision.Revision.{Revision}
 use Rattle.org_engine.specs.Calls.{IsCompletionIn}
 use Rattle.org_engine.specs.Step.{file_named}
-use Rattle.org_kept.specs.File.{FileView as KeptFile, all_marked, first_unread, marked, unread, with_first_read}
+use Rattle.org_store.specs.File.{FileView as KeptFile, all_marked, first_unread, marked, unread, with_first_read}
 use Rattle.org_engine.specs.Files.{file_of, files_of, marks_of}
 use Rattle.org_index.specs.Ticks.{examined}
 use Rattle.org_engine.specs.Marks.{ExaminesSome, IsFirstPending, KeepsMarks, NoStamps, ReadsAll, ReadsSome, all_read, first_read, marks_at, next_read, pending_at, pending_in, read_at}
@@ -40,7 +40,7 @@ all_first zero (m ∷ marks) le = absurd (omega (arith, le))
 all_first (suc n) [] le = refl
 all_first (suc n) (m ∷ marks) le = ap (λ ms. all_marked m ∷ ms) (all_first n marks (omega (arith, le)))
 
--- those behind them are as before
+-- those after them are as before
 pub left_at : (n : ℕ) (marks : List (List Bool)) → marks_at n (first_read n marks) ≡ marks_at n marks
 left_at zero marks = refl
 left_at (suc n) [] = refl
@@ -108,7 +108,7 @@ all_some may stamps old new before after allowed read =
       counts = read.1;
     }
 
--- stamps that are examined behind what was read
+-- stamps that are examined after what was read
 pub read_examined : (stamps : ℕ) (old new : KeptWorld) (before mid after : Counts) → ReadsAll 0 old new before mid → after ≡ examined stamps mid → ReadsAll stamps old new before after
 read_examined stamps old new before mid after read more = (read.0, more ∙ ap (examined stamps) read.1)
 

@@ -6,11 +6,11 @@ use Rattle.org_base.specs.declared.code.Code.TheVariants as code
 use Rattle.org_base.specs.declared.fault.Fault.{Fault}
 use Rattle.org_base.specs.declared.fault.Fault.TheVariants as fault
 use Rattle.org_base.specs.declared.profile.Profile.{Profile}
-use Rattle.org_file.specs.Completion.{completed}
+use Rattle.org_complete.specs.Completion.{completed}
 use Rattle.org_engine.specs.Laws.{AllIn, IsIn, WorksOnGiven, after_all, file_given, files_given}
 use Rattle.org_clocktable.specs.declared.row.Of.{Of}
 use Rattle.org_clocktable.specs.declared.row.Of.TheVariants as of
-use Rattle.org_kept.proofs.HeadingLemmas.{headings_are_there}
+use Rattle.org_store.proofs.HeadingLemmas.{headings_are_there}
 use Rattle.org_layout.specs.declared.shown.Line.{Line}
 use Rattle.org_layout.specs.declared.shown.Line.TheVariants as line
 use Rattle.org_engine.specs.PlaceLaws.{LeadsBack, LeadsTo, LeadsToOf, PlacesLeadBack, VersionsLeadBack, files_for, named_by}

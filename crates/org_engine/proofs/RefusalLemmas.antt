@@ -8,7 +8,7 @@ use Rattle.org_base.specs.FileName.{is_file_name}
 use Rattle.org_base.specs.declared.code.Code.TheVariants as code
 use Rattle.org_base.specs.declared.fault.Fault.{Fault}
 use Rattle.org_base.specs.declared.fault.Fault.TheVariants.{Plain, Stale}
-use Rattle.org_file.specs.Completion.{completed}
+use Rattle.org_complete.specs.Completion.{completed}
 use Rattle.org_text.specs.Replace.{is_boundary, max_bytes, replace}
 use Rattle.org_engine.specs.Refusals.{RefusalsComeInOrder, complete_reasons, edit_reasons, first_of, spent, text_reasons, unmade}
 use Rattle.org_engine.specs.Step.{Refused, Reply, Serial, changes, completed_at, edited, file_named, is_session, last_serial, most_files, put, text_at, unless_refused, with_file, with_text, without}

@@ -13,7 +13,7 @@ use Rattle.org_base.specs.declared.fault.Fault.TheVariants as fault
 use Rattle.org_base.specs.declared.profile.Profile.{Profile}
 use Rattle.org_clocktable.specs.Request.{TableRequest}
 use Rattle.org_expression.specs.Grammar.{Expr}
-use Rattle.org_kept.specs.Outline.{scope_of}
+use Rattle.org_store.specs.Outline.{scope_of}
 use Rattle.org_inherit.specs.Scope.{Scope}
 use Rattle.org_engine.specs.Places.{files_named, table_in, table_places}
 use Rattle.org_engine.specs.declared.question.Form.TheVariants.{Places, Text}

@@ -9,7 +9,7 @@ use Rattle.org_base.specs.declared.limits.TheConstants.{MOST_FILES}
 use Rattle.org_agenda.proofs.SoundLemmas.{AreReadOf, read_sound}
 use Rattle.org_class.specs.Sections.{sections}
 use Rattle.org_near.specs.Stamps.{IsOf}
-use Rattle.org_kept.specs.Outline.{OutlineView, file_settings, outline_of, scope_of}
+use Rattle.org_store.specs.Outline.{OutlineView, file_settings, outline_of, scope_of}
 use Rattle.org_inherit.specs.Scope.{Scope}
 use Rattle.org_sum.specs.Texts.{AreOfText}
 use Rattle.org_text.specs.Replace.{max_bytes}
@@ -45,7 +45,7 @@ pub named_all : (wanted : Option (List ℕ)) (f : FileView → Scope) (files : L
 named_all wanted f files i inherits all le so_far =
     sym (append-nil inherits) ∙ ap (λ fs. inherits ++ scopes_named wanted (map f fs)) (sym (drop_all i files le)) ∙ so_far
 
--- a file that a view isn't over is left out, and one that it is over stands behind the others
+-- a file that a view isn't over is left out, and one that it is over stands after the others
 pub unwanted : (wanted : Option (List ℕ)) (scope : Scope) (old : List Scope) → is_wanted wanted scope.file ≡ false → old ≡ old ++ wanted_scope wanted scope
 unwanted wanted scope old isnt = sym (append-nil old) ∙ ap (λ b. old ++ cond b (scope ∷ []) []) (sym isnt)
 

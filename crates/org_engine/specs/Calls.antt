@@ -10,13 +10,13 @@ use Rattle.org_base.specs.declared.fault.Fault.TheVariants as fault
 use Rattle.org_engine.specs.Step.{AddFile, Answers, Command, Refused, Reply, Serial, Shown, changes, file_named, most_files, put}
 use Rattle.org_engine.specs.declared.changes.Completion.{Completion}
 use Rattle.org_engine.specs.World.{EngineView, FileView, KeptWorld, State}
-use Rattle.org_file.specs.Completion.{completed, completion_part}
-use Rattle.org_file.specs.Parts.{Part}
-use Rattle.org_file.specs.Written.{IsRevision, Revises, part_of}
-use Rattle.org_file.specs.declared.revision.Revision.{Revision}
-use Rattle.org_kept.specs.Change.{LiesIn, edited}
-use Rattle.org_kept.specs.File.{FileView as KeptFile}
-use Rattle.org_kept.specs.declared.change.Change.{Change}
+use Rattle.org_complete.specs.Completion.{completed, completion_part}
+use Rattle.org_complete.specs.Parts.{Part}
+use Rattle.org_complete.specs.Written.{IsRevision, Revises, part_of}
+use Rattle.org_complete.specs.declared.revision.Revision.{Revision}
+use Rattle.org_store.specs.Change.{LiesIn, edited}
+use Rattle.org_store.specs.File.{FileView as KeptFile}
+use Rattle.org_store.specs.declared.change.Change.{Change}
 
 -- what a text says that is lent, if one is
 abbrev pub text_in : {T : Type 0} → (T → List ℕ) → Option (Bor T) → Option (List ℕ)
@@ -59,8 +59,8 @@ abbrev pub Tells : Command → EngineView → Result ℕ Fault → EngineView �
 Tells command old result new = IfOk result (λ serial. Answers command old.state (Serial serial) new.state)
 
 -- the same of a text that is given
-abbrev pub Shows : {Y : Type 0} → Command → EngineView → Result (String Y) Fault → EngineView → Type 0
-Shows command old result new = IfOk result (λ text. Answers command old.state (Shown (string_bytes text)) new.state)
+abbrev pub Render : {Y : Type 0} → Command → EngineView → Result (String Y) Fault → EngineView → Type 0
+Render command old result new = IfOk result (λ text. Answers command old.state (Shown (string_bytes text)) new.state)
 
 -- after a refusal the state is as before, and the fault is the step's
 abbrev pub RefusesSurely : {T : Type 0} → Command → EngineView → Result T Fault → EngineView → Type 0
@@ -110,6 +110,6 @@ name_fault name files =
     else (if nat_le most_files (length files) then Some (fault.Plain code.Files)
     else None))
 
--- that is answered surely: want of memory never stands in its place
+-- that is answered surely: out of memory never stands in its place
 abbrev pub RefusesSurelyBy : {T : Type 0} → Option Fault → Result T Fault → Type 0
 RefusesSurelyBy owed result = IfSome owed (λ fault. result ≡ Err fault)

@@ -1,7 +1,7 @@
 -- How many stamps views examine (profile).
 use Rattle.std.specs.Prelude.{◌≡◌, ℕ, ◌+◌, ◌-◌, List, Result, Ok, Err}
 use Rattle.org_agenda.specs.Bound.{near_count}
-use Rattle.org_agenda.specs.declared.standpoint.Standpoint.{Standpoint}
+use Rattle.org_agenda.specs.declared.as_of.AsOf.{AsOf}
 use Rattle.org_base.specs.Counts.{Counts}
 use Rattle.org_base.specs.declared.fault.Fault.{Fault}
 use Rattle.org_index.specs.Ticks.{examined}
@@ -19,7 +19,7 @@ unfoldable pub near_in_world : ℕ → ℕ → WorldView → ℕ
 near_in_world first count world = near_count world.profile first (first + count - 1) world.moment.day (scopes_of world)
 
 -- those that are near so many days from a first one on were examined, each once, and nothing else was counted
-abbrev pub ExaminesNear : Standpoint → List Scope → ℕ → ℕ → Counts → Counts → Type 0
+abbrev pub ExaminesNear : AsOf → List Scope → ℕ → ℕ → Counts → Counts → Type 0
 ExaminesNear seen scopes first count old new = new ≡ examined (near_count seen.profile first (first + count - 1) seen.today scopes) old
 
 -- an agenda examines those that are near its days, and no other question any

@@ -23,7 +23,7 @@ gap_between false true = codes " | "
 gap_between false false = codes " "
 gap_between true done = codes " "
 
--- what stands before a keyword, behind one of this kind or none
+-- what stands before a keyword, after one of this kind or none
 abbrev pub gap_before : Option Kind → Kind → List ℕ
 gap_before None next = bar_before next.is_done
 gap_before (Some last) next =
@@ -34,7 +34,7 @@ abbrev pub last_end : Option Kind → List ℕ
 last_end None = []
 last_end (Some last) = line_end last.is_done
 
--- the lines of keywords, behind one of this kind or none: a line for each sequence, its keywords in their order with a space
+-- the lines of keywords, after one of this kind or none: a line for each sequence, its keywords in their order with a space
 -- between, and a bar before the done ones
 abbrev pub keyword_lines : Option Kind → List Keyword → List ℕ
 keyword_lines last [] = last_end last

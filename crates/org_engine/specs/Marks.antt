@@ -8,15 +8,15 @@ use Rattle.org_class.specs.Changes.{new_sections}
 use Rattle.org_class.specs.Sections.{sections}
 use Rattle.org_class.specs.Ticks.{classified}
 use Rattle.org_cal.specs.declared.moment.Moment.{Moment}
-use Rattle.org_file.specs.Completion.{completion_part}
-use Rattle.org_file.specs.Parts.{Part}
-use Rattle.org_file.specs.Reading.{HasReadOne}
+use Rattle.org_complete.specs.Completion.{completion_part}
+use Rattle.org_complete.specs.Parts.{Part}
+use Rattle.org_complete.specs.Reading.{HasReadOne}
 use Rattle.org_index.specs.Ticks.{examined}
-use Rattle.org_kept.specs.Change.{IsChangedBy}
-use Rattle.org_kept.specs.Counts.{have_read}
-use Rattle.org_kept.specs.File.{FileView as KeptFile, IsChanged, all_marked, first_unread, marked, unread}
-use Rattle.org_kept.specs.Outline.{OutlineView, outline_of}
-use Rattle.org_kept.specs.declared.change.Change.{Change}
+use Rattle.org_store.specs.Change.{IsChangedBy}
+use Rattle.org_store.specs.Counts.{have_read}
+use Rattle.org_store.specs.File.{FileView as KeptFile, IsChanged, all_marked, first_unread, marked, unread}
+use Rattle.org_store.specs.Outline.{OutlineView, outline_of}
+use Rattle.org_store.specs.declared.change.Change.{Change}
 use Rattle.org_engine.specs.Step.{file_named, with_file, with_text, without, world_for}
 use Rattle.org_engine.specs.World.{EngineView, FileView, KeptWorld, Marks, PinView}
 
@@ -251,7 +251,7 @@ pub record AddsMarks (text : List ℕ) (old new : EngineView) : Type 0 where
   pub marks : new.marks ≡ record old.marks { world = old.marks.world ++ replicate (length (sections text)) false ∷ [] }
   pub counts : new.counts ≡ classified (added_count text) old.counts
 
--- it was refused for want of memory
+-- it was refused where memory is
 abbrev pub AddsNoMarks : List ℕ → EngineView → EngineView → Type 0
 AddsNoMarks text old new = KeepsMarks (added_count text) old new
 
@@ -270,7 +270,7 @@ pub record EditsMarks (name : List ℕ) (at del : ℕ) (ins : List ℕ) (old new
   pub marks : new.marks ≡ record old.marks { world = with_marks name after.marks old.state.world.files old.marks.world }
   pub counts : new.counts ≡ classified (new_count at del ins (file_named name old.state.world.files)) old.counts
 
--- it was refused for want of memory
+-- it was refused where memory is
 abbrev pub EditsNoMarks : List ℕ → ℕ → ℕ → List ℕ → EngineView → EngineView → Type 0
 EditsNoMarks name at del ins old new = KeepsMarks (new_count at del ins (file_named name old.state.world.files)) old new
 
@@ -350,7 +350,7 @@ pub record KeepsOthers (name : List ℕ) (old new : EngineView) : Type 0 where
   pub within : IfSome place (λ p. p < length (marks_named name old.state.world.files old.marks.world))
   pub marks : new.marks ≡ record old.marks { world = with_section_read name place old.state.world.files old.marks.world }
 
--- a completion was refused: at most one section was read, and only for want of memory sections were classified
+-- a completion was refused: at most one section was read, and only where memory is refused sections were classified
 abbrev pub CompletesNone : List ℕ → ℕ → List ℕ → EngineView → EngineView → Type 0
 CompletesNone name line keyword old new = KeepsOthers name old new × Completes name line keyword old new
 

@@ -8,18 +8,18 @@ use Rattle.org_base.specs.declared.fault.Fault.TheVariants as fault
 use Rattle.org_clocktable.specs.declared.row.Of.{Of}
 use Rattle.org_clocktable.specs.declared.row.Of.TheVariants as of
 use Rattle.org_entry.specs.Entry.{heading_line}
-use Rattle.org_file.specs.Completion.{completed}
+use Rattle.org_complete.specs.Completion.{completed}
 use Rattle.org_inherit.specs.Scope.{Scope}
-use Rattle.org_kept.specs.Begun.{entry_there}
-use Rattle.org_kept.specs.Places.{HasLine, place_at}
-use Rattle.org_kept.specs.declared.place.Place.{Place}
+use Rattle.org_store.specs.Begun.{entry_there}
+use Rattle.org_store.specs.Places.{HasLine, place_at}
+use Rattle.org_store.specs.declared.place.Place.{Place}
 use Rattle.org_layout.specs.Shown.{line_text}
 use Rattle.org_layout.specs.declared.shown.Line.{Line}
 use Rattle.org_layout.specs.declared.shown.Line.TheVariants as line
 use Rattle.org_engine.specs.Laws.{IsIn, after_all}
 use Rattle.org_engine.specs.Outlines.{scopes_of}
 use Rattle.org_engine.specs.Places.{days_shown, files_named, line_places, list_shown, table_shown}
-use Rattle.org_engine.specs.Step.{ClockTable, Command, Complete, DayAgenda, EditFile, MatchList, Question, Refused, Serial, Shown, TodoList, Unread, edited, file_named, is_session, place_in, step, view_of, world_for}
+use Rattle.org_engine.specs.Step.{ClockTable, Command, Complete, DayAgenda, EditFile, MatchList, Question, Refused, Serial, Shown, TodoList, Unread, edited, file_named, is_session, place_in, step, render_view, world_for}
 use Rattle.org_engine.specs.Views.{scopes_named}
 use Rattle.org_engine.specs.World.{FileView, State, WorldView}
 use Rattle.org_engine.specs.declared.question.Form.TheVariants.{Places, Text}
@@ -59,10 +59,10 @@ lines_for (Unread fault) world = []
 
 -- text and places are two renderings of one list of lines, and are refused alike
 pub record AreOfOneList (question : Question) (world : WorldView) : Type 0 where
-  pub text : (shown : List ℕ) → view_of Text question world ≡ Shown shown → shown ≡ flat_map (line_text (has_efforts question) (scopes_for question world)) (lines_for question world)
-  pub places : (shown : List ℕ) → view_of Places question world ≡ Shown shown → shown ≡ line_places (files_for question world) (lines_for question world)
-  pub answered : (shown : List ℕ) → view_of Text question world ≡ Shown shown → (places : List ℕ) × (view_of Places question world ≡ Shown places)
-  pub refused : (fault : Fault) → view_of Text question world ≡ Refused fault → view_of Places question world ≡ Refused fault
+  pub text : (shown : List ℕ) → render_view Text question world ≡ Shown shown → shown ≡ flat_map (line_text (has_efforts question) (scopes_for question world)) (lines_for question world)
+  pub places : (shown : List ℕ) → render_view Places question world ≡ Shown shown → shown ≡ line_places (files_for question world) (lines_for question world)
+  pub answered : (shown : List ℕ) → render_view Text question world ≡ Shown shown → (places : List ℕ) × (render_view Places question world ≡ Shown places)
+  pub refused : (fault : Fault) → render_view Text question world ≡ Refused fault → render_view Places question world ≡ Refused fault
 
 abbrev pub TextAndPlacesAreOfOneList : Type 0
 TextAndPlacesAreOfOneList = (question : Question) (world : WorldView) → AreOfOneList question world

@@ -5,7 +5,7 @@ use Rattle.org_base.specs.FileName.{is_file_name}
 use Rattle.org_base.specs.declared.code.Code.TheVariants as code
 use Rattle.org_base.specs.declared.fault.Fault.{Fault}
 use Rattle.org_base.specs.declared.fault.Fault.TheVariants.{Plain, Stale}
-use Rattle.org_file.specs.Completion.{completed}
+use Rattle.org_complete.specs.Completion.{completed}
 use Rattle.org_text.specs.Replace.{is_boundary}
 use Rattle.org_engine.specs.Step.{Command, AddFile, DropFile, EditFile, Complete, Refused, file_named, step}
 use Rattle.org_engine.specs.World.{FileView, State}

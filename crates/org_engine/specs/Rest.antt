@@ -69,7 +69,7 @@ pub record KeepsOrder (s : State) : Type 0 where
 abbrev pub CommandsLeaveTheRest : Type 0
 CommandsLeaveTheRest = (s : State) → LeavesTheRest s × KeepsOrder s
 
--- right behind a pin, its session is answered as the current world is
+-- right after a pin, its session is answered as the current world is
 abbrev pub PinsKeepTheWorld : Type 0
 PinsKeepTheWorld = (session serial : ℕ) (question : Question) (form : Form) (s : State) → (step (PinWorld session) s).reply ≡ Serial serial →
     (step (Ask question form (Some session)) (step (PinWorld session) s).after).reply ≡ (step (Ask question form None) s).reply

@@ -14,22 +14,22 @@ ghost use Rattle.org_engine.specs.Places.{IsDays, agenda_in, days_shown};
 ghost use Rattle.org_engine.specs.Views.{days_over};
 
 use crate::question::Form;
-use crate::shows::{Shows, view_of};
+use crate::shows::{Render, render_view};
 use crate::world::World;
-use org_agenda::{Agenda, Stamps, Standpoint};
+use org_agenda::{Agenda, AsOf, Stamps};
 use org_base::{Code, Fault, MOST_DAYS, Meter, Profile};
 use org_cal::{Day, LAST_DAY};
 use org_inherit::Inherits;
-use org_kept::FileOutline;
 use org_layout::{Line, agenda_lines, agenda_text};
 use org_near::DatedStamps;
+use org_store::ParsedFile;
 use org_text::Text;
 use std::alloc::Global;
 
 // The text of the agenda of so many days from a date on. `Date` exactly where the calendar has no such day, `Days`
 // exactly where it has and the days are none, more than [`MOST_DAYS`], or end past 9999-12-31, both before anything is
-// looked at; else want of memory is the only refusal. Sections are read as for a list, and the stamps that are near the days
-// are examined, each once as the meter counts.
+// looked at; else Sections are read as for a list, and the stamps that are near the days are examined, each once as the
+// meter counts.
 pub(crate) fn dated_text<T: Text>(
     alloc: Global,
     meter: &mut Meter,
@@ -41,8 +41,8 @@ pub(crate) fn dated_text<T: Text>(
     ensures value { IfOk result (λ text. IsAgendaText form date.now days world.old.world (string_bytes text)) }
     ensures refused { IfRefused result (λ fault. asked_agenda date.now days ≡ Unread fault) }
     ensures read { OnOk result (ReadsAll (examined_for (asked_agenda date.now days) world.old.world) world.old world.new meter.old meter.new) }
-    ensures few { OnErr result (ReadsSome AnyStamps world.old world.new meter.old meter.new) }
-    ensures quiet { IfRefused result (λ _. ReadsNone world.old world.new meter.old meter.new) }
+    ensures partial { OnErr result (ReadsSome AnyStamps world.old world.new meter.old meter.new) }
+    ensures uncounted { IfRefused result (λ _. ReadsNone world.old world.new meter.old meter.new) }
 {
     let (first, count) = read_days(date, days)?;
     days_text(alloc, meter, world, first, count, form)
@@ -54,7 +54,7 @@ fn read_days(date: &str, days: u64) -> Result<(Day, u32), Fault>
     ensures within { IfOk result (λ asked. (1 ≤ asked.1) × (asked.0 + asked.1 ≤ LAST_DAY + 1)) }
     ensures refused { IfErr result (λ fault. asked_agenda date.now days ≡ Unread fault) }
 {
-    let Some(first) = Day::spelled(date.as_bytes()) else {
+    let Some(first) = Day::of_text(date.as_bytes()) else {
         return Err(Fault::Plain(Code::Date));
     };
     if days < 1 || days > MOST_DAYS as u64 {
@@ -70,20 +70,20 @@ fn read_days(date: &str, days: u64) -> Result<(Day, u32), Fault>
 // So many days from a first one on, and how stamps are looked at.
 #[derive(Drop)]
 struct Days {
-    standpoint: Standpoint,
+    as_of: AsOf,
     first: Day,
     count: u32,
     ghost within: { (1 ≤ count) × (first + count ≤ LAST_DAY + 1) },
 }
 
-impl Shows for Days {
+impl Render for Days {
     ghost named = { λ d. None };
 
-    ghost shown = { λ d scopes. days_over d.standpoint.profile scopes d.standpoint.today d.first d.count };
+    ghost shown = { λ d scopes. days_over d.as_of.profile scopes d.as_of.today d.first d.count };
 
-    ghost lines = { λ d scopes. days_shown d.standpoint.profile scopes d.standpoint.today d.first d.count };
+    ghost lines = { λ d scopes. days_shown d.as_of.profile scopes d.as_of.today d.first d.count };
 
-    ghost examines = { λ d scopes. near_count d.standpoint.profile d.first (d.first + d.count - 1) d.standpoint.today scopes };
+    ghost examines = { λ d scopes. near_count d.as_of.profile d.first (d.first + d.count - 1) d.as_of.today scopes };
 
     ghost may = { λ d. AnyStamps };
 
@@ -92,7 +92,7 @@ impl Shows for Days {
     }
 
     fn profile(&self) -> Option<Profile> {
-        Some(self.standpoint.profile)
+        Some(self.as_of.profile)
     }
 
     fn text(
@@ -100,7 +100,7 @@ impl Shows for Days {
         alloc: Global,
         meter: &mut Meter,
         inherits: &Inherits<'_>,
-        files: &[FileOutline],
+        files: &[ParsedFile],
     ) -> Result<String, Fault> {
         let agenda = agenda_of(alloc, meter, inherits, files, self)?;
         let mut text = String::new(alloc);
@@ -113,7 +113,7 @@ impl Shows for Days {
         alloc: Global,
         meter: &mut Meter,
         inherits: &Inherits<'_>,
-        files: &[FileOutline],
+        files: &[ParsedFile],
     ) -> Result<Vec<Line>, Fault> {
         let agenda = agenda_of(alloc, meter, inherits, files, self)?;
         agenda_lines(alloc, &agenda)
@@ -131,19 +131,19 @@ fn days_text<T: Text>(
     requires within { (1 ≤ count) × (first + count ≤ LAST_DAY + 1) }
     ensures value { GivesText result (agenda_in form first count world.old.world) }
     ensures read { OnOk result (ReadsAll (near_in_world first count world.old.world) world.old world.new meter.old meter.new) }
-    ensures few { OnErr result (ReadsSome AnyStamps world.old world.new meter.old meter.new) }
+    ensures partial { OnErr result (ReadsSome AnyStamps world.old world.new meter.old meter.new) }
     ensures memory { IsOkUnless result memory_fault }
 {
-    let standpoint = Standpoint {
+    let as_of = AsOf {
         profile: world.profile(),
         today: world.moment().day,
     };
     let view = Days {
-        standpoint,
+        as_of,
         first,
         count,
     };
-    view_of(alloc, meter, world, &view, form)
+    render_view(alloc, meter, world, &view, form)
 }
 
 // The agenda of these days over the stamps that are near them, each of which is examined once, as the meter counts. Want of
@@ -152,20 +152,20 @@ fn agenda_of(
     alloc: Global,
     meter: &mut Meter,
     inherits: &Inherits<'_>,
-    files: &[FileOutline],
+    files: &[ParsedFile],
     days: &Days,
 ) -> Result<Agenda, Fault>
     requires dated { AreDated files.now inherits.now }
-    ensures value { IfOk result (IsDays days.now.standpoint inherits.now days.now.first days.now.count) }
-    ensures counts { OnOk result (ExaminesNear days.now.standpoint inherits.now days.now.first days.now.count meter.old meter.new) }
-    ensures few { OnErr result (Examines meter.old meter.new) }
+    ensures value { IfOk result (IsDays days.now.as_of inherits.now days.now.first days.now.count) }
+    ensures counts { OnOk result (ExaminesNear days.now.as_of inherits.now days.now.first days.now.count meter.old meter.new) }
+    ensures partial { OnErr result (Examines meter.old meter.new) }
     ensures memory { IsOkUnless result memory_fault }
 {
     let (first, count) = (days.first, days.count);
     let stamps = DatedStamps { inherits, files };
     let last = last_of(first, count);
-    let near = stamps.near(alloc, meter, &days.standpoint, first, last)?;
-    Agenda::new(alloc, near, &days.standpoint, first, count)
+    let near = stamps.near(alloc, meter, &days.as_of, first, last)?;
+    Agenda::new(alloc, near, &days.as_of, first, count)
 }
 
 fn last_of(first: Day, count: u32) -> Day

@@ -9,10 +9,10 @@ ghost use Rattle.org_engine.specs.Step.{last_serial, AddFile, Answers, Complete,
 
 use crate::engine::Engine;
 use crate::limits::LAST_SERIAL;
-use crate::seen::{edited, text_seen};
+use crate::seen::{edit_text, text_seen};
 use org_base::{Bytes, Code, Fault, MOST_FILES, is_file_name};
-use org_file::Revision;
-use org_kept::Change;
+use org_complete::Revision;
+use org_store::Change;
 use org_text::Text;
 
 /// What an accepted completion did: the serial of the file's new text, and the change of the former one that it is. The `del`
@@ -38,15 +38,15 @@ impl<T: Text> Engine<T> {
     }
 
     /// Adds a file and answers its serial; the file has a copy of the bytes. Refusals in order: `Command` for a bad name,
-    /// `Taken`, `Files`, `Utf8`, `Size`, `Spent`; want of memory may come at any time. After a refusal the engine is as
+    /// `Taken`, `Files`, `Utf8`, `Size`, `Spent`; out of memory may come at any time. After a refusal the engine is as
     /// before.
     pub fn add(&mut self, name: &str, text: &[u8]) -> Result<u64, Fault>
         ensures ok { Tells (AddFile name.now text.now) self.old result self.new }
         ensures err { Refuses (AddFile name.now text.now) self.old result self.new }
-        ensures sure { RefusesSurelyBy (name_fault name.now self.old.state.world.files) result }
+        ensures definite { RefusesSurelyBy (name_fault name.now self.old.state.world.files) result }
         ensures marks { OnOk result (AddsMarks text.now self.old self.new) }
-        ensures few { OnErr result (AddsNoMarks text.now self.old self.new) }
-        ensures quiet { IfRefused result (λ _. IsQuiet self.old self.new) }
+        ensures partial { OnErr result (AddsNoMarks text.now self.old self.new) }
+        ensures uncounted { IfRefused result (λ _. IsQuiet self.old self.new) }
     {
         self.admit(name)?;
         let Ok(text) = str::from_utf8(text) else {
@@ -61,10 +61,10 @@ impl<T: Text> Engine<T> {
     pub fn add_bytes(&mut self, name: &str, text: Bytes) -> Result<u64, Fault>
         ensures ok { Tells (AddFile name.now text) self.old result self.new }
         ensures err { Refuses (AddFile name.now text) self.old result self.new }
-        ensures sure { RefusesSurelyBy (name_fault name.now self.old.state.world.files) result }
+        ensures definite { RefusesSurelyBy (name_fault name.now self.old.state.world.files) result }
         ensures marks { OnOk result (AddsMarks text self.old self.new) }
-        ensures few { OnErr result (AddsNoMarks text self.old self.new) }
-        ensures quiet { IfRefused result (λ _. IsQuiet self.old self.new) }
+        ensures partial { OnErr result (AddsNoMarks text self.old self.new) }
+        ensures uncounted { IfRefused result (λ _. IsQuiet self.old self.new) }
     {
         self.admit(name)?;
         let Some(text) = string_of(text) else {
@@ -99,8 +99,8 @@ impl<T: Text> Engine<T> {
         ensures ok { Tells (AddFile name.now (T.content text)) self.old result self.new }
         ensures err { Refuses (AddFile name.now (T.content text)) self.old result self.new }
         ensures marks { OnOk result (AddsMarks (T.content text) self.old self.new) }
-        ensures few { OnErr result (AddsNoMarks (T.content text) self.old self.new) }
-        ensures quiet { IfRefused result (λ _. IsQuiet self.old self.new) }
+        ensures partial { OnErr result (AddsNoMarks (T.content text) self.old self.new) }
+        ensures uncounted { IfRefused result (λ _. IsQuiet self.old self.new) }
     {
         // For the proof alone: its contract says that the text is UTF-8 and not too long.
         let _len = text.len();
@@ -120,7 +120,7 @@ impl<T: Text> Engine<T> {
         ensures ok { Tells (DropFile name.now) self.old result self.new }
         ensures err { RefusesSurely (DropFile name.now) self.old result self.new }
         ensures marks { OnOk result (DropsMarks name.now self.old self.new) }
-        ensures quiet { OnErr result (IsQuiet self.old self.new) }
+        ensures uncounted { OnErr result (IsQuiet self.old self.new) }
     {
         if !self.world.contains(name) {
             return Err(Fault::Plain(Code::Unknown));
@@ -135,7 +135,7 @@ impl<T: Text> Engine<T> {
 
     /// Replaces `del` bytes at `at` in the text of the file of that name, which a session saw with this serial, and answers
     /// the file's new serial. Refusals in order: `Session`, `Unknown`, `Stale` with the file's serial, `Utf8` where the new
-    /// bytes are no text, `Range`, `Boundary`, `Size`, `Spent`; want of memory may come at any time. After a refusal the
+    /// bytes are no text, `Range`, `Boundary`, `Size`, `Spent`; out of memory may come at any time. After a refusal the
     /// engine is as before.
     pub fn edit(
         &mut self,
@@ -148,13 +148,13 @@ impl<T: Text> Engine<T> {
     ) -> Result<u64, Fault>
         ensures ok { Tells (EditFile session name.now serial at del ins.now) self.old result self.new }
         ensures err { Refuses (EditFile session name.now serial at del ins.now) self.old result self.new }
-        ensures sure { FailsSurely result (text_seen session name.now serial self.old.state.world.files) }
+        ensures definite { FailsSurely result (text_seen session name.now serial self.old.state.world.files) }
         ensures marks { OnOk result (EditsMarks name.now at del ins.now self.old self.new) }
-        ensures few { OnErr result (EditsNoMarks name.now at del ins.now self.old self.new) }
-        ensures quiet { IfRefused result (λ _. IsQuiet self.old self.new) }
+        ensures partial { OnErr result (EditsNoMarks name.now at del ins.now self.old self.new) }
+        ensures uncounted { IfRefused result (λ _. IsQuiet self.old self.new) }
     {
         let seen = text_seen(&self.world, session, name, serial)?;
-        let edited = edited(seen, at, del, ins)?;
+        let edited = edit_text(seen, at, del, ins)?;
         self.put(name, edited.text, edited.change)
     }
 
@@ -176,10 +176,10 @@ impl<T: Text> Engine<T> {
     ) -> Result<u64, Fault>
         ensures ok { Tells (Complete session name.now serial line keyword.now) self.old result self.new }
         ensures err { Refuses (Complete session name.now serial line keyword.now) self.old result self.new }
-        ensures sure { FailsSurely result (text_seen session name.now serial self.old.state.world.files) }
+        ensures definite { FailsSurely result (text_seen session name.now serial self.old.state.world.files) }
         ensures marks { OnOk result (CompletesMarks name.now line keyword.now self.old self.new) }
-        ensures few { OnErr result (CompletesNone name.now line keyword.now self.old self.new) }
-        ensures quiet { IfRefused result (λ _. ReadsAtMostOne name.now self.old self.new) }
+        ensures partial { OnErr result (CompletesNone name.now line keyword.now self.old self.new) }
+        ensures uncounted { IfRefused result (λ _. ReadsAtMostOne name.now self.old self.new) }
     {
         let done = self.complete_and_tell(session, name, serial, line, keyword)?;
         Ok(done.serial)
@@ -198,14 +198,14 @@ impl<T: Text> Engine<T> {
         ensures ok { IfOk result (λ done. Answers (Complete session name.now serial line keyword.now) self.old.state (Serial done.serial) self.new.state) }
         ensures part { IfOk result (Replaces name.now line keyword.now self.old.state) }
         ensures err { Refuses (Complete session name.now serial line keyword.now) self.old result self.new }
-        ensures sure { FailsSurely result (text_seen session name.now serial self.old.state.world.files) }
+        ensures definite { FailsSurely result (text_seen session name.now serial self.old.state.world.files) }
         ensures marks { OnOk result (CompletesMarks name.now line keyword.now self.old self.new) }
-        ensures few { OnErr result (CompletesNone name.now line keyword.now self.old self.new) }
-        ensures quiet { IfRefused result (λ _. ReadsAtMostOne name.now self.old self.new) }
+        ensures partial { OnErr result (CompletesNone name.now line keyword.now self.old self.new) }
+        ensures uncounted { IfRefused result (λ _. ReadsAtMostOne name.now self.old self.new) }
     {
         text_seen(&self.world, session, name, serial)?;
         let world = &mut self.world;
-        let Revision { text, at, del, ins } = world.completed(
+        let Revision { text, at, del, ins } = world.complete_heading(
             self.alloc,
             &mut self.meter,
             name,
@@ -230,8 +230,8 @@ impl<T: Text> Engine<T> {
         ensures err { OnErr result (self.new.state ≡ self.old.state) }
         ensures refused { IfRefused result (λ f. Puts name.now (T.content text) self.old (Refused f) self.new) }
         ensures marks { OnOk result (PutsMarks name.now change.entry self.old self.new) }
-        ensures few { OnErr result (PutsNoMarks name.now change.entry self.old self.new) }
-        ensures quiet { IfRefused result (λ _. IsQuiet self.old self.new) }
+        ensures partial { OnErr result (PutsNoMarks name.now change.entry self.old self.new) }
+        ensures uncounted { IfRefused result (λ _. IsQuiet self.old self.new) }
     {
         if self.is_spent() {
             return Err(Fault::Plain(Code::Spent));

@@ -32,7 +32,7 @@ pub(crate) fn keyword_lines(alloc: Global, settings: &Settings) -> Result<Vec<u8
     Ok(out)
 }
 
-// What stands before a keyword, behind one of this kind or none.
+// What stands before a keyword, after one of this kind or none.
 fn gap_before(last: Option<Kind>, next: Kind) -> &'static [u8]
     ensures value { result.now ≡ gap_before last next }
 {

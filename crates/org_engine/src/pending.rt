@@ -45,7 +45,7 @@ impl<T: Text> World<T> {
     }
 
     // Reads the first section that is still to be read, and says whether there was one; then the meter counts one as read.
-    // Want of memory is the only refusal, and leaves the world as before; then the section was counted too.
+    // Out of memory leaves the world as before; then the section was counted too.
     pub(crate) fn work(&mut self, alloc: Global, meter: &mut Meter) -> Result<bool, Fault>
         ensures value { Gives result (nat_lt 0 (pending_in self.old.marks)) }
         ensures some { IfOk result (λ b. b ≡ true → WorksOnce self.old self.new meter.old meter.new) }

@@ -4,7 +4,7 @@ ghost use Rattle.std.specs.List.{AllZip};
 ghost use Rattle.std.specs.Option.{option_copied};
 ghost use Rattle.org_base.specs.Codes.{memory_fault};
 ghost use Rattle.org_base.specs.Results.{Gives, GivesItems, GivesText};
-ghost use Rattle.org_dated.specs.Held.{scope_in};
+ghost use Rattle.org_stamp_index.specs.Held.{scope_in};
 ghost use Rattle.org_near.specs.Stamps.{IsOf};
 ghost use Rattle.org_index.specs.Ticks.{examined};
 ghost use Rattle.org_inherit.specs.Scope.{Scope};
@@ -20,13 +20,13 @@ use crate::question::Form;
 use crate::world::World;
 use org_base::{Fault, Meter, Profile, Texts};
 use org_inherit::{Inherit, Inherits};
-use org_kept::FileOutline;
 use org_layout::Line;
+use org_store::ParsedFile;
 use org_text::Text;
 use std::alloc::Global;
 
 // What a view shows, once it is known what the headings of its files inherit.
-pub(crate) trait Shows {
+pub(crate) trait Render {
     // The name of the one file that it is over; none where it is over all.
     ghost named: { Self → Option (List ℕ) };
 
@@ -50,19 +50,19 @@ pub(crate) trait Shows {
     fn profile(&self) -> Option<Profile>;
 
     // The text over these files; of a view over all of them it is given too what they say. The meter counts the stamps that are
-    // examined. Want of memory is the only refusal, and then some may have been counted.
+    // examined. Out of memory is the only refusal, and then some may have been counted.
     fn text(
         &self,
         alloc: Global,
         meter: &mut Meter,
         inherits: &Inherits<'_>,
-        files: &[FileOutline],
+        files: &[ParsedFile],
     ) -> Result<String, Fault>
         requires read { AreRead inherits.now }
         requires same { named self.now ≡ None → AllZip IsOf files.now inherits.now }
         ensures value { GivesText result (shown self.now inherits.now) }
         ensures counts { OnOk result (meter.new ≡ examined (examines self.now inherits.now) meter.old) }
-        ensures few { OnErr result (ExaminesSome (may self.now) meter.old meter.new) }
+        ensures partial { OnErr result (ExaminesSome (may self.now) meter.old meter.new) }
         ensures memory { IsOkUnless result memory_fault };
 
     // What the lines of that text stand for, over the same files. It counts and is refused as the text; some stamps may have
@@ -72,19 +72,19 @@ pub(crate) trait Shows {
         alloc: Global,
         meter: &mut Meter,
         inherits: &Inherits<'_>,
-        files: &[FileOutline],
+        files: &[ParsedFile],
     ) -> Result<Vec<Line>, Fault>
         requires read { AreRead inherits.now }
         requires same { named self.now ≡ None → AllZip IsOf files.now inherits.now }
         ensures value { GivesItems result (lines self.now inherits.now) }
         ensures counts { OnOk result (meter.new ≡ examined (examines self.now inherits.now) meter.old) }
-        ensures few { ExaminesSome (may self.now) meter.old meter.new }
+        ensures partial { ExaminesSome (may self.now) meter.old meter.new }
         ensures memory { IsOkUnless result memory_fault };
 }
 
 // What a view shows of a world. All sections that are still to be read are read first, each once as the meter counts; then
-// stamps are examined. Want of memory is the only refusal; then those of some files, from the first on, were read.
-pub(crate) fn view_of<T: Text, V: Shows>(
+// stamps are examined. Out of memory is the only refusal; then those of some files, from the first on, were read.
+pub(crate) fn render_view<T: Text, V: Render>(
     alloc: Global,
     meter: &mut Meter,
     world: &mut World<T>,
@@ -93,26 +93,26 @@ pub(crate) fn view_of<T: Text, V: Shows>(
 ) -> Result<String, Fault>
     ensures value { GivesText result (in_form form (V.named view.now) (V.shown view.now) (V.lines view.now) world.old.world) }
     ensures read { OnOk result (ReadsAll (V.examines view.now (scopes_over (V.named view.now) world.old.world)) world.old world.new meter.old meter.new) }
-    ensures few { OnErr result (ReadsSome (V.may view.now) world.old world.new meter.old meter.new) }
+    ensures partial { OnErr result (ReadsSome (V.may view.now) world.old world.new meter.old meter.new) }
     ensures memory { IsOkUnless result memory_fault }
 {
     let outlines = read_world(alloc, meter, world, view.profile())?;
-    view_over(alloc, meter, world, outlines.as_slice(), view, form)
+    render_over(alloc, meter, world, outlines.as_slice(), view, form)
 }
 
 // The same, where it is known what the files say.
-fn view_over<T: Text, V: Shows>(
+fn render_over<T: Text, V: Render>(
     alloc: Global,
     meter: &mut Meter,
     world: &World<T>,
-    outlines: &[FileOutline],
+    outlines: &[ParsedFile],
     view: &V,
     form: Form,
 ) -> Result<String, Fault>
     requires read { outlines.now ≡ outlines_of world.now.world }
     ensures value { GivesText result (in_form form (V.named view.now) (V.shown view.now) (V.lines view.now) world.now.world) }
     ensures counts { OnOk result (meter.new ≡ examined (V.examines view.now (scopes_over (V.named view.now) world.now.world)) meter.old) }
-    ensures few { OnErr result (ExaminesSome (V.may view.now) meter.old meter.new) }
+    ensures partial { OnErr result (ExaminesSome (V.may view.now) meter.old meter.new) }
     ensures memory { IsOkUnless result memory_fault }
 {
     let by_days = view.profile().is_some();
@@ -130,7 +130,7 @@ fn view_over<T: Text, V: Shows>(
 fn inherits_named<'a, T: Text>(
     alloc: Global,
     world: &'a World<T>,
-    outlines: &'a [FileOutline],
+    outlines: &'a [ParsedFile],
     file: Option<&[u8]>,
     by_ancestors: bool,
 ) -> Result<Inherits<'a>, Fault>
@@ -149,7 +149,7 @@ fn inherits_named<'a, T: Text>(
             alloc,
             &outlines[place],
             name,
-            world.inherited(),
+            world.inherited_names(),
             by_ancestors,
         )?;
         inherits.push(inherit)?;
@@ -160,7 +160,7 @@ fn inherits_named<'a, T: Text>(
 // What the headings of a file inherit, along their ancestors or by tables.
 fn inherit_of<'a>(
     alloc: Global,
-    outline: &'a FileOutline,
+    outline: &'a ParsedFile,
     name: &'a str,
     inherited: &'a Texts,
     by_ancestors: bool,

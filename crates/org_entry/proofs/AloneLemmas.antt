@@ -8,7 +8,7 @@ use Rattle.org_class.specs.declared.class.Class.{Class}
 use Rattle.org_class.specs.declared.class.Class.TheVariants.{Heading}
 use Rattle.org_entry.specs.Alone.{IsHeadingAlone}
 use Rattle.org_entry.specs.Details.{DetailsView, nothing}
-use Rattle.org_entry.specs.Draft.{ended, nothing_said, with_line}
+use Rattle.org_entry.specs.Draft.{into_entry, nothing_said, with_line}
 use Rattle.org_entry.specs.Entry.{active_at, entry_of, entry_of_lines, placed, title_stamps}
 use Rattle.org_entry.proofs.ClassLemmas.{length-classes}
 use Rattle.org_entry.proofs.DraftLemmas.{lines_end}
@@ -37,7 +37,7 @@ one_line text (l ∷ m ∷ ls) are one = absurd (omega arith)
 -- what a heading line says
 pub heading_says : (settings : FileSettings) (line text : List ℕ) (head : Head) (details : DetailsView) →
     text ≡ line → head ≡ head_of settings line → details ≡ record nothing { stamps = active_at head.title.at (bytes_in line head.title) } →
-    record { text = text; head = Some head; details = details } ≡ ended (with_line settings nothing_said (record { at = 0; class = Heading; bytes = line }))
+    record { text = text; head = Some head; details = details } ≡ into_entry (with_line settings nothing_said (record { at = 0; class = Heading; bytes = line }))
 heading_says settings line text head details said parts all =
     let title = (head_of settings line).title in
     let here : title.at ≡ 0 + title.at = omega arith in
@@ -46,7 +46,7 @@ heading_says settings line text head details said parts all =
 
 -- what such a section says
 pub alone_says : (settings : FileSettings) (text : List ℕ) (section : Span) (line : List ℕ) → IsHeadingAlone text section line →
-    ended (with_line settings nothing_said (record { at = 0; class = Heading; bytes = line })) ≡ entry_of settings (bytes_in text section)
+    into_entry (with_line settings nothing_said (record { at = 0; class = Heading; bytes = line })) ≡ entry_of settings (bytes_in text section)
 alone_says settings text section line is =
     let count : length (lines line) ≡ 1 = sym (length-classes (lines line)) ∙ ap length is.class in
     let one : lines line ≡ line ∷ [] = one_line line (lines line) refl count in

@@ -6,12 +6,12 @@ use Rattle.org_class.specs.Classes.{section_classes}
 use Rattle.org_settings.specs.Settings.{FileSettings}
 use Rattle.org_class.specs.declared.class.Class.{Class}
 use Rattle.org_class.specs.declared.class.Class.TheVariants.{Heading, Planning, DrawerOpen, Node, DrawerEnd, Clock, Setting, Comment, BlockOpen, Verbatim, BlockEnd, Plain}
-use Rattle.org_entry.specs.Draft.{EntrySoFar, nothing_said, with_line, with_lines, ended}
+use Rattle.org_entry.specs.Draft.{EntrySoFar, nothing_said, with_line, with_lines, into_entry}
 use Rattle.org_entry.specs.Entry.{PlacedLine, text_of, nodes_of, clocks_of, stamps_of, head_from, placed, entry_of_lines}
 use Rattle.org_entry.proofs.ClassLemmas.{length-classes}
 use Rattle.org_lines.specs.Cuts.{Cut, lines}
 
--- what lines say behind what was said
+-- what lines say after what was said
 abbrev said_then : FileSettings → EntrySoFar → List PlacedLine → EntrySoFar
 said_then settings so_far ls = record {
   text = so_far.text ++ flat_map (λ l. text_of l.class l.bytes) ls;
@@ -31,8 +31,8 @@ said_by_lines settings so_far (l ∷ ls) =
     said_by_lines settings (with_line settings so_far l) ls ∙ rw (text, nodes, stamps, clocks) refl
 
 -- the entry of all lines
-pub lines_end : (settings : FileSettings) (ls : List PlacedLine) → ended (with_lines settings nothing_said ls) ≡ entry_of_lines settings ls
-lines_end settings ls = ap ended (said_by_lines settings nothing_said ls)
+pub lines_end : (settings : FileSettings) (ls : List PlacedLine) → into_entry (with_lines settings nothing_said ls) ≡ entry_of_lines settings ls
+lines_end settings ls = ap into_entry (said_by_lines settings nothing_said ls)
 
 -- a line gives the text no more bytes than it has
 text_no_longer : (c : Class) (bytes : List ℕ) → length (text_of c bytes) ≤ length bytes
@@ -71,8 +71,8 @@ pub lines_left : (settings : FileSettings) (section : List ℕ) (cs : List Class
 lines_left settings section cs left are = ap (λ ls. with_lines settings nothing_said (placed 0 ls cs)) are
 
 -- where no line is left, what was said is the entry
-pub none_left : (settings : FileSettings) (so_far : EntrySoFar) (at : ℕ) (left : List Cut) (more : List Class) (all : List PlacedLine) → left ≡ [] → with_lines settings so_far (placed at (map (λ c. c.bytes) left) more) ≡ with_lines settings nothing_said all → ended so_far ≡ entry_of_lines settings all
+pub none_left : (settings : FileSettings) (so_far : EntrySoFar) (at : ℕ) (left : List Cut) (more : List Class) (all : List PlacedLine) → left ≡ [] → with_lines settings so_far (placed at (map (λ c. c.bytes) left) more) ≡ with_lines settings nothing_said all → into_entry so_far ≡ entry_of_lines settings all
 none_left settings so_far at left more all none known =
-    ap (λ x. ended (with_lines settings so_far (placed at (map (λ (c : Cut). c.bytes) x) more))) (sym none)
-    ∙ ap ended known
+    ap (λ x. into_entry (with_lines settings so_far (placed at (map (λ (c : Cut). c.bytes) x) more))) (sym none)
+    ∙ ap into_entry known
     ∙ lines_end settings all

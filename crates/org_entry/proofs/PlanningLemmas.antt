@@ -1,4 +1,4 @@
--- The planning line of a section stands behind the heading line in its entry's text.
+-- The planning line of a section stands after the heading line in its entry's text.
 use Rattle.std.proofs.Common.{◌≡◌, ℕ, ◌+◌, true, None, Option, List, [], ◌∷◌, ◌++◌, length, drop, refl, sym, ap, ◌∙◌, inl, inr, arith, append-nil}
 use Rattle.std.proofs.lemmas.Bool.{cases_Bool}
 use Rattle.std.proofs.Math.Seq.{drop-append_seam}
@@ -17,7 +17,7 @@ use Rattle.org_lines.specs.Cuts.{lines}
 use Rattle.org_settings.specs.Settings.{FileSettings}
 use Rattle.org_stamp.specs.Pair.{is_planning, pairs_from}
 
--- what stands behind the first line of a text says it
+-- what stands after the first line of a text says it
 abbrev planning_in : List ℕ → Option Planning
 planning_in text = let at = length (first text) in option_map (moved at) (planning_of (drop at text))
 
@@ -26,7 +26,7 @@ none_planned : (at : ℕ) → option_map (moved at) (planning_of []) ≡ None
 unfolding pairs_from
 none_planned at = refl
 
--- behind the first line stands what follows it
+-- after the first line stands what follows it
 behind_first : (t l : List ℕ) (ls : List (List ℕ)) (more : List ℕ) → lines t ≡ l ∷ ls → (ls ≡ [] → more ≡ []) → planning_in (l ++ more) ≡ option_map (moved (length l)) (planning_of more)
 behind_first t l ls more e last = rw (first_again t l ls more e last, drop-append_seam l more) refl
 

@@ -12,7 +12,7 @@ use Rattle.org_class.specs.declared.class.Class.{Class}
 use Rattle.org_class.specs.declared.class.Class.TheVariants as class
 use Rattle.org_class.proofs.HashLemmas.{or_none}
 use Rattle.org_head.proofs.Runs.{all-reverse, passes_front}
-use Rattle.org_entry.specs.Draft.{EntrySoFar, ended, is_quiet, nothing_said, with_line, with_lines}
+use Rattle.org_entry.specs.Draft.{EntrySoFar, into_entry, is_quiet, nothing_said, with_line, with_lines}
 use Rattle.org_entry.specs.Entry.{PlacedLine, active_at, entry_of_lines, if_active, placed}
 use Rattle.org_entry.proofs.DraftLemmas.{lines_end}
 use Rattle.org_lines.specs.Cuts.{Cut}
@@ -87,14 +87,14 @@ quiet_end cs =
 -- where no more than quiet lines are left, what was said is the entry
 pub quiet_left : (settings : FileSettings) (so_far : EntrySoFar) (at : ℕ) (left : List Cut) (cs : List Class) (place n : ℕ) (section : List ℕ) (all : List PlacedLine) →
     n ≡ suffix_len is_quiet cs → place ≡ length cs - n → list_any is_close (drop at section) ≡ false → concat (map (λ c. c.bytes) left) ≡ drop at section →
-    with_lines settings so_far (placed at (map (λ c. c.bytes) left) (drop place cs)) ≡ with_lines settings nothing_said all → ended so_far ≡ entry_of_lines settings all
+    with_lines settings so_far (placed at (map (λ c. c.bytes) left) (drop place cs)) ≡ with_lines settings nothing_said all → into_entry so_far ≡ entry_of_lines settings all
 quiet_left settings so_far at left cs place n section all count here none joined known =
     let quiet : list_all is_quiet (drop place cs) ≡ true = ap (λ k. list_all is_quiet (drop k cs)) (here ∙ ap (λ m. length cs - m) count) ∙ quiet_end cs in
-    ap ended (sym (quiet_lines_say_nothing settings so_far at (map (λ (c : Cut). c.bytes) left) (drop place cs) quiet (ap (list_any is_close) joined ∙ none)))
-    ∙ ap ended known
+    ap into_entry (sym (quiet_lines_say_nothing settings so_far at (map (λ (c : Cut). c.bytes) left) (drop place cs) quiet (ap (list_any is_close) joined ∙ none)))
+    ∙ ap into_entry known
     ∙ lines_end settings all
 
--- the bytes that are left behind one more line
+-- the bytes that are left after one more line
 pub bytes_left_more : (at : ℕ) (left rest : List Cut) (cut : Cut) (section : List ℕ) → left ≡ cut ∷ rest → concat (map (λ c. c.bytes) left) ≡ drop at section → concat (map (λ (c : Cut). c.bytes) rest) ≡ drop (at + length cut.bytes) section
 bytes_left_more at left rest cut section first joined =
     let n = length cut.bytes in
@@ -110,7 +110,7 @@ bytes_fewer at left rest cut line n first is known =
     let both = length-append cut.bytes (concat (map (λ (c : Cut). c.bytes) rest)) in
     omega (arith, sum, both, ap length is, known)
 
--- what the lines left say behind one more line
+-- what the lines left say after one more line
 pub line_more : (settings : FileSettings) (so_far new all : EntrySoFar) (at place : ℕ) (left rest : List Cut) (cs : List Class) (cut : Cut) (line : List ℕ) (d : Class) →
     left ≡ cut ∷ rest → line ≡ cut.bytes → place < length cs → new ≡ with_line settings so_far (record { at = at; class = get_or cs place d; bytes = line }) →
     with_lines settings so_far (placed at (map (λ c. c.bytes) left) (drop place cs)) ≡ all → with_lines settings new (placed (at + length line) (map (λ (c : Cut). c.bytes) rest) (drop (place + 1) cs)) ≡ all

@@ -23,7 +23,7 @@ is_planned Deadline = true
 abbrev pub stamp_at : Bool → Role → ℕ → Stamp → EntryStamp
 stamp_at opens role at stamp = record { at = at; role = role; stamp = stamp; is_open = opens }
 
--- a stamp before the first that stands behind it
+-- a stamp before the first that stands after it
 abbrev pub put : EntryStamp → List EntryStamp → List EntryStamp
 put s [] = s ∷ []
 put s (t ∷ ts) = if nat_lt s.at t.at then s ∷ t ∷ ts else t ∷ put s ts

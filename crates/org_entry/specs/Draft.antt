@@ -67,8 +67,8 @@ with_lines settings so_far [] = so_far
 with_lines settings so_far (l ∷ ls) = with_lines settings (with_line settings so_far l) ls
 
 -- the entry where no line is left
-abbrev pub ended : EntrySoFar → Entry
-ended so_far = record {
+abbrev pub into_entry : EntrySoFar → Entry
+into_entry so_far = record {
   text = so_far.text;
   head = so_far.head;
   details = record { drawer = drawer_of so_far.nodes; stamps = so_far.stamps; clocks = so_far.clocks };
@@ -76,7 +76,7 @@ ended so_far = record {
 
 -- the entry of a section that is its heading line alone
 abbrev pub heading_alone : FileSettings → List ℕ → Entry
-heading_alone settings line = ended (with_line settings nothing_said (line_at 0 Heading line))
+heading_alone settings line = into_entry (with_line settings nothing_said (line_at 0 Heading line))
 
 -- a bracket closes from a place of a text on
 abbrev pub has_close : ℕ → List ℕ → Bool

@@ -66,7 +66,7 @@ stamps_of settings at Setting bytes = active_at at bytes
 stamps_of settings at Plain bytes = active_at at bytes
 stamps_of settings at _ bytes = []
 
--- the head behind one more line
+-- the head after one more line
 abbrev pub head_after : FileSettings → Option Head → Class → List ℕ → Option Head
 head_after settings so_far Heading bytes = Some (head_of settings bytes)
 head_after settings so_far _ bytes = so_far

@@ -23,16 +23,16 @@ moved at p = record {
   closed = option_map (moved_stamp at) p.closed;
 }
 
--- the planning of an entry: what stands behind its heading line in its text says it
+-- the planning of an entry: what stands after its heading line in its text says it
 abbrev pub entry_planning : Entry → Option Planning
 entry_planning entry = let at = length (heading_line entry) in option_map (moved at) (planning_of (drop at entry.text))
 
--- the planning behind one more line of a section
+-- the planning after one more line of a section
 abbrev pub planning_after : Option Planning → ℕ → Class → List ℕ → Option Planning
 planning_after so_far at PlanningLine bytes = option_map (moved at) (planning_of bytes)
 planning_after so_far at _ bytes = so_far
 
--- the planning that lines say, behind what was said before
+-- the planning that lines say, after what was said before
 abbrev pub planning_from : Option Planning → List PlacedLine → Option Planning
 planning_from so_far [] = so_far
 planning_from so_far (l ∷ ls) = planning_from (planning_after so_far l.at l.class l.bytes) ls

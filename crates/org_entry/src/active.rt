@@ -114,7 +114,7 @@ fn stamp_at(opens: bool, role: Role, at: usize, stamp: Stamp) -> EntryStamp
     }
 }
 
-// Puts a stamp before the first that stands behind it.
+// Puts a stamp before the first that stands after it.
 fn put(own: &mut Vec<EntryStamp>, stamp: EntryStamp) -> Result<(), AllocError>
     ensures ok { OnOk result (own.new.items ≡ put stamp own.old.items) }
 {

@@ -1,4 +1,4 @@
-//! Sections that are their heading line alone, as most are in an outline of headings: no line behind it is looked for.
+//! Sections that are their heading line alone, as most are in an outline of headings: no line after it is looked for.
 ghost use Rattle.std.specs.Prelude.{◌≡◌, ◌+◌, ◌≤◌, ◌<◌, ◌^◌, ◌∷◌, [], true, length, IfSome, IsOkUnless};
 ghost use Rattle.org_base.specs.Codes.{memory_fault};
 ghost use Rattle.org_base.specs.Results.{Gives};
@@ -10,13 +10,13 @@ ghost use Rattle.org_entry.specs.Draft.{heading_alone};
 
 use crate::details::Details;
 use crate::entry::Entry;
-use crate::sparse::Sparse;
+use crate::rare_list::RareList;
 use crate::stamps::push_active;
 use crate::text::EntryText;
 use org_base::{Fault, Span};
 use org_class::Class;
 use org_head::{part, read_head};
-use org_lines::lent;
+use org_lines::lend;
 use org_settings::Settings;
 use org_text::Text;
 use std::alloc::Global;
@@ -35,7 +35,7 @@ pub(crate) fn heading_alone<'a, T: Text>(
     if !is_heading_class_alone(classes) {
         return None;
     }
-    lent(text, section)
+    lend(text, section)
 }
 
 // Whether there is one class, that of a heading line.
@@ -54,7 +54,7 @@ pub(crate) fn heading_entry(alloc: Global, settings: &Settings, line: &[u8]) -> 
 {
     let head = read_head(alloc, line, settings)?;
     let title = head.title;
-    let mut stamps = Sparse::new(alloc);
+    let mut stamps = RareList::new(alloc);
     push_active(&mut stamps, title.at as usize, part(line, title))?;
     let details = Details::of_stamps(alloc, stamps)?;
     let mut text = EntryText::new(alloc);

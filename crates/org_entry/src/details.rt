@@ -6,7 +6,7 @@ ghost use Rattle.org_base.specs.Results.{Gives};
 ghost use Rattle.org_entry.specs.Details.{nothing};
 
 use crate::own::OwnProperties;
-use crate::sparse::Sparse;
+use crate::rare_list::RareList;
 use org_drawer::ClockLine;
 use org_stamp::Found;
 use std::alloc::{AllocError, Global};
@@ -16,8 +16,8 @@ use std::marker::Model;
 #[derive(Debug, Drop)]
 pub(crate) struct Parts {
     pub drawer: OwnProperties,
-    pub stamps: Sparse<Found>,
-    pub clocks: Sparse<ClockLine>,
+    pub stamps: RareList<Found>,
+    pub clocks: RareList<ClockLine>,
 }
 
 impl Model for Parts {
@@ -35,8 +35,8 @@ impl Parts {
     {
         Parts {
             drawer: OwnProperties::none(),
-            stamps: Sparse::new(alloc),
-            clocks: Sparse::new(alloc),
+            stamps: RareList::new(alloc),
+            clocks: RareList::new(alloc),
         }
     }
 
@@ -80,7 +80,7 @@ impl Details {
     }
 
     // These stamps, and nothing else. A heading alone has no more, and mostly none.
-    pub(crate) fn of_stamps(alloc: Global, stamps: Sparse<Found>) -> Result<Details, AllocError>
+    pub(crate) fn of_stamps(alloc: Global, stamps: RareList<Found>) -> Result<Details, AllocError>
         ensures value { Gives result (record nothing { stamps = stamps }) }
     {
         if stamps.is_empty() {
@@ -89,7 +89,7 @@ impl Details {
         let parts = Parts {
             drawer: OwnProperties::none(),
             stamps,
-            clocks: Sparse::new(alloc),
+            clocks: RareList::new(alloc),
         };
         Ok(Details {
             parts: Some(Box::new(alloc, parts)?),

@@ -2,7 +2,7 @@
 ghost use Rattle.std.specs.Prelude.{◌≡◌, ◌+◌, ◌<◌, ◌≤◌, ◌^◌, length, Some, OnOk, IsOkUnless};
 ghost use Rattle.org_base.specs.Codes.{memory_fault};
 ghost use Rattle.org_base.specs.Results.{Gives};
-ghost use Rattle.org_entry.specs.Draft.{nothing_said, with_line, ended, line_at, with_clock, with_heading};
+ghost use Rattle.org_entry.specs.Draft.{nothing_said, with_line, into_entry, line_at, with_clock, with_heading};
 
 use crate::details::{Details, Parts};
 use crate::entry::Entry;
@@ -49,7 +49,7 @@ impl Draft {
         }
     }
 
-    // Adds what one more line says, which stands at a place of the section, behind all lines so far.
+    // Adds what one more line says, which stands at a place of the section, after all lines so far.
     pub(crate) fn add(
         &mut self,
         settings: &Settings,
@@ -104,8 +104,8 @@ impl Draft {
     }
 
     // The entry where no line is left.
-    pub(crate) fn ended(self) -> Result<Entry, Fault>
-        ensures value { Gives result (ended self) }
+    pub(crate) fn into_entry(self) -> Result<Entry, Fault>
+        ensures value { Gives result (into_entry self) }
         ensures memory { IsOkUnless result memory_fault }
     {
         let Draft {

@@ -8,8 +8,8 @@
 //! ```
 //! let mut meter = Meter::new();
 //! let classes = classify(alloc, &mut meter, text, span)?;
-//! let document = Document { text, settings };
-//! read_entry(alloc, &mut meter, &document, span, classes.as_slice())
+//! let context = ReadContext { text, settings };
+//! read_entry(alloc, &mut meter, &context, span, classes.as_slice())
 //! // ..
 //! for stamp in entry.details.stamps() {
 //!     out.push(stamp.at)?;
@@ -22,22 +22,22 @@
 mod active;
 mod alone;
 mod details;
-mod document;
 mod draft;
 mod entry;
 mod keyword;
 pub mod laws;
 mod own;
 mod planning;
+mod rare_list;
 mod read;
-mod sparse;
+mod read_context;
 mod stamps;
 mod text;
 
 pub use active::{EntryStamp, Role, write_active, write_under};
 pub use details::Details;
-pub use document::Document;
 pub use entry::Entry;
 pub use keyword::{is_finished, keyword_of};
 pub use read::read_entry;
+pub use read_context::ReadContext;
 pub use text::EntryText;

@@ -11,37 +11,37 @@ ghost use Rattle.org_entry.specs.Draft.{is_quiet, has_close};
 ghost use Rattle.org_entry.specs.Entry.{entry_of};
 
 use crate::alone::{heading_alone, heading_entry};
-use crate::document::Document;
 use crate::draft::Draft;
 use crate::entry::Entry;
+use crate::read_context::ReadContext;
 use memchr::memchr2;
 use org_base::{Fault, Meter, Span, Tick};
 use org_class::Class;
-use org_lines::{Lines, lent};
+use org_lines::{Lines, lend};
 use org_settings::Settings;
 use org_text::Text;
 use std::alloc::Global;
 
 /// What a section of a document says, whose lines are of these classes (Org Syntax, "Headings and Sections"). It is
 /// determined by the section's bytes and the settings, wherever the section stands. One pass over the lines, linear in
-/// the section; its last lines aren't read where they can say nothing. Want of memory is the only refusal; the meter
+/// the section; its last lines aren't read where they can say nothing. Out of memory is the only refusal; the meter
 /// counts one entry read then too.
 #[tactic(auto, using(crate::proofs::AloneLemmas::alone_says, crate::proofs::AloneLemmas::alone_fits))]
 pub fn read_entry<T: Text>(
     alloc: Global,
     meter: &mut Meter,
-    document: &Document<'_, T>,
+    context: &ReadContext<'_, T>,
     section: Span,
     classes: &[Class],
 ) -> Result<Entry, Fault>
-    requires within { section.at + section.len ≤ length (T.content document.now.text.now) }
-    requires belongs { classes.now ≡ section_classes (bytes_in (T.content document.now.text.now) section) }
-    ensures value { Gives result (entry_of document.now.settings.now (bytes_in (T.content document.now.text.now) section)) }
+    requires within { section.at + section.len ≤ length (T.content context.now.text.now) }
+    requires belongs { classes.now ≡ section_classes (bytes_in (T.content context.now.text.now) section) }
+    ensures value { Gives result (entry_of context.now.settings.now (bytes_in (T.content context.now.text.now) section)) }
     ensures counts { meter.new ≡ ticked Read meter.old }
     ensures memory { IsOkUnless result memory_fault }
 {
     meter.tick(Tick::Read);
-    let Document { text, settings } = *document;
+    let ReadContext { text, settings } = *context;
     match heading_alone(text, section, classes) {
         Some(line) => heading_entry(alloc, settings, line),
         None => entry_in(alloc, text, section, classes, settings),
@@ -83,13 +83,13 @@ fn may_close<T: Text>(text: &T, section: Span, at: usize) -> bool
         at: section.at + at as u32,
         len: section.len - at as u32,
     };
-    match lent(text, rest) {
+    match lend(text, rest) {
         Some(bytes) => memchr2(b'>', b']', bytes).is_some(),
         None => true,
     }
 }
 
-// The lines behind the last one that says more than its stamps aren't read where no bracket closes in them.
+// The lines after the last one that says more than its stamps aren't read where no bracket closes in them.
 fn entry_in<T: Text>(
     alloc: Global,
     text: &T,
@@ -118,5 +118,5 @@ fn entry_in<T: Text>(
         at += line.len();
         place += 1;
     }
-    draft.ended()
+    draft.into_entry()
 }

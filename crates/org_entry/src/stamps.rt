@@ -2,13 +2,13 @@
 ghost use Rattle.std.specs.Prelude.{◌≡◌, ◌+◌, ◌<◌, ◌^◌, ◌++◌, length, OnOk};
 ghost use Rattle.org_entry.specs.Entry.{if_active, active_at};
 
-use crate::sparse::Sparse;
+use crate::rare_list::RareList;
 use org_stamp::{Found, stamps_in};
 use std::alloc::AllocError;
 
 // Puts the active stamps of bytes that stand at a place of the section at the end.
 pub(crate) fn push_active(
-    stamps: &mut Sparse<Found>,
+    stamps: &mut RareList<Found>,
     at: usize,
     bytes: &[u8],
 ) -> Result<(), AllocError>
@@ -22,7 +22,7 @@ pub(crate) fn push_active(
 }
 
 // Puts a stamp at the end, so much further, if it is active.
-fn push_if_active(stamps: &mut Sparse<Found>, at: usize, found: Found) -> Result<(), AllocError>
+fn push_if_active(stamps: &mut RareList<Found>, at: usize, found: Found) -> Result<(), AllocError>
     requires fits { at + found.at < 2 ^ 32 }
     ensures ok { OnOk result (stamps.new ≡ stamps.old ++ if_active at found) }
 {

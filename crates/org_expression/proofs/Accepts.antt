@@ -200,11 +200,11 @@ pattern_more (c ∷ cs) rest h =
 abbrev Reaches : Part → Option State → List ℕ → Type 0
 Reaches p o cs = (e : Option State) × Ends p e × ((rest : List ℕ) → run o (cs ++ rest) ≡ run e rest)
 
--- one character, and what is reached behind it
+-- one character, and what is reached after it
 prefixed : (p : Part) (o : Option State) (s : State) (c : ℕ) (cs : List ℕ) → step_at o c ≡ Some s → Reaches p (Some s) cs → Reaches p o (c ∷ cs)
 prefixed p o s c cs h r = (r.0, r.1, λ rest. taken o s c h (cs ++ rest) ∙ r.2 rest)
 
--- characters that lead to a state, and what is reached behind them
+-- characters that lead to a state, and what is reached after them
 joined : (p : Part) (o m : Option State) (xs ys : List ℕ) → ((rest : List ℕ) → run o (xs ++ rest) ≡ run m rest) → Reaches p m ys → Reaches p o (xs ++ ys)
 joined p o m xs ys f r = (r.0, r.1, λ rest. rw (append_assoc xs ys rest) (f (ys ++ rest) ∙ r.2 rest))
 
@@ -270,7 +270,7 @@ value_run o op (Number false whole fraction) values braces h = number_run o valu
 value_run o op (Quoted text) values braces h = prefixed InTags o InText 34 (text ++ 34 ∷ []) values.quote (quoted_run text h)
 value_run o op (Pattern text) values braces h = prefixed InTags o InPattern 123 (text ++ 125 ∷ []) (braces h.0) (pattern_run text h.1)
 
--- an operator and a value, behind a name
+-- an operator and a value, after a name
 compare_run : (op : Op) (v : Value) → IsValue op v → Reaches InTags (Some (InName InTags)) (spell_op op ++ spell_value v)
 compare_run Less v h = prefixed InTags (Some (InName InTags)) AfterLess 60 (spell_value v) refl (value_run (Some AfterLess) Less v values_less (λ e. cc) h)
 compare_run Equal v h = prefixed InTags (Some (InName InTags)) AfterEqual 61 (spell_value v) refl (value_run (Some AfterEqual) Equal v values_equal (λ e. refl) h)

@@ -6,7 +6,7 @@ use Rattle.std.specs.Str.Parse.{digits_value_after}
 use Rattle.std.proofs.lemmas.Bool.{cases_Bool, cases_lt}
 use Rattle.std.proofs.lemmas.Bool.Decides.{nat_tests}
 use Rattle.std.proofs.lemmas.Str.Parse.{digits_value_short, numerals_by_value, tells_all_ascii_digits}
-use Rattle.org_expression.specs.Decimal.{front_digits, read_on, read_decimals, place, number, behind_point, unsigned, number_at}
+use Rattle.org_expression.specs.Decimal.{front_digits, read_on, read_decimals, place, number, behind_point, unsigned_decimal, number_at}
 use Rattle.org_expression.specs.Laws.{NumbersAreValues, FrontsAreDecimals}
 use Rattle.org_expression.specs.Spelled.{AreDigits, Decimal, IsFraction, IsSign, IsValue, NoDigit, NoPoint, billionths}
 
@@ -155,27 +155,27 @@ behind_is part fraction rest (inr is) h none =
     ap (λ t. front_digits (behind_point (t ++ rest))) is.0 ∙ (ap front_digits (no_point rest is.2) ∙ sym is.1)
 
 unsigned_is : (negative : Bool) (whole part fraction rest : List ℕ) → AreDigits whole → 1 ≤ length whole → length whole ≤ 18 → IsFraction part fraction rest → AreDigits fraction → NoDigit rest →
-    IsValue negative whole fraction (unsigned negative (whole ++ (part ++ rest)))
+    IsValue negative whole fraction (unsigned_decimal negative (whole ++ (part ++ rest)))
 unsigned_is negative whole part fraction rest h some few p k none =
     let bs = whole ++ (part ++ rest) in
     let front : front_digits bs ≡ whole = front_again whole (part ++ rest) h (no_digit part fraction rest p none) in
     let left : drop (length (front_digits bs)) bs ≡ part ++ rest = ap (λ t. drop (length t) bs) front ∙ drop_front whole (part ++ rest) in
     let decimals : front_digits (behind_point (drop (length (front_digits bs)) bs)) ≡ fraction = ap (λ t. front_digits (behind_point t)) left ∙ behind_is part fraction rest p k none in
-    subst (λ t. IsValue negative whole t (unsigned negative bs)) decimals
-    (subst (λ t. IsValue negative t (front_digits (behind_point (drop (length (front_digits bs)) bs))) (unsigned negative bs)) front
+    subst (λ t. IsValue negative whole t (unsigned_decimal negative bs)) decimals
+    (subst (λ t. IsValue negative t (front_digits (behind_point (drop (length (front_digits bs)) bs))) (unsigned_decimal negative bs)) front
     (number_is negative bs (behind_point (drop (length (front_digits bs)) bs)) (subst (λ t. 1 ≤ length t) (sym front) some) (subst (λ t. length t ≤ 18) (sym front) few)))
 
-first_digit : (b : ℕ) (bs : List ℕ) → is_ascii_digit b ≡ true → number_at (b ∷ bs) ≡ unsigned false (b ∷ bs)
+first_digit : (b : ℕ) (bs : List ℕ) → is_ascii_digit b ≡ true → number_at (b ∷ bs) ≡ unsigned_decimal false (b ∷ bs)
 first_digit b bs h =
     let minus : (b == 45) ≡ false = grind (arith, nat_tests) in
     let plus : (b == 43) ≡ false = grind (arith, nat_tests) in
     rw (minus, plus) refl
 
-plain_digits : (whole tail : List ℕ) → AreDigits whole → 1 ≤ length whole → number_at (whole ++ tail) ≡ unsigned false (whole ++ tail)
+plain_digits : (whole tail : List ℕ) → AreDigits whole → 1 ≤ length whole → number_at (whole ++ tail) ≡ unsigned_decimal false (whole ++ tail)
 plain_digits [] tail h some = absurd (omega (arith, some))
 plain_digits (b ∷ bs) tail h some = first_digit b (bs ++ tail) (both (is_ascii_digit b) (all_ascii_digits bs) h).0
 
-signed_is : (negative : Bool) (sign whole tail : List ℕ) → IsSign negative sign → AreDigits whole → 1 ≤ length whole → number_at (sign ++ (whole ++ tail)) ≡ unsigned negative (whole ++ tail)
+signed_is : (negative : Bool) (sign whole tail : List ℕ) → IsSign negative sign → AreDigits whole → 1 ≤ length whole → number_at (sign ++ (whole ++ tail)) ≡ unsigned_decimal negative (whole ++ tail)
 signed_is true sign whole tail is h some = ap (λ t. number_at (t ++ (whole ++ tail))) is
 signed_is false sign whole tail (inl is) h some = ap (λ t. number_at (t ++ (whole ++ tail))) is ∙ plain_digits whole tail h some
 signed_is false sign whole tail (inr is) h some = ap (λ t. number_at (t ++ (whole ++ tail))) is
@@ -250,8 +250,8 @@ decimal_at negative sign bs is some few =
       ends = t.ends;
     }
 
--- without a decimal behind the sign the number is that of 0
-nothing_read : (negative : Bool) (sign bs : List ℕ) → IsSign negative sign → (Decimal (sign ++ bs) → ⊥) → unsigned negative bs ≡ 10 ^ 27
+-- without a decimal after the sign the number is that of 0
+nothing_read : (negative : Bool) (sign bs : List ℕ) → IsSign negative sign → (Decimal (sign ++ bs) → ⊥) → unsigned_decimal negative bs ≡ 10 ^ 27
 nothing_read negative sign bs is none =
     let l = length (front_digits bs) in
     let zeroth : (if (l == 0) || nat_lt 18 l then place false 0 else place negative (read_decimals (read_on 0 (front_digits bs)) 9 (behind_point (drop l bs)))) ≡ place false 0 =

@@ -22,7 +22,7 @@ begin_word c d h = let m = no_mark c h in grind (arith, nat_tests, m.plus, m.min
 name_absorb : (p : Part) (c : ℕ) (d : Draft) → is_tag_char c ≡ true → absorb (InName p) c d ≡ record d { name = d.name ++ c ∷ [] }
 name_absorb p c d h = let m = no_mark c h in grind (arith, nat_tests, h, m.less, m.equal, m.greater, m.backslash)
 
--- behind a term each mark is taken alike
+-- after a term each mark is taken alike
 pub record Follows (o : Option State) : Type 0 where
   pub plus : (d : Draft) → absorb_at o 43 d ≡ follow 43 d
   pub minus : (d : Draft) → absorb_at o 45 d ≡ follow 45 d
@@ -48,7 +48,7 @@ follows_whole n = record { plus = λ d. refl; minus = λ d. refl; and = λ d. re
 follows_fraction : (n : ℕ) → Follows (Some (InFraction n))
 follows_fraction n = record { plus = λ d. refl; minus = λ d. refl; and = λ d. refl; or = λ d. refl; slash = λ d. refl }
 
--- the characters lead from a state and a draft to others, whatever stands behind them
+-- the characters lead from a state and a draft to others, whatever stands after them
 abbrev Goes : Option State → Draft → List ℕ → Option State → Draft → Type 0
 Goes o d cs e f = (rest : List ℕ) → (run o (cs ++ rest) ≡ run e rest) × (advance o d (cs ++ rest) ≡ advance e f rest)
 
@@ -187,7 +187,7 @@ begin_digit c d h =
     let b : (c == 34) ≡ false = grind (arith, nat_tests) in
     rw (a, b, no_op c 123 h (omega arith)) refl
 
--- the digits behind the first, where none stands behind the point yet
+-- the digits after the first, where none stands after the point yet
 digits_ready : (d : Draft) (c : ℕ) (ds fs : List ℕ) → length ds ≤ 17 → list_all is_ascii_digit ds ≡ true → length fs ≤ 9 → list_all is_ascii_digit fs ≡ true →
     Ready InTags (Some (InWhole 1)) (record d { shape = AsNumber; whole = c ∷ []; fraction = [] }) (ds ++ spell_fraction fs)
     (Compare d.name d.op (Number d.is_negative (c ∷ ds) fs))
@@ -292,7 +292,7 @@ value_ready o d (Pattern text) values takes braces h =
 no_brace : {X : Type 0} (op : Op) → takes_pattern op ≡ false → takes_pattern op ≡ true → X
 no_brace op h k = let bad : false ≡ true = sym h ∙ k in absurd cc
 
--- an operator and a value, behind a name
+-- an operator and a value, after a name
 compare_ready : (op : Op) (v : Value) (d : Draft) → IsValue op v → Ready InTags (Some (InName InTags)) d (spell_op op ++ spell_value v) (Compare d.name op v)
 compare_ready Less v d h =
     ready_cons InTags (Some (InName InTags)) (Some AfterLess) d (record d { op = Less }) 60 (spell_value v) _ refl refl refl refl refl
@@ -548,7 +548,7 @@ slash_grouped tags todo h k =
     ap read_all (sym (append_assoc (spell_items tags) (47 ∷ []) (spell_items todo))) ∙ all ∙ finished_ends InTodo g.at g.draft g.ends
     ∙ ap (λ x. Some (expr_of x)) (g.parts ∙ ap (λ q. extend q todo) s.parts)
 
--- the same behind `/!`
+-- the same after `/!`
 banged : (tags : List Item) (s : Slashed tags) → Goes (Some Start) empty_draft ((spell_items tags ++ 47 ∷ []) ++ 33 ∷ []) (Some AfterBang) (record s.draft { kind = WithOpen })
 banged tags s =
     goes_then (Some Start) (Some AfterSlash) empty_draft s.draft (spell_items tags ++ 47 ∷ []) (33 ∷ []) (Some AfterBang) (record s.draft { kind = WithOpen }) s.goes

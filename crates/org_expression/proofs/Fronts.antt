@@ -4,7 +4,7 @@ use Rattle.std.proofs.Common.{◌≡◌, ◌⊎◌, inl, inr, ℕ, List, [], ◌
 use Rattle.org_expression.specs.Grammar.{Begins, IsLongestFront}
 use Rattle.org_expression.specs.Laws.{OneLongestFront}
 
--- the other front goes on behind this one
+-- the other front goes on after this one
 abbrev IsLonger : List ℕ → List ℕ → List ℕ → Type 0
 IsLonger front rest other = (c : ℕ) × (more : List ℕ) × (tail : List ℕ) × (rest ≡ c ∷ more) × (other ≡ front ++ c ∷ tail)
 

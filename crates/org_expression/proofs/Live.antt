@@ -19,7 +19,7 @@ use Rattle.org_expression.proofs.Run.{run_none, run-append}
 use Rattle.org_expression.proofs.Accepts.{accepts}
 use Rattle.org_expression.proofs.Marks.{no_mark, no_word-minus}
 
--- what an expression ends with behind its tags
+-- what an expression ends with after its tags
 data End : Type 0 where
   NoEnd : End
   TodoEnd : List Item → End
@@ -108,7 +108,7 @@ either : (a b : Bool) → (a || b) ≡ true → (a ≡ true) ⊎ (b ≡ true)
 either true b h = inl refl
 either false b h = inr h
 
--- ---- what stands behind a term
+-- ---- what stands after a term
 
 more_item : (p : Part) (l : Link) (s : Sign) (t : Term) (y : List ℕ) → IsLink l s → IsTermIn p t → More p y → More p (spell_item (item l s t) ++ y)
 more_item InTags l s t y h k m = (
@@ -176,7 +176,7 @@ name_term InTags name y h (inl m) = (Tag name, h, y, m, refl)
 name_term InTags name y h (inr (op, z, (v, k, w, m, e), d)) = (Compare name op v, (h, k), w, m, rw (d, e) (simp append_assoc))
 name_term InTodo name y h m = (Tag name, h, y, m, refl)
 
--- a character of words, or a minus behind a backslash, before the rest of a name
+-- a character of words, or a minus after a backslash, before the rest of a name
 word_name : (p : Part) (c : ℕ) (x : List ℕ) → is_tag_char c ≡ true → NameRest p x →
     (name : List ℕ) × IsName name × (y : List ℕ) × AfterName p y × (c ∷ x ≡ spell_name name ++ y)
 word_name p c x h (more, k, y, a, e) =
@@ -269,7 +269,7 @@ greater_pull c x =
 equal_pull : (c : ℕ) (x : List ℕ) → RestsAt (step AfterEqual c) x → Rests AfterEqual (c ∷ x)
 equal_pull c x = by_test (c == 123) _ _ x _ (pattern_value Equal c x refl) (λ _. value_pull Equal c x)
 
--- ---- behind a name
+-- ---- after a name
 
 less_name : (c : ℕ) (x : List ℕ) → (c == 60) ≡ true → Rests AfterLess x → NameRest InTags (c ∷ x)
 less_name c x h (inl v) = ([], refl, c ∷ x, inr (Less, x, v, after c 60 x x h refl), refl)

@@ -16,7 +16,7 @@ use Rattle.org_expression.specs.Times.{moved, day_if, in_month, day_moved, last_
 few_digits : (l : ℕ) (x y : Option ℕ) → false ≡ (l == 0) → l ≤ 4 → (if nat_le 1 l && nat_le l 4 then x else y) ≡ x
 few_digits l x y some few = grind (arith, nat_tests)
 
--- the digits that the code cuts off, and the unit behind them
+-- the digits that the code cuts off, and the unit after them
 pub counted_is : (today : ℕ) (is_back : Bool) (bs digits rest : List ℕ) (n : ℕ) (unit : Unit) → digits ≡ front_digits bs → rest ≡ drop (length (front_digits bs)) bs →
     false ≡ (length digits == 0) → length digits ≤ 4 → n ≡ read_on 0 digits → Some unit ≡ last_unit rest → day_moved is_back n unit today ≡ counted_day today is_back bs
 counted_is today is_back bs digits rest n unit front back some few value last =

@@ -27,7 +27,7 @@ term_step InTodo c =
 abbrev pub begin_step : Part → ℕ → Option State
 begin_step part c = option_or (sign_step part c) (term_step part c)
 
--- what stands behind a whole term
+-- what stands after a whole term
 abbrev pub next_step : Part → ℕ → Option State
 next_step InTags c =
     if c == 43 || c == 45 then Some (Signed InTags) else if c == 38 || c == 124 then Some (Linked InTags)
@@ -39,7 +39,7 @@ next_step InTodo c =
 abbrev pub value_step : ℕ → Option State
 value_step c = if c == 45 then Some AfterMinus else if c == 34 then Some InText else if is_ascii_digit c then Some (InWhole 1) else None
 
--- what stands behind the first character of a name
+-- what stands after the first character of a name
 abbrev pub name_step : Part → ℕ → Option State
 name_step InTags c =
     if c == 92 then Some (Escaped InTags) else if c == 60 then Some AfterLess else if c == 61 then Some AfterEqual

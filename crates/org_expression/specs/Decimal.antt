@@ -4,7 +4,7 @@
 use Rattle.std.specs.Char.{is_ascii_digit}
 use Rattle.std.specs.Prelude.{ℕ, zero, suc, ◌+◌, ◌-◌, ◌*◌, ◌^◌, Bool, true, false, ◌||◌, ◌==◌, nat_lt, List, [], ◌∷◌, length, drop, if◌then◌else◌}
 
--- the digits behind a number that was read
+-- the digits after a number that was read
 abbrev pub read_on : ℕ → List ℕ → ℕ
 read_on n [] = n
 read_on n (d ∷ ds) = read_on (10 * n + (d - 48)) ds
@@ -19,12 +19,12 @@ abbrev pub front_value : List ℕ → ℕ
 front_value [] = 0
 front_value (b ∷ bs) = if is_ascii_digit b then b - 48 else 0
 
--- what stands behind a digit at the front
+-- what stands after a digit at the front
 abbrev pub behind : List ℕ → List ℕ
 behind [] = []
 behind (b ∷ bs) = if is_ascii_digit b then bs else []
 
--- so many digits behind the point: those that are missing are 0, later ones don't count
+-- so many digits after the point: those that are missing are 0, later ones don't count
 unfoldable pub read_decimals : ℕ → ℕ → List ℕ → ℕ
 read_decimals n zero bs = n
 read_decimals n (suc k) bs = read_decimals (10 * n + front_value bs) k (behind bs)
@@ -40,17 +40,17 @@ number is_negative whole fraction =
     if (length (front_digits whole) == 0) || nat_lt 18 (length (front_digits whole)) then place false 0
     else place is_negative (read_decimals (read_on 0 (front_digits whole)) 9 fraction)
 
--- what stands behind a point
+-- what stands after a point
 abbrev pub behind_point : List ℕ → List ℕ
 behind_point [] = []
 behind_point (b ∷ bs) = if b == 46 then bs else []
 
 -- digits, and perhaps a point and more
-abbrev pub unsigned : Bool → List ℕ → ℕ
-unsigned is_negative bs = number is_negative bs (behind_point (drop (length (front_digits bs)) bs))
+abbrev pub unsigned_decimal : Bool → List ℕ → ℕ
+unsigned_decimal is_negative bs = number is_negative bs (behind_point (drop (length (front_digits bs)) bs))
 
 -- the number at the front of a text
 abbrev pub number_at : List ℕ → ℕ
 number_at [] = place false 0
 number_at (b ∷ bs) =
-    if b == 45 then unsigned true bs else if b == 43 then unsigned false bs else unsigned false (b ∷ bs)
+    if b == 45 then unsigned_decimal true bs else if b == 43 then unsigned_decimal false bs else unsigned_decimal false (b ∷ bs)

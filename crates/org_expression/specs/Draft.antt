@@ -66,7 +66,7 @@ term_by AsPattern d = Compare d.name d.op (Pattern d.text)
 abbrev pub term_of : Draft → Term
 term_of d = term_by d.shape d
 
--- which parts there are, the items before the slash, and those behind it
+-- which parts there are, the items before the slash, and those after it
 abbrev pub Parts : Type 0
 Parts = Kind × List Item × List Item
 
@@ -110,7 +110,7 @@ begin c d =
 abbrev pub with_todo : Parts → Parts
 with_todo (kind, tags, todo) = (WithTodo, tags, todo)
 
--- behind a whole term
+-- after a whole term
 abbrev pub follow : ℕ → Draft → Draft
 follow c d =
     if c == 43 then with_term d Direct Plus else if c == 45 then with_term d Direct Minus
@@ -124,7 +124,7 @@ begin_value c d =
     else if c == 34 then record d { shape = AsQuoted; text = [] } else if c == 123 then record d { shape = AsPattern; text = [] }
     else record d { shape = AsNumber; is_negative = false; whole = c ∷ []; fraction = [] }
 
--- behind the first character of a name
+-- after the first character of a name
 abbrev pub in_name : ℕ → Draft → Draft
 in_name c d =
     if c == 92 then d else if c == 60 then record d { op = Less } else if c == 61 then record d { op = Equal }
@@ -157,7 +157,7 @@ abbrev pub absorb_at : Option State → ℕ → Draft → Draft
 absorb_at None c d = d
 absorb_at (Some s) c d = absorb s c d
 
--- the draft behind the characters
+-- the draft after the characters
 abbrev pub advance : Option State → Draft → List ℕ → Draft
 advance o d [] = d
 advance o d (c ∷ cs) = advance (step_at o c) (absorb_at o c d) cs

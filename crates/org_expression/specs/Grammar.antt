@@ -96,16 +96,16 @@ spell_term (Tag name) = spell_name name
 spell_term (Found pattern) = 123 ∷ pattern ++ 125 ∷ []
 spell_term (Compare name op value) = spell_name name ++ (spell_op op ++ spell_value value)
 
--- link, sign and term, one behind the other
+-- link, sign and term, one after the other
 abbrev pub spell_item : Item → List ℕ
 spell_item (item link sign term) = spell_link link ++ (spell_sign sign ++ spell_term term)
 
--- items, one behind the other
+-- items, one after the other
 abbrev pub spell_items : List Item → List ℕ
 spell_items [] = []
 spell_items (i ∷ is) = spell_item i ++ spell_items is
 
--- the tags alone, or with `/` or `/!` and the keywords behind them
+-- the tags alone, or with `/` or `/!` and the keywords after them
 abbrev pub spell : Expr → List ℕ
 spell (Tags tags) = spell_items tags
 spell (Todo tags todo) = spell_items tags ++ 47 ∷ spell_items todo
@@ -131,7 +131,7 @@ takes_pattern Equal = true
 takes_pattern Differs = true
 takes_pattern _ = false
 
--- one to eighteen digits, and up to nine behind a point; no quote in a text, no closing brace in a pattern
+-- one to eighteen digits, and up to nine after a point; no quote in a text, no closing brace in a pattern
 abbrev pub IsValue : Op → Value → Type 0
 IsValue op (Number is_negative whole fraction) =
     (0 < length whole) × (length whole ≤ 18) × (list_all is_ascii_digit whole ≡ true) × (length fraction ≤ 9) × (list_all is_ascii_digit fraction ≡ true)
@@ -157,7 +157,7 @@ IsLink Direct sign = sign ≢ Unsigned
 IsLink And sign = Unit {0}
 IsLink Or sign = Unit {0}
 
--- terms behind the first
+-- terms after the first
 abbrev pub AreLater : Part → List Item → Type 0
 AreLater part [] = Unit {0}
 AreLater part (item link sign term ∷ is) = IsLink link sign × IsTermIn part term × AreLater part is
@@ -174,7 +174,7 @@ abbrev pub AreItemsOrNone : Part → List Item → Type 0
 AreItemsOrNone part [] = Unit {0}
 AreItemsOrNone part (i ∷ is) = AreItems part (i ∷ is)
 
--- a part may be left out before a slash, and behind /!
+-- a part may be left out before a slash, and after /!
 abbrev pub IsExpr : Expr → Type 0
 IsExpr (Tags tags) = AreItems InTags tags
 IsExpr (Todo tags todo) = AreItemsOrNone InTags tags × AreItems InTodo todo

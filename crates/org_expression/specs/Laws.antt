@@ -19,7 +19,7 @@ ReadAgain = (e : Expr) → IsExpr e → read_all (spell e) ≡ Some e
 abbrev pub OneLongestFront : Type 0
 OneLongestFront = (cs : List ℕ) (a b : ℕ) → IsLongestFront cs a → IsLongestFront cs b → a ≡ b
 
--- the number of one to eighteen digits, and of those behind a point, is their value
+-- the number of one to eighteen digits, and of those after a point, is their value
 abbrev pub NumbersAreValues : Type 0
 NumbersAreValues = (negative : Bool) (whole fraction : List ℕ) → AreDigits whole → AreDigits fraction → 1 ≤ length whole → length whole ≤ 18 →
     IsValue negative whole fraction (number negative whole fraction)

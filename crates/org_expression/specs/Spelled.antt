@@ -13,7 +13,7 @@ use Rattle.org_cal.specs.declared.unit.Unit.TheVariants.{Day, Week, Month, Year}
 abbrev pub AreDigits : List ℕ → Type 0
 AreDigits bs = all_ascii_digits bs ≡ true
 
--- the billionths of a decimal: its digits before the point and nine behind it, with zeros where digits lack
+-- the billionths of a decimal: its digits before the point and nine after it, with zeros where digits lack
 abbrev pub billionths : List ℕ → List ℕ → ℕ
 billionths whole fraction = digits_value 10 (whole ++ take 9 (fraction ++ replicate 9 48))
 
@@ -37,7 +37,7 @@ abbrev pub NoPoint : List ℕ → Type 0
 NoPoint [] = Unit {0}
 NoPoint (b ∷ bs) = (b ≡ 46) → ⊥
 
--- a point and the digits behind it, if there are any; or nothing, where no point follows
+-- a point and the digits after it, if there are any; or nothing, where no point follows
 abbrev pub IsFraction : List ℕ → List ℕ → List ℕ → Type 0
 IsFraction part fraction rest = (part ≡ codes "." ++ fraction) ⊎ ((part ≡ []) × (fraction ≡ []) × NoPoint rest)
 

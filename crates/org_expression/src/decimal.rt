@@ -2,14 +2,14 @@
 ghost use Rattle.std.specs.Char.{is_ascii_digit};
 ghost use Rattle.std.specs.Prelude.{◌≡◌, ◌^◌, ◌≤◌, ◌<◌, length, true};
 ghost use Rattle.std.specs.List.{list_all};
-ghost use Rattle.org_expression.specs.Decimal.{behind, front_digits, front_value, number, number_at, read_decimals, read_on, unsigned};
+ghost use Rattle.org_expression.specs.Decimal.{behind, front_digits, front_value, number, number_at, read_decimals, read_on, unsigned_decimal};
 
 const ZERO: u128 = 1_000_000_000_000_000_000_000_000_000;
 
 // The number of up to eighteen digits.
 pub(crate) fn read_whole(digits: &[u8]) -> u128
     requires digits { list_all is_ascii_digit digits.now ≡ true }
-    requires room { length digits.now ≤ 18 }
+    requires has_room { length digits.now ≤ 18 }
     ensures value { result ≡ read_on 0 digits.now }
     ensures below { result < 10 ^ 18 }
 {
@@ -22,7 +22,7 @@ pub(crate) fn read_whole(digits: &[u8]) -> u128
 
 // The number with nine decimals more.
 fn read_decimals(whole: u128, fraction: &[u8]) -> u128
-    requires room { whole < 10 ^ 18 }
+    requires has_room { whole < 10 ^ 18 }
     ensures value { result ≡ read_decimals whole 9 fraction.now }
     ensures below { result < 10 ^ 27 }
 {
@@ -39,7 +39,7 @@ fn read_decimals(whole: u128, fraction: &[u8]) -> u128
 // The digit at the front, else 0.
 fn front_value(text: &[u8]) -> u8
     ensures value { result ≡ front_value text.now }
-    ensures small { result ≤ 9 }
+    ensures fits { result ≤ 9 }
 {
     match text.first() {
         Some(byte) if byte.is_ascii_digit() => *byte - b'0',
@@ -47,7 +47,7 @@ fn front_value(text: &[u8]) -> u8
     }
 }
 
-// What stands behind a digit at the front.
+// What stands after a digit at the front.
 fn behind(text: &[u8]) -> &[u8]
     ensures value { result.now ≡ behind text.now }
 {
@@ -72,8 +72,8 @@ pub(crate) fn digit_count(text: &[u8]) -> usize
     count
 }
 
-/// The number with these digits before and behind the point, in billionths counted from -10^18; that of 0 with none or
-/// more than eighteen digits before it. Decimals behind the ninth don't count (profile).
+/// The number with these digits before and after the point, in billionths counted from -10^18; that of 0 with none or
+/// more than eighteen digits before it. Decimals after the ninth don't count (profile).
 pub fn number(is_negative: bool, whole: &[u8], fraction: &[u8]) -> u128
     ensures value { result ≡ number is_negative whole.now fraction.now }
 {
@@ -86,8 +86,8 @@ pub fn number(is_negative: bool, whole: &[u8], fraction: &[u8]) -> u128
 }
 
 // The number of digits, and perhaps a point and more.
-fn unsigned(is_negative: bool, text: &[u8]) -> u128
-    ensures value { result ≡ unsigned is_negative text.now }
+fn unsigned_decimal(is_negative: bool, text: &[u8]) -> u128
+    ensures value { result ≡ unsigned_decimal is_negative text.now }
 {
     match &text[digit_count(text)..] {
         [b'.', fraction @ ..] => number(is_negative, text, fraction),
@@ -101,8 +101,8 @@ pub fn number_at(text: &[u8]) -> u128
 {
     match text {
         [] => ZERO,
-        [b'-', rest @ ..] => unsigned(true, rest),
-        [b'+', rest @ ..] => unsigned(false, rest),
-        _ => unsigned(false, text),
+        [b'-', rest @ ..] => unsigned_decimal(true, rest),
+        [b'+', rest @ ..] => unsigned_decimal(false, rest),
+        _ => unsigned_decimal(false, text),
     }
 }

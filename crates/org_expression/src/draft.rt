@@ -155,7 +155,7 @@ impl Draft {
         Ok(())
     }
 
-    // Takes the character behind a whole term.
+    // Takes the character after a whole term.
     fn follow(&mut self, c: char) -> Result<(), AllocError>
         ensures value { OnOk result (self.new ≡ follow c self.old) }
     {
@@ -210,7 +210,7 @@ impl Draft {
         Ok(())
     }
 
-    // Takes a character behind the first of a name.
+    // Takes a character after the first of a name.
     fn in_name(&mut self, c: char) -> Result<(), AllocError>
         ensures value { OnOk result (self.new ≡ in_name c self.old) }
     {

@@ -17,8 +17,8 @@ pub fn one_longest_front()
     ensures { OneLongestFront }
 {}
 
-/// The number of one to eighteen digits, and of those behind a point, is their value: its billionths are the digits before
-/// the point and nine behind it, with zeros where digits lack.
+/// The number of one to eighteen digits, and of those after a point, is their value: its billionths are the digits before
+/// the point and nine after it, with zeros where digits lack.
 pub fn numbers_are_values()
     ensures { NumbersAreValues }
 {}

@@ -35,7 +35,7 @@ fn begin_to(part: Part, c: char) -> Option<State>
     sign_to(part, c).or(term_to(part, c))
 }
 
-// What stands behind a whole term.
+// What stands after a whole term.
 fn next_to(part: Part, c: char) -> Option<State>
     ensures value { result ≡ next_step part c }
 {
@@ -59,7 +59,7 @@ fn value_to(c: char) -> Option<State>
     }
 }
 
-// What stands behind the first character of a name.
+// What stands after the first character of a name.
 fn name_to(part: Part, c: char) -> Option<State>
     ensures value { result ≡ name_step part c }
 {

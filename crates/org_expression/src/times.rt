@@ -95,7 +95,7 @@ fn last_unit(text: &[u8]) -> Option<Unit>
 
 // The day so many units later, or earlier, if it lies in the years 1 to 9999. Hours are no unit here.
 fn day_moved(day: Day, is_back: bool, n: u64, unit: Unit) -> Option<Day>
-    requires few { n < 10 ^ 18 }
+    requires at_most { n < 10 ^ 18 }
     ensures value { result ≡ day_moved is_back n unit day }
 {
     // For the proof alone: the number is a day's.

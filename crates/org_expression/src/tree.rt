@@ -29,7 +29,7 @@ pub enum Op {
     Differs,
 }
 
-/// Which parts there are: tags alone, keywords behind `/`, keywords behind `/!`.
+/// Which parts there are: tags alone, keywords after `/`, keywords after `/!`.
 #[derive(Clone, Copy, Debug, PartialEq, Eq)]
 pub enum Kind {
     Tags,
@@ -37,7 +37,7 @@ pub enum Kind {
     Open,
 }
 
-/// A value as it is written: a number with a minus or none and its digits before and behind the point, a quoted
+/// A value as it is written: a number with a minus or none and its digits before and after the point, a quoted
 /// text, a pattern.
 #[derive(Debug, Drop)]
 pub enum Value {

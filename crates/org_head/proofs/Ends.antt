@@ -1,4 +1,4 @@
--- What is left of a line behind its first parts stands at the line's end, and no gap stands at its front.
+-- What is left of a line after its first parts stands at the line's end, and no gap stands at its front.
 use Rattle.std.proofs.Common.{◌≡◌, ℕ, ◌+◌, ◌-◌, ◌≤◌, Bool, true, false, List, [], ◌++◌, length, take, drop, refl, sym, ap, ◌∙◌, subst, arith, length-append, append_assoc, Some}
 use Rattle.std.proofs.lemmas.List.{take-append-drop}
 use Rattle.std.proofs.Math.Seq.{drop-append_seam}

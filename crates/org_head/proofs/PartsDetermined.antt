@@ -44,7 +44,7 @@ no_letters : (gap : List ℕ) → is_blank gap ≡ true → list_all (λ b. not 
 no_letters [] h = refl
 no_letters (b ∷ bs) h = let both = and_parts (is_gap b) (is_blank bs) h in rw both.0 (no_letters bs both.1)
 
--- no letter stands at the front of a gap and what is left behind it
+-- no letter stands at the front of a gap and what is left after it
 gap_front : (gap left : List ℕ) → is_blank gap ≡ true → (gap ≡ [] → left ≡ []) → prefix_len is_letter (gap ++ left) ≡ 0
 gap_front [] left h whole = ap (prefix_len is_letter) (whole refl)
 gap_front (b ∷ bs) left h whole = fails_front is_letter (b ∷ bs) left (no_letters (b ∷ bs) h) (omega arith)

@@ -34,7 +34,7 @@ all-reverse p (x ∷ xs) h =
     let both = and_parts (p x) (list_all p xs) h in
     ap (list_all p) (reverse-append (x ∷ []) xs) ∙ list_all-append p (reverse xs) (x ∷ []) ∙ and_from (list_all p (reverse xs)) (list_all p (x ∷ [])) (all-reverse p xs both.1) (and_from (p x) true both.0 refl)
 
--- an end that passes, behind what doesn't end so, is as long as it is
+-- an end that passes, after what doesn't end so, is as long as it is
 pub suffix_is : (p : ℕ → Bool) (xs ys : List ℕ) → suffix_len p xs ≡ 0 → list_all p ys ≡ true → suffix_len p (xs ++ ys) ≡ length ys
 suffix_is p xs ys h k = ap (prefix_len p) (reverse-append xs ys) ∙ prefix_is p (reverse ys) (reverse xs) (all-reverse p ys k) h ∙ length-reverse ys
 

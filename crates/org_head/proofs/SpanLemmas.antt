@@ -4,7 +4,7 @@ use Rattle.std.proofs.lemmas.List.{drop_more, drop_all}
 use Rattle.org_head.specs.Tags.{span, spans_from}
 use Rattle.org_base.specs.declared.span.Span.{Span}
 
--- the parts so far, and those of the bytes from the place i on, behind an open part from start on
+-- the parts so far, and those of the bytes from the place i on, after an open part from start on
 abbrev pub spans_left : ℕ → ℕ → ℕ → List ℕ → List Span
 spans_left at start i t = spans_from (at + start) (i - start) (drop i t)
 

@@ -15,7 +15,7 @@ is_other b = not (is_colon b)
 all_more : (p : ℕ → Bool) (xs : List ℕ) (x : ℕ) → list_all p xs ≡ true → p x ≡ true → list_all p (xs ++ x ∷ []) ≡ true
 all_more p xs x h k = list_all-append p xs (x ∷ []) ∙ and_from (list_all p xs) (p x && true) h (and_from (p x) true k refl)
 
--- the tag that stands behind colons
+-- the tag that stands after colons
 next_tag : (at : ℕ) (colons tag rest : List ℕ) → list_all is_colon colons ≡ true → list_all is_other tag ≡ true → 0 < length tag → ends_tag rest ≡ true → NextTag at (colons ++ (tag ++ rest)) (record { at = at + length colons; len = length tag }) rest
 next_tag at colons tag rest h k some ends = record { colons = colons; tag = tag; spelled = refl; between = h; letters = k; some = some; whole = ends; place = refl }
 
@@ -23,7 +23,7 @@ none_or_some : (xs : List ℕ) → (xs ≡ []) ⊎ (((length xs == 0) ≡ false)
 none_or_some [] = inl refl
 none_or_some (x ∷ xs) = inr (ne_eqb (suc (length xs)) 0 (λ e. omega (arith, e)), omega arith)
 
--- the spans of a text that stands behind colons and a part of a tag
+-- the spans of a text that stands after colons and a part of a tag
 tags_hold : (at : ℕ) (colons part text : List ℕ) → list_all is_colon colons ≡ true → list_all is_other part ≡ true → TagsAt at (colons ++ (part ++ text)) (spans_from (at + length colons) (length part) text)
 tags_hold at colons part [] h k = elim (none_or_some part) [
   | inl none ↦ subst (λ o. TagsAt at (colons ++ (o ++ [])) (span (at + length colons) (length o))) (sym none) (ap (list_all is_colon) (append-nil colons) ∙ h)

@@ -16,23 +16,23 @@ use Rattle.org_head.specs.Tags.{spans_from}
 abbrev pub first_part : Bool → ℕ → List ℕ → Option Span
 first_part is_part n rest = if is_part then Some (record { at = n - length rest; len = length (first_word rest) }) else None
 
--- what is left behind it and the gap that follows
+-- what is left after it and the gap that follows
 abbrev pub behind : Bool → List ℕ → List ℕ
 behind is_part rest = if is_part then trim_start (drop (length (first_word rest)) rest) else rest
 
--- what is left behind the stars and the gap that follows
+-- what is left after the stars and the gap that follows
 abbrev pub behind_stars : List ℕ → List ℕ
 behind_stars line = trim_start (drop (stars line) line)
 
--- what is left behind the keyword too, if it stands there
+-- what is left after the keyword too, if it stands there
 abbrev pub behind_keyword : FileSettings → List ℕ → List ℕ
 behind_keyword settings line = let rest = behind_stars line in behind (is_keyword settings.keywords (first_word rest)) rest
 
--- what is left behind the cookie too, if it stands there
+-- what is left after the cookie too, if it stands there
 abbrev pub behind_cookie : FileSettings → List ℕ → List ℕ
 behind_cookie settings line = let rest = behind_keyword settings line in behind (is_cookie (first_word rest)) rest
 
--- what is left behind COMMENT too, if it stands there
+-- what is left after COMMENT too, if it stands there
 abbrev pub behind_comment : FileSettings → List ℕ → List ℕ
 behind_comment settings line = let rest = behind_cookie settings line in behind (is_comment_word (first_word rest)) rest
 

@@ -1,5 +1,5 @@
 -- What the parts of a heading line are (Org Syntax, "Headings"; that each is a whole word, and what white space is:
--- profile). The line is the spelling of its parts: stars, a gap, and each optional, with a gap behind it, a keyword, a
+-- profile). The line is the spelling of its parts: stars, a gap, and each optional, with a gap after it, a keyword, a
 -- cookie and COMMENT; then the title, a gap and the tags; then a gap. A gap is white space and the line feed.
 -- Characters by their codes: 32 space, 42 *.
 use Rattle.std.specs.Prelude.{ℕ, ◌+◌, ◌≡◌, ◌<◌, ◌⊎◌, Bool, true, false, not, List, [], ◌∷◌, ◌++◌, length, replicate, slice_index, codes, Option, Some, None}
@@ -12,7 +12,7 @@ use Rattle.org_head.specs.Cookie.{is_cookie}
 use Rattle.org_head.specs.Parts.{is_keyword, is_comment_word, is_colon, is_tag_word, last_word}
 use Rattle.org_base.specs.Spans.{bytes_in, IsInside}
 
--- the text begins with a word, whole; behind it stand a gap and what is left, at whose front no gap stands
+-- the text begins with a word, whole; after it stand a gap and what is left, at whose front no gap stands
 pub record Begins (text word left : List ℕ) : Type 0 where
   pub gap : List ℕ
   pub spelled : text ≡ word ++ (gap ++ left)
@@ -42,7 +42,7 @@ abbrev pub ends_tag : List ℕ → Bool
 ends_tag [] = true
 ends_tag (b ∷ bs) = is_colon b
 
--- Behind colons the text has a tag, which isn't empty, and the rest behind it. The text begins at this place of the
+-- After colons the text has a tag, which isn't empty, and the rest after it. The text begins at this place of the
 -- line, and the tag is this part of the line.
 pub record NextTag (at : ℕ) (text : List ℕ) (span : Span) (rest : List ℕ) : Type 0 where
   pub colons : List ℕ
@@ -83,7 +83,7 @@ pub record EndsInTitle (text title : List ℕ) (tags : List Span) : Type 0 where
   pub none : tags ≡ []
 
 -- The parts of a heading line in a file with these settings: one or more stars, as many as the level; a gap, which
--- begins with a space; and the words, of which `from_cookie`, `from_comment` and `text` are left behind the keyword,
+-- begins with a space; and the words, of which `from_cookie`, `from_comment` and `text` are left after the keyword,
 -- the cookie and COMMENT.
 pub record HasParts (settings : FileSettings) (line : List ℕ) (head : Head) : Type 0 where
   pub gap : List ℕ

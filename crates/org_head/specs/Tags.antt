@@ -7,7 +7,7 @@ use Rattle.org_head.specs.Parts.{is_colon}
 abbrev pub span : ℕ → ℕ → List Span
 span at len = if len == 0 then [] else record { at = at; len = len } ∷ []
 
--- the parts between colons of a text that stands behind an open part of so many bytes, which begins at the place
+-- the parts between colons of a text that stands after an open part of so many bytes, which begins at the place
 abbrev pub spans_from : ℕ → ℕ → List ℕ → List Span
 spans_from at len [] = span at len
 spans_from at len (b ∷ bs) = if is_colon b then span at len ++ spans_from (at + len + 1) 0 bs else spans_from at (len + 1) bs

@@ -14,7 +14,7 @@ pub struct Head {
     pub keyword: Option<Span>,
     /// The whole cookie `[#X]`, if there is one.
     pub priority: Option<Span>,
-    /// Whether the word `COMMENT` stands behind them, which hides the heading.
+    /// Whether the word `COMMENT` stands after them, which hides the heading.
     pub comment: bool,
     /// What is left before the tags, without white space at its ends. Where nothing is, it has no bytes.
     pub title: Span,

@@ -69,7 +69,7 @@ impl<'a> Left<'a> {
         self.word
     }
 
-    // The first word as a part of a line of so many bytes, if it is one; and what is left behind it, if it is, and the gap
+    // The first word as a part of a line of so many bytes, if it is one; and what is left after it, if it is, and the gap
     // that follows.
     fn split(self, is_part: bool, line_len: usize) -> (Option<Span>, Left<'a>)
         requires within { length self ≤ line_len }
@@ -92,7 +92,7 @@ impl<'a> Left<'a> {
     }
 }
 
-// How long the title of a text is that begins at a place, and the tags behind it, if its last word is tags.
+// How long the title of a text is that begins at a place, and the tags after it, if its last word is tags.
 fn title_and_tags(alloc: Global, at: usize, text: &[u8]) -> Result<(usize, Spans), AllocError>
     requires { at + length text.now < 2 ^ 32 }
     ensures title { IfOk result (λ parts. parts.0 ≡ length (title_of text.now)) }
@@ -140,9 +140,9 @@ fn read_parts(alloc: Global, line: &[u8], settings: &Settings) -> Result<Head, A
     })
 }
 
-/// The parts of a heading line in a file with these settings: behind the stars, each optional and a whole word, a
+/// The parts of a heading line in a file with these settings: after the stars, each optional and a whole word, a
 /// keyword, a priority cookie and `COMMENT`, then the title, then the tags as the last word (Org Syntax, "Headings").
-/// Want of memory is its only refusal, and can come only from the third tag on.
+/// Out of memory is its only refusal, and can come only from the third tag on.
 #[tactic(auto, using(crate::proofs::PartsHold::parts_hold))]
 pub fn read_head(alloc: Global, line: &[u8], settings: &Settings) -> Result<Head, Fault>
     requires size { length line.now < 2 ^ 32 }

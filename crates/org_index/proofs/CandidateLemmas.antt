@@ -9,7 +9,7 @@ use Rattle.std.specs.BTreeMap.{is_at}
 use Rattle.std.specs.Map.{keys_of, lookup}
 use Rattle.std.proofs.lemmas.Bool.{cases_Bool}
 use Rattle.std.proofs.lemmas.Bool.Decides.{nat_tests}
-use Rattle.org_index.specs.declared.extent.Extent.{Extent}
+use Rattle.org_index.specs.declared.reach.Reach.{Reach}
 use Rattle.org_index.specs.Near.{candidate_ids, is_candidate, is_touching, lies_in, meets, meets_if, touches, touches_if, touching_ids}
 
 -- each number is at least a bound, and more than the one before
@@ -87,10 +87,10 @@ contains_of (x ∷ xs) z at = elim at [
 ]
 
 module _ (from to today : ℕ) where
-  abbrev passes : ℕ × Extent → Bool
+  abbrev passes : ℕ × Reach → Bool
   passes p = meets from to today p.1
 
-  ids_rise : (a : ℕ) (pairs : List (ℕ × Extent)) → Rise a (keys_of pairs) → Rise a (candidate_ids from to today pairs)
+  ids_rise : (a : ℕ) (pairs : List (ℕ × Reach)) → Rise a (keys_of pairs) → Rise a (candidate_ids from to today pairs)
   ids_rise a [] up = tt
   ids_rise a (p ∷ ps) up = elim (cases_Bool (meets from to today p.1)) [
     | inl near ↦ rw near (up.0, ids_rise (p.0 + 1) ps up.1)
@@ -106,15 +106,15 @@ module _ (from to today : ℕ) where
   at_same : (z k : ℕ) → is_at (nat_cmp z) k ≡ true → z ≡ k
   at_same z k e = grind (arith, nat_tests)
 
-  near_own : (z : ℕ) (p : ℕ × Extent) (ps : List (ℕ × Extent)) → z ≡ p.0 → is_candidate (p ∷ ps) from to today z ≡ meets from to today p.1
+  near_own : (z : ℕ) (p : ℕ × Reach) (ps : List (ℕ × Reach)) → z ≡ p.0 → is_candidate (p ∷ ps) from to today z ≡ meets from to today p.1
   near_own z p ps same =
       let here : is_at (nat_cmp z) p.0 ≡ true = ap (λ k. is_at (nat_cmp z) k) (sym same) ∙ at_own z in
       ap (λ b. meets_if from to today (cond b (Some p.1) (lookup (is_at (nat_cmp z)) ps))) here
 
-  near_rest : (z : ℕ) (p : ℕ × Extent) (ps : List (ℕ × Extent)) → is_at (nat_cmp z) p.0 ≡ false → is_candidate (p ∷ ps) from to today z ≡ is_candidate ps from to today z
+  near_rest : (z : ℕ) (p : ℕ × Reach) (ps : List (ℕ × Reach)) → is_at (nat_cmp z) p.0 ≡ false → is_candidate (p ∷ ps) from to today z ≡ is_candidate ps from to today z
   near_rest z p ps other = ap (λ b. meets_if from to today (cond b (Some p.1) (lookup (is_at (nat_cmp z)) ps))) other
 
-  listed_is : (z a : ℕ) (pairs : List (ℕ × Extent)) → Rise a (keys_of pairs) → Among z (candidate_ids from to today pairs) → is_candidate pairs from to today z ≡ true
+  listed_is : (z a : ℕ) (pairs : List (ℕ × Reach)) → Rise a (keys_of pairs) → Among z (candidate_ids from to today pairs) → is_candidate pairs from to today z ≡ true
   listed_is z a [] up at = absurd at
   listed_is z a (p ∷ ps) up at =
       let rest : Among z (candidate_ids from to today ps) → is_candidate (p ∷ ps) from to today z ≡ true = λ more.
@@ -127,7 +127,7 @@ module _ (from to today : ℕ) where
         | inr far ↦ rest (subst (λ b. Among z (keys_of (cond b (p ∷ filter passes ps) (filter passes ps)))) far at)
       ]
 
-  is_listed : (z : ℕ) (pairs : List (ℕ × Extent)) → is_candidate pairs from to today z ≡ true → Among z (candidate_ids from to today pairs)
+  is_listed : (z : ℕ) (pairs : List (ℕ × Reach)) → is_candidate pairs from to today z ≡ true → Among z (candidate_ids from to today pairs)
   is_listed z [] h = absurd (true≢false (sym h))
   is_listed z (p ∷ ps) h = elim (cases_Bool (is_at (nat_cmp z) p.0)) [
     | inl here ↦
@@ -142,14 +142,14 @@ module _ (from to today : ℕ) where
         ]
   ]
 
-  pub candidates_are : (pairs : List (ℕ × Extent)) (ids : List ℕ) → IsStrictlySortedBy nat_cmp (keys_of pairs) → IsStrictlySortedBy nat_cmp ids →
+  pub candidates_are : (pairs : List (ℕ × Reach)) (ids : List ℕ) → IsStrictlySortedBy nat_cmp (keys_of pairs) → IsStrictlySortedBy nat_cmp ids →
       ((id : ℕ) → Contains ids id ↔ IsTrue (is_candidate pairs from to today id)) → ids ≡ candidate_ids from to today pairs
   candidates_are pairs ids up vp exact =
       same_numbers ids (candidate_ids from to today pairs) 0 0 (rises ids vp) (ids_rise 0 pairs (rises (keys_of pairs) up))
       (λ z at. is_listed z pairs ((exact z).0 (contains_of ids z at)))
       (λ z at. among ids z ((exact z).1 (listed_is z 0 pairs (rises (keys_of pairs) up) at)))
 
--- the day behind the last is none of the days, so with it none but those that touch them are near
+-- the day after the last is none of the days, so with it none but those that touch them are near
 beyond : (from to : ℕ) → lies_in from to (to + 1) ≡ false
 beyond from to = grind (arith, nat_tests)
 
@@ -157,10 +157,10 @@ or_false : (a : Bool) → (a || false) ≡ a
 or_false true = refl
 or_false false = refl
 
-meets_beyond : (from to : ℕ) (e : Extent) → meets from to (to + 1) e ≡ touches from to e
+meets_beyond : (from to : ℕ) (e : Reach) → meets from to (to + 1) e ≡ touches from to e
 meets_beyond from to e = ap (λ t. touches from to e || (t && nat_le e.warned (to + 1))) (beyond from to) ∙ or_false (touches from to e)
 
-pub touching_is : (from to : ℕ) (pairs : List (ℕ × Extent)) → candidate_ids from to (to + 1) pairs ≡ touching_ids from to pairs
+pub touching_is : (from to : ℕ) (pairs : List (ℕ × Reach)) → candidate_ids from to (to + 1) pairs ≡ touching_ids from to pairs
 touching_is from to [] = refl
 touching_is from to (p ∷ ps) =
     elim (cases_Bool (touches from to p.1)) [
@@ -168,9 +168,9 @@ touching_is from to (p ∷ ps) =
       | inr far ↦ let both : meets from to (to + 1) p.1 ≡ false = meets_beyond from to p.1 ∙ far in rw (both, far) (touching_is from to ps)
     ]
 
-touches_beyond : (from to : ℕ) (o : Option Extent) → meets_if from to (to + 1) o ≡ touches_if from to o
+touches_beyond : (from to : ℕ) (o : Option Reach) → meets_if from to (to + 1) o ≡ touches_if from to o
 touches_beyond from to None = refl
 touches_beyond from to (Some e) = meets_beyond from to e
 
-pub is_touching_too : (from to id : ℕ) (pairs : List (ℕ × Extent)) → is_candidate pairs from to (to + 1) id ≡ is_touching pairs from to id
+pub is_touching_too : (from to id : ℕ) (pairs : List (ℕ × Reach)) → is_candidate pairs from to (to + 1) id ≡ is_touching pairs from to id
 is_touching_too from to id pairs = touches_beyond from to (lookup (is_at (nat_cmp id)) pairs)

@@ -7,7 +7,7 @@ use Rattle.org_base.specs.declared.profile.Profile.{Profile}
 use Rattle.org_base.specs.declared.profile.Profile.TheVariants.{One, Two}
 use Rattle.org_stamp.specs.declared.stamp.Stamp.{Stamp}
 use Rattle.org_index.specs.Delays.{delay_or}
-use Rattle.org_index.specs.Extents.{last_day, repeats}
+use Rattle.org_index.specs.Reaches.{last_day, repeats}
 use Rattle.org_index.specs.Laws.{IsNear, NearIsMeant, RangeMeets, Repeats}
 use Rattle.org_index.specs.Near.{is_near, lies_in}
 

@@ -6,18 +6,18 @@ ghost use Rattle.std.specs.Map.{keys_of, lookup, remove_entry};
 ghost use Rattle.std.specs.List.Sorted.{IsStrictlySortedBy};
 ghost use Rattle.org_base.specs.Codes.{memory_fault};
 ghost use Rattle.org_base.specs.Results.{Gives, GivesItems};
-ghost use Rattle.org_index.specs.Extents.{extent_of};
-ghost use Rattle.org_index.specs.Lane.{AddsRanges, Keeps};
-ghost use Rattle.org_index.specs.Near.{AreCandidates, AreTouching, CountsCandidates, CountsTouching, HasCandidates, candidate_ids, is_candidate, touching_ids, with_extent};
+ghost use Rattle.org_index.specs.Reaches.{reach_of};
+ghost use Rattle.org_index.specs.DaySet.{AddsRanges, Keeps};
+ghost use Rattle.org_index.specs.Near.{AreCandidates, AreTouching, CountsCandidates, CountsTouching, HasCandidates, candidate_ids, is_candidate, touching_ids, with_reach};
 ghost use Rattle.org_index.specs.Ticks.{examined};
-ghost use Rattle.org_index.specs.declared.spots.TheConstants.{DAY_LIMIT};
+ghost use Rattle.org_index.specs.declared.keys.TheConstants.{DAY_LIMIT};
 
+use crate::day_set::{gather, gather_if};
+use crate::day_sets::DaySets;
 use crate::delays::WARNING_DAYS;
-use crate::extent::Extent;
-use crate::lane::{gather, gather_if};
-use crate::lanes::Lanes;
+use crate::keys::{DAY_LIMIT, bound_of};
 use crate::near::lies_in;
-use crate::spots::{DAY_LIMIT, bound_of};
+use crate::reach::Reach;
 use org_base::{Fault, Meter, Profile, Tick};
 use org_cal::Day;
 use org_stamp::Stamp;
@@ -30,37 +30,37 @@ use std::marker::Model;
 #[derive(Debug, Drop)]
 pub struct DayIndex {
     alloc: Global,
-    extents: BTreeMap<u32, Extent>,
-    lanes: Lanes,
+    reaches: BTreeMap<u32, Reach>,
+    day_sets: DaySets,
 }
 
 impl Model for DayIndex {
     ghost use Rattle.std.specs.Prelude.{ℕ, List};
-    ghost use Rattle.org_index.specs.declared.extent.Extent.{Extent as AnyExtent};
-    ghost use Rattle.org_index.specs.Lanes.{AreLanesOf};
+    ghost use Rattle.org_index.specs.declared.reach.Reach.{Reach as AnyReach};
+    ghost use Rattle.org_index.specs.DaySets.{AreLanesOf};
 
-    ghost Value = { List (ℕ × AnyExtent) };
+    ghost Value = { List (ℕ × AnyReach) };
 
-    ghost view = { λ x. x.extents.entries };
+    ghost view = { λ x. x.reaches.entries };
 
-    ghost invariant = { λ x. AreLanesOf x.extents x.lanes };
+    ghost invariant = { λ x. AreLanesOf x.reaches x.day_sets };
 }
 
-fn keep(extents: &mut BTreeMap<u32, Extent>, id: u32, extent: Extent) -> Result<(), AllocError>
-    ensures ok { OnOk result (extents.new.entries ≡ with_extent extents.old.entries id extent) }
-    ensures updates { OnOk result (Updates nat_cmp extents.old extents.new id (Some extent)) }
-    ensures err { OnErr result (extents.new.entries ≡ extents.old.entries) }
+fn keep(reaches: &mut BTreeMap<u32, Reach>, id: u32, reach: Reach) -> Result<(), AllocError>
+    ensures ok { OnOk result (reaches.new.entries ≡ with_reach reaches.old.entries id reach) }
+    ensures updates { OnOk result (Updates nat_cmp reaches.old reaches.new id (Some reach)) }
+    ensures err { OnErr result (reaches.new.entries ≡ reaches.old.entries) }
 {
     // For the toolchain alone: it has to meet the type of a day.
-    let _day: Day = extent.first;
-    extents.insert(id, extent)?;
+    let _day: Day = reach.first;
+    reaches.insert(id, reach)?;
     Ok(())
 }
 
-fn copy_of(extents: &BTreeMap<u32, Extent>) -> Result<BTreeMap<u32, Extent>, AllocError>
-    ensures { IfOk result (λ copy. copy.entries ≡ extents.now.entries) }
+fn copy_of(reaches: &BTreeMap<u32, Reach>) -> Result<BTreeMap<u32, Reach>, AllocError>
+    ensures { IfOk result (λ copy. copy.entries ≡ reaches.now.entries) }
 {
-    extents.clone()
+    reaches.clone()
 }
 
 impl DayIndex {
@@ -70,8 +70,8 @@ impl DayIndex {
     {
         DayIndex {
             alloc,
-            extents: BTreeMap::new(alloc),
-            lanes: Lanes::new(alloc),
+            reaches: BTreeMap::new(alloc),
+            day_sets: DaySets::new(alloc),
         }
     }
 
@@ -79,32 +79,32 @@ impl DayIndex {
     pub fn contains(&self, id: u32) -> bool
         ensures value { result ≡ is_some (lookup (is_at (nat_cmp id)) self.now) }
     {
-        self.extents.contains_key(&id)
+        self.reaches.contains_key(&id)
     }
 
     /// Puts the stamp, as it is read in a profile, in under an id that isn't in it. Where memory is refused the index is as
     /// before.
     pub fn put(&mut self, stamp: &Stamp, profile: Profile, id: u32) -> Result<(), Fault>
         requires new { lookup (is_at (nat_cmp id)) self.old ≡ None }
-        ensures ok { OnOk result (self.new ≡ with_extent self.old id (extent_of profile stamp.now)) }
+        ensures ok { OnOk result (self.new ≡ with_reach self.old id (reach_of profile stamp.now)) }
         ensures err { OnErr result (self.new ≡ self.old) }
         ensures memory { IsOkUnless result memory_fault }
     {
-        self.put_extent(&Extent::of(stamp, profile), id)?;
+        self.put_reach(&Reach::of(stamp, profile), id)?;
         Ok(())
     }
 
-    fn put_extent(&mut self, extent: &Extent, id: u32) -> Result<(), AllocError>
+    fn put_reach(&mut self, reach: &Reach, id: u32) -> Result<(), AllocError>
         requires new { lookup (is_at (nat_cmp id)) self.old ≡ None }
-        ensures ok { OnOk result (self.new ≡ with_extent self.old id extent.now) }
+        ensures ok { OnOk result (self.new ≡ with_reach self.old id reach.now) }
         ensures err { OnErr result (self.new ≡ self.old) }
     {
-        if let Err(refused) = self.lanes.place(extent, id) {
-            self.lanes.clear(extent, id);
+        if let Err(refused) = self.day_sets.put_id(reach, id) {
+            self.day_sets.clear(reach, id);
             return Err(refused);
         }
-        if let Err(refused) = keep(&mut self.extents, id, *extent) {
-            self.lanes.clear(extent, id);
+        if let Err(refused) = keep(&mut self.reaches, id, *reach) {
+            self.day_sets.clear(reach, id);
             return Err(refused);
         }
         Ok(())
@@ -116,27 +116,26 @@ impl DayIndex {
         ensures ordered { IsStrictlySortedBy nat_cmp (keys_of self.old) }
     {
         // For the proof alone: the ids of a map ascend.
-        let _ordered = self.extents.len();
-        if let Some(extent) = self.extents.remove(&id) {
-            self.lanes.clear(&extent, id);
+        let _ordered = self.reaches.len();
+        if let Some(reach) = self.reaches.remove(&id) {
+            self.day_sets.clear(&reach, id);
         }
     }
 
-    /// An equal index, which later changes of this one don't reach, as changes of it don't reach this one. Want of memory is
-    /// its only refusal.
+    /// An equal index, which later changes of this one don't reach, as changes of it don't reach this one.
     pub fn share(&self) -> Result<DayIndex, Fault>
         ensures value { Gives result self.now }
         ensures memory { IsOkUnless result memory_fault }
     {
         Ok(DayIndex {
             alloc: self.alloc,
-            extents: copy_of(&self.extents)?,
-            lanes: self.lanes.share()?,
+            reaches: copy_of(&self.reaches)?,
+            day_sets: self.day_sets.share()?,
         })
     }
 
     /// The ids of the stamps that are near the days from one to another with a today, ascending, each examined once as the
-    /// meter counts. Want of memory is the only refusal, and then nothing is counted.
+    /// meter counts. Out of memory is the only refusal, and then nothing is counted.
     pub fn candidates(
         &self,
         meter: &mut Meter,
@@ -158,8 +157,8 @@ impl DayIndex {
     }
 
     /// The ids of the stamps that touch the days from one to another, whatever day is today, ascending, each examined once as
-    /// the meter counts. Want of memory is the only refusal, and then nothing is counted.
-    pub fn touching(&self, meter: &mut Meter, from: Day, to: Day) -> Result<Vec<u32>, Fault>
+    /// the meter counts. Out of memory is the only refusal, and then nothing is counted.
+    pub fn ids_touching(&self, meter: &mut Meter, from: Day, to: Day) -> Result<Vec<u32>, Fault>
         requires order { from ≤ to }
         ensures value { GivesItems result (touching_ids from to self.now) }
         ensures exact { IfOk result (λ ids. AreTouching self.now from to ids.items) }
@@ -179,8 +178,8 @@ impl DayIndex {
         ensures ordered { IsStrictlySortedBy nat_cmp (keys_of self.now) }
     {
         // For the proof alone: the ids of a map ascend.
-        let _ordered = self.extents.len();
-        let found = gathered(self, from, to, today)?;
+        let _ordered = self.reaches.len();
+        let found = gather_ids(self, from, to, today)?;
         let mut ids = Vec::new(self.alloc);
         for id in &found {
             if self.is_candidate(from, to, today, *id) {
@@ -194,9 +193,9 @@ impl DayIndex {
     fn is_candidate(&self, from: u32, to: u32, today: u32, id: u32) -> bool
         ensures value { result ≡ is_candidate self.now from to today id }
     {
-        match self.extents.get(&id) {
+        match self.reaches.get(&id) {
             None => false,
-            Some(extent) => extent.touches(from, to) || extent.warns(from, to, today),
+            Some(reach) => reach.touches(from, to) || reach.warns(from, to, today),
         }
     }
 }
@@ -211,18 +210,23 @@ fn count_examined(meter: &mut Meter, count: usize)
 }
 
 // The ids among which those of all near stamps are.
-fn gathered(index: &DayIndex, from: u32, to: u32, today: u32) -> Result<BTreeSet<u32>, AllocError>
+fn gather_ids(index: &DayIndex, from: u32, to: u32, today: u32) -> Result<BTreeSet<u32>, AllocError>
     requires days { (1 ≤ from) × (from ≤ to) × (to < DAY_LIMIT) × (today < DAY_LIMIT) }
     ensures all { IfOk result (HasCandidates index.now from to today) }
 {
     let asked = lies_in(from, to, today);
     let mut found = BTreeSet::new(index.alloc);
-    gather(&mut found, &index.lanes.days, from, to)?;
-    gather_if(&mut found, &index.lanes.days, asked, today + WARNING_DAYS)?;
-    gather(&mut found, &index.lanes.repeating, 0, to)?;
-    gather(&mut found, &index.lanes.delayed, from, to)?;
-    gather_if(&mut found, &index.lanes.warned, asked, today)?;
-    gather_ranges(&mut found, &index.lanes.ranges, from)?;
+    gather(&mut found, &index.day_sets.days, from, to)?;
+    gather_if(
+        &mut found,
+        &index.day_sets.days,
+        asked,
+        today + WARNING_DAYS,
+    )?;
+    gather(&mut found, &index.day_sets.repeating, 0, to)?;
+    gather(&mut found, &index.day_sets.delayed, from, to)?;
+    gather_if(&mut found, &index.day_sets.warned, asked, today)?;
+    gather_ranges(&mut found, &index.day_sets.ranges, from)?;
     Ok(found)
 }
 

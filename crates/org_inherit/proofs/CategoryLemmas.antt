@@ -34,7 +34,7 @@ mark_before m xs lt =
     let all : take (length xs) xs ≡ xs = take_all _ _ (omega arith) in
     rw all at (mark_of_front m xs (length xs) (omega arith) (rw all lt))
 
--- a text may be cut behind the last of some ASCII byte
+-- a text may be cut after the last of some ASCII byte
 pub behind_mark : (m : ℕ) (t : List ℕ) → m < 128 → IsUtf8 t → IsCharBoundary t (length t - suffix_len (is_other m) t)
 behind_mark m t ascii u =
     elim (cases_lt (suffix_len (is_other m) t) (length t)) [

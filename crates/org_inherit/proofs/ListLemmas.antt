@@ -17,7 +17,7 @@ take_one_more (y ∷ ys) (suc i) x h = rw add-one (ap (λ zs. y ∷ zs) (rw add-
 pub any_here : {X : Type 0} (p : X → Bool) (xs : List X) (i : ℕ) (x : X) → slice_get xs i ≡ Some x → p x ≡ true → list_any p (drop i xs) ≡ true
 any_here p xs i x h holds = ap (list_any p) (cut_at xs i x h) ∙ (rw holds refl)
 
--- or leaves it to those behind it
+-- or leaves it to those after it
 pub any_behind : {X : Type 0} (p : X → Bool) (xs : List X) (i : ℕ) (x : X) → slice_get xs i ≡ Some x → p x ≡ false → list_any p (drop (i + 1) xs) ≡ list_any p (drop i xs)
 any_behind p xs i x h fails = sym (ap (list_any p) (cut_at xs i x h) ∙ (rw fails refl))
 

@@ -27,7 +27,7 @@ place_absent p (x ∷ xs) h = elim (cases_Bool (p x)) [
   | inr miss ↦ rw miss (let more = place_absent p xs (rw miss at h) in omega (arith, more))
 ]
 
--- the place stays where something is put behind
+-- the place stays where something is put after
 place_kept : (p : List ℕ → Bool) (xs : List (List ℕ)) (y : List ℕ) → list_any p xs ≡ true → position_or_len p (xs ++ y ∷ []) ≡ position_or_len p xs
 place_kept p [] y h = absurd (cc)
 place_kept p (x ∷ xs) y h = elim (cases_Bool (p x)) [
@@ -35,7 +35,7 @@ place_kept p (x ∷ xs) y h = elim (cases_Bool (p x)) [
   | inr miss ↦ rw miss (let more = place_kept p xs y (rw miss at h) in omega (arith, more))
 ]
 
--- what was put behind, and is not there, has the last place
+-- what was put after, and is not there, has the last place
 place_last : (p : List ℕ → Bool) (xs : List (List ℕ)) (y : List ℕ) → list_any p xs ≡ false → p y ≡ true → position_or_len p (xs ++ y ∷ []) ≡ length xs
 place_last p [] y h hit = rw hit refl
 place_last p (x ∷ xs) y h hit = elim (cases_Bool (p x)) [
@@ -59,7 +59,7 @@ within [] x j e = absurd (cc)
 within (y ∷ ys) x zero e = omega arith
 within (y ∷ ys) x (suc j) e = omega (arith, within ys x j e)
 
--- a tag that is named behind all others
+-- a tag that is named after all others
 ordered_left : (tags all : List (List ℕ)) (x : List ℕ) → AreOrdered tags all → (j k : ℕ) (a b : List ℕ) → j < k → slice_get tags j ≡ Some a → slice_get tags k ≡ Some b → first_place a (all ++ x ∷ []) < first_place b (all ++ x ∷ [])
 ordered_left tags all x h j k a b lt first second =
     let there_a = sym (h.same a) ∙ is_there tags a j first in

@@ -1,4 +1,4 @@
--- What stands before a tree, or behind an entry, has no say in what is inherited.
+-- What stands before a tree, or after an entry, has no say in what is inherited.
 use Rattle.std.proofs.Common.{◌≡◌, ◌∙◌, ℕ, ◌+◌, ◌++◌, ◌<◌, All, Bool, ◌||◌, reverse, Option, List, [], ◌∷◌, length, map, get_or, refl, sym, ap, ap₂, arith}
 use Rattle.std.specs.List.{list_any, flat_map}
 use Rattle.std.specs.Option.{option_or}
@@ -64,7 +64,7 @@ module _ (es fs : List Entry) (g : ℕ → ℕ) (s : StandAt es fs g) (k : ℕ) 
     values = λ name. ap (λ v. first_of (own_value es name) (g k ∷ v)) up ∙ first_same (λ j. j < length fs) (own_value es name) (own_value fs name) g (s.values_same name) (k ∷ ancestors (levels fs) k) within;
   }
 
--- what entries behind others have
+-- what entries after others have
 get_behind : {X : Type 0} (f : Entry → X) (xs ys : List Entry) (j : ℕ) (d : X) → get_or (map f (xs ++ ys)) (length xs + j) d ≡ get_or (map f ys) j d
 get_behind f xs ys j d =
     ap (λ v. get_or v (length xs + j) d) (map-append f xs ys)

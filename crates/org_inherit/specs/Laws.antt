@@ -54,6 +54,6 @@ pub record InheritSame (es fs : List Entry) (i j : ℕ) : Type 0 where
 abbrev pub TreesInheritAlone : Type 0
 TreesInheritAlone = (xs ys : List Entry) (k : ℕ) → BeginsTree (levels xs) (levels ys) → k < length ys → InheritSame (xs ++ ys) ys (length xs + k) k
 
--- what stands behind an entry has no say in what it inherits
+-- what stands after an entry has no say in what it inherits
 abbrev pub LaterSaysNothing : Type 0
 LaterSaysNothing = (xs ys : List Entry) (k : ℕ) → k < length xs → InheritSame (xs ++ ys) xs k k

@@ -52,7 +52,7 @@ tags_at file_tags es i = firsts (file_tags ++ flat_map (own_tags_at es) (lineage
 abbrev pub all_tags : Scope → ℕ → List (List ℕ)
 all_tags scope i = tags_at scope.settings.file_tags scope.entries i
 
--- each tag with a colon behind it
+-- each tag with a colon after it
 abbrev pub closed_tags : List (List ℕ) → List ℕ
 closed_tags [] = []
 closed_tags (tag ∷ tags) = tag ++ (58 ∷ []) ++ closed_tags tags

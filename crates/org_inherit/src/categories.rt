@@ -25,7 +25,7 @@ impl<'a> Model for Categories<'a> {
 }
 
 impl<'a> Categories<'a> {
-    // No categories, with room for so many. Want of memory is its only refusal.
+    // No categories, with room for so many.
     fn with_room(alloc: Global, count: usize) -> Result<Categories<'a>, AllocError>
         ensures value { Gives result [] }
     {
@@ -66,8 +66,8 @@ impl<'a> Categories<'a> {
     }
 }
 
-// The categories of all entries, in a file with this category; None where no entry has its own, since all have the file's
-// then. Want of memory is its only refusal.
+// The categories of all entries, in a file with this category; None where no entry has its own, since all have the
+// file's then.
 pub(crate) fn own_categories<'a>(
     alloc: Global,
     outline: &'a Outline,

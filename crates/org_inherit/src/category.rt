@@ -8,7 +8,7 @@ use crate::values::file_value;
 use org_outline::Outline;
 use org_settings::Settings;
 
-/// The name behind its last slash and without its last extension; a dot in first place begins none.
+/// The name after its last slash and without its last extension; a dot in first place begins none.
 pub fn category_of(name: &str) -> &str
     ensures value { result.now ≡ category_of name.now }
 {
@@ -32,7 +32,7 @@ fn stem(base: &str) -> &str
     &base[..base.len() - behind - 1]
 }
 
-// How many bytes stand behind the last such byte; all where there is none.
+// How many bytes stand after the last such byte; all where there is none.
 fn bytes_behind(bytes: &[u8], byte: u8) -> usize
     ensures within { result ≤ length bytes.now }
     ensures value { result ≡ suffix_len (λ b. not (b == byte)) bytes.now }

@@ -18,7 +18,7 @@ use org_stamp::PlanningKeyword;
 use std::alloc::{AllocError, Global};
 
 // A copy of bytes.
-pub(crate) fn copied(alloc: Global, bytes: &[u8]) -> Result<Bytes, AllocError>
+pub(crate) fn copy_bytes(alloc: Global, bytes: &[u8]) -> Result<Bytes, AllocError>
     ensures value { Gives result bytes.now }
 {
     let bytes = Vec::from_slice(alloc, bytes)?;
@@ -45,7 +45,7 @@ fn priority_text(alloc: Global, number: u8) -> Result<Bytes, AllocError>
     ensures value { Gives result (priority_text number) }
 {
     if number > 64 {
-        copied(alloc, &[number])
+        copy_bytes(alloc, &[number])
     } else {
         decimal(alloc, u32::from(number))
     }
@@ -60,7 +60,7 @@ fn priority_value(
     ensures value { IfOk result (λ text. text ≡ priority_value settings.now entry.now.text cookie) }
 {
     match cookie {
-        Some(cookie) => copied(alloc, cookie_value(entry.part(cookie))),
+        Some(cookie) => copy_bytes(alloc, cookie_value(entry.part(cookie))),
         None => priority_text(alloc, settings.default_priority()),
     }
 }
@@ -70,7 +70,7 @@ fn part_value(alloc: Global, entry: &Entry, part: Option<Span>) -> Result<Option
     ensures value { Gives result (option_map (bytes_in entry.now.text) part) }
 {
     match part {
-        Some(span) => Ok(Some(copied(alloc, entry.part(span))?)),
+        Some(span) => Ok(Some(copy_bytes(alloc, entry.part(span))?)),
         None => Ok(None),
     }
 }

@@ -70,7 +70,7 @@ impl<'a, 'b> Heading<'a, 'b> {
         self.entry.part(self.head.title)
     }
 
-    /// All its tags, own and inherited. Want of memory is the only refusal.
+    /// All its tags, own and inherited.
     pub fn tags(&self) -> Result<Texts, Fault>
         ensures value { Gives result (all_tags self.now.inherit.now self.now.place) }
         ensures memory { IsOkUnless result memory_fault }

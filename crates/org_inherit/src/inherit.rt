@@ -15,7 +15,7 @@ ghost use Rattle.org_inherit.specs.Values.{plain_value};
 use crate::ancestors::{Test, lineage_passes};
 use crate::categories::category_under;
 use crate::category::file_category;
-use crate::heading::{copied, heading_value};
+use crate::heading::{copy_bytes, heading_value};
 use crate::special::{HeadingValue, Special};
 use crate::tables::Tables;
 use crate::tags::{all_tags, tags_value};
@@ -54,7 +54,7 @@ impl<'a> Model for Inherit<'a> {
 
 impl<'a> Inherit<'a> {
     /// What an outline says, in a file of this name with these settings, where the values of these names are inherited.
-    /// It passes over the outline once. Want of memory is its only refusal.
+    /// It passes over the outline once.
     pub fn new(
         alloc: Global,
         outline: &'a Outline,
@@ -134,19 +134,19 @@ impl<'a> Inherit<'a> {
     }
 
     /// The file's tags, the tags of the ancestors from the outermost, and the own tags; of equal ones the first (Org
-    /// manual 9.6, "Tag Inheritance"). Want of memory is its only refusal.
+    /// manual 9.6, "Tag Inheritance").
     pub fn all_tags(&self, place: usize) -> Result<Texts, Fault>
         requires { place < length self.now.entries }
         ensures value { Gives result (all_tags self.now place) }
         ensures memory { IsOkUnless result memory_fault }
     {
         let file_tags = self.settings.file_tags();
-        let tagged = self.tagged(place);
+        let tagged = self.has_any_tags(place);
         all_tags(self.alloc, file_tags, self.outline, place, tagged)
     }
 
     // Whether the entry or an ancestor of it has own tags.
-    fn tagged(&self, place: usize) -> bool
+    fn has_any_tags(&self, place: usize) -> bool
         requires { place < length self.now.entries }
         ensures value { result ≡ one_passes has_tags self.now.entries place }
     {
@@ -158,7 +158,7 @@ impl<'a> Inherit<'a> {
 
     /// The category, lent (Org manual 9.6, "Categories"): the own property `CATEGORY`, else the nearest ancestor's, else
     /// what the file gives to the name in the drawer before its first heading or by `#+PROPERTY`, else `#+CATEGORY`, else
-    /// the file's name behind its last slash and without its last extension.
+    /// the file's name after its last slash and without its last extension.
     pub fn category(&self, place: usize) -> &[u8]
         requires { place < length self.now.entries }
         ensures value { result.now ≡ category self.now place }
@@ -173,26 +173,24 @@ impl<'a> Inherit<'a> {
     }
 
     /// The value of a name, whose letter case doesn't count; None where it is missing. It may be empty.
-    ///
     /// A special name (Org manual 9.6, "Special Properties") has its own value whatever drawers give it: `TODO` the
     /// keyword, `PRIORITY` X of the cookie `[#X]` or else the file's default, `LEVEL` the number of stars, `ITEM` the
     /// title, `CATEGORY` the category, `FILE` the file's name, `TAGS` the own tags and `ALLTAGS` all tags as `:a:b:`,
     /// and `SCHEDULED`, `DEADLINE` and `CLOSED` the stamp as it is written, of a range the first one. An entry without
     /// head has of these the category and the file's name alone.
-    ///
     /// Any other name has the own value; else, if it is inherited, that of the nearest ancestor that has one, else the
-    /// file's: what the drawer before the first heading gives, or `#+PROPERTY` (Org manual 9.6, "Property Inheritance").
-    /// Want of memory is its only refusal.
+    /// file's: what the drawer before the first heading gives, or `#+PROPERTY` (Org manual 9.6, "Property
+    /// Inheritance").
     pub fn value(&self, place: usize, name: &[u8]) -> Result<Option<Bytes>, Fault>
         requires { place < length self.now.entries }
         ensures value { Gives result (value_of self.now place name.now) }
         ensures memory { IsOkUnless result memory_fault }
     {
-        if let Some(special) = Special::named(name) {
+        if let Some(special) = Special::of_name(name) {
             return self.special_value(place, special);
         }
         match self.plain_value(place, name) {
-            Some(value) => Ok(Some(copied(self.alloc, value)?)),
+            Some(value) => Ok(Some(copy_bytes(self.alloc, value)?)),
             None => Ok(None),
         }
     }
@@ -218,8 +216,8 @@ impl<'a> Inherit<'a> {
         ensures memory { IsOkUnless result memory_fault }
     {
         match special {
-            Special::Category => Ok(Some(copied(self.alloc, self.category(place))?)),
-            Special::File => Ok(Some(copied(self.alloc, self.file.as_bytes())?)),
+            Special::Category => Ok(Some(copy_bytes(self.alloc, self.category(place))?)),
+            Special::File => Ok(Some(copy_bytes(self.alloc, self.file.as_bytes())?)),
             Special::AllTags => self.all_tags_value(place),
             Special::Own(value) => self.own_value(place, value),
         }

@@ -34,7 +34,7 @@ impl<'a> Inherits<'a> {
     pub fn push(&mut self, inherit: Inherit<'a>) -> Result<(), AllocFailed<Inherit<'a>>>
         ensures ok { OnOk result (self.new ≡ self.old ++ inherit.entry ∷ []) }
         ensures err { OnErr result (self.new ≡ self.old) }
-        ensures back { IfErr result (λ refused. refused.value ≡ inherit.entry) }
+        ensures returned { IfErr result (λ refused. refused.value ≡ inherit.entry) }
     {
         self.list.push(inherit)
     }

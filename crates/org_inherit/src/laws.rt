@@ -28,7 +28,7 @@ pub fn trees_inherit_alone()
     ensures { TreesInheritAlone }
 {}
 
-/// Entries behind an entry have no say in what it inherits.
+/// Entries after an entry have no say in what it inherits.
 pub fn later_says_nothing()
     ensures { LaterSaysNothing }
 {}

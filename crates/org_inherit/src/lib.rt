@@ -1,5 +1,7 @@
 //! What the outline of a file says of a heading beyond its own lines: tags, values, category, and whether it is hidden.
 //!
+//! Every call that allocates may be refused memory. Where it names no other refusal, that is its only one.
+//!
 //! Each call answers what its definition gives of the entries of one file, the file's settings and name, and the names
 //! whose values are inherited. Lists and clock tables make tables once for a question: which headings are hidden, which
 //! have tags, and where a heading has its own category the categories. An agenda asks of few headings, makes none of
@@ -11,7 +13,7 @@
 //! gathers_one(&mut Inherits::new(alloc), inherit)
 //! // ..
 //! let mut file = File::new(alloc, &mut Meter::new(), text, 0)?;
-//! file.outlined(alloc, &mut Meter::new())
+//! file.read_outline(alloc, &mut Meter::new())
 //! ```
 //!
 //! Lines of `org_measure/src/outline_calls.rt`. Tests: `org_measure/src/outline_calls.rt`, streams `tests/rows/tags-*`,

@@ -38,7 +38,7 @@ impl Special {
     ghost use Rattle.org_inherit.specs.Special.{special_named};
 
     // What a name names, if it is a special one. Letter case doesn't count.
-    pub(crate) fn named(name: &[u8]) -> Option<Special>
+    pub(crate) fn of_name(name: &[u8]) -> Option<Special>
         ensures value { result ≡ special_named name.now }
     {
         if same_word(name, b"CATEGORY") {
@@ -48,7 +48,7 @@ impl Special {
         } else if same_word(name, b"ALLTAGS") {
             Some(Special::AllTags)
         } else {
-            HeadingValue::named(name).map(Special::Own)
+            HeadingValue::of_name(name).map(Special::Own)
         }
     }
 }
@@ -57,7 +57,7 @@ impl HeadingValue {
     ghost use Rattle.org_inherit.specs.Special.{heading_value_named};
 
     // What a name names of a heading's own lines.
-    fn named(name: &[u8]) -> Option<HeadingValue>
+    fn of_name(name: &[u8]) -> Option<HeadingValue>
         ensures value { result ≡ heading_value_named name.now }
     {
         if same_word(name, b"TODO") {

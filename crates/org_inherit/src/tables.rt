@@ -19,7 +19,7 @@ pub(crate) struct Tables<'a> {
 }
 
 impl<'a> Tables<'a> {
-    // Those of an outline, in a file with this category. Want of memory is its only refusal.
+    // Those of an outline, in a file with this category.
     pub(crate) fn of(
         alloc: Global,
         outline: &'a Outline,
@@ -42,7 +42,7 @@ pub(crate) struct Marks {
 }
 
 impl Marks {
-    // Those of all entries, in one pass over the outline. Want of memory is its only refusal.
+    // Those of all entries, in one pass over the outline.
     fn of(alloc: Global, outline: &Outline) -> Result<Marks, AllocError>
         ensures hidden { IfOk result (λ marks. marks.hidden.items ≡ all_passing hides outline.now) }
         ensures tagged { IfOk result (λ marks. marks.tagged.items ≡ all_passing has_tags outline.now) }

@@ -78,7 +78,7 @@ pub(crate) fn parts(alloc: Global, entry: &Entry, spans: &[Span]) -> Result<Text
     Ok(parts)
 }
 
-/// Tags as they are written, `:a:b:`; no tags have no text. Want of memory is its only refusal.
+/// Tags as they are written, `:a:b:`; no tags have no text.
 pub fn tags_text(alloc: Global, tags: &Texts) -> Result<Bytes, AllocError>
     ensures value { Gives result (tags_text tags.now) }
 {
@@ -89,7 +89,7 @@ pub fn tags_text(alloc: Global, tags: &Texts) -> Result<Bytes, AllocError>
     Ok(Bytes::new(text))
 }
 
-// Appends a tag and a colon behind it, and before the first tag one more.
+// Appends a tag and a colon after it, and before the first tag one more.
 fn push_tag(text: &mut Vec<u8>, tag: &[u8]) -> Result<(), AllocError>
     ensures ok { OnOk result (text.new.items ≡ with_shown text.old.items tag.now) }
 {

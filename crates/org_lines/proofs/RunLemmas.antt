@@ -69,7 +69,7 @@ line_in_run run_len c span run n is e =
       };
     }
 
--- what an iterator shows where the first line of its span is known, and what is left behind it
+-- what an iterator shows where the first line of its span is known, and what is left after it
 pub first_cut : (run_len : ℕ → ℕ) (c : List ℕ) (span left : Span) (n m : ℕ) (shown : List Cut) →
     cuts run_len span.at (lines (slice_range c span.at (span.at + span.len))) ≡ shown → span.at + span.len ≤ length c → EndsLine c span n → n ≡ m → left ≡ behind span m →
     shown ≡ record { at = span.at; bytes = slice_range c span.at (span.at + n); lent = nat_le n (run_len span.at) } ∷ cuts run_len left.at (lines (slice_range c left.at (left.at + left.len)))

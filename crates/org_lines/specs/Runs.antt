@@ -12,7 +12,7 @@ pub record IsRun (run_len : ℕ → ℕ) (content : List ℕ) (span : Span) (run
   pub bytes : run ≡ take (length run) (drop span.at content)
   pub goes_on : (k : ℕ) → k < span.len → k < run_len span.at → run_len (span.at + k) ≡ run_len span.at - k
 
--- what is left of a span behind its first bytes
+-- what is left of a span after its first bytes
 abbrev pub behind : Span → ℕ → Span
 behind span len = record { at = span.at + len; len = span.len - len }
 

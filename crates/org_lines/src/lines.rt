@@ -55,14 +55,14 @@ impl<'a, T: Text> Model for Lines<'a, T> {
 }
 
 impl<'a, T: Text> Lines<'a, T> {
-    /// The lines of the span: its bytes cut behind each line feed.
+    /// The lines of the span: its bytes cut after each line feed.
     pub fn new(alloc: Global, text: &'a T, span: Span) -> Lines<'a, T>
         requires { span.at + span.len ≤ length (T.content text.now) }
         ensures cuts { result ≡ cuts_in (T.run_len text.now) (T.content text.now) span }
         ensures lines { map (λ c. c.bytes) result ≡ lines_in (T.content text.now) span }
         ensures joined { concat (map (λ c. c.bytes) result) ≡ bytes_in (T.content text.now) span }
         ensures utf8 { IfUncut (T.content text.now) span (All IsUtf8 (map (λ c. c.bytes) result)) }
-        ensures few { length result ≤ span.len }
+        ensures at_most { length result ≤ span.len }
     {
         // For the proof alone: its contract says that the text is not too long.
         let _len = text.len();
@@ -116,7 +116,7 @@ fn run_at<T: Text>(text: &T, span: Span) -> &[u8]
     &piece[..piece.len().min(span.len as usize)]
 }
 
-// What is left of a span behind its first bytes.
+// What is left of a span after its first bytes.
 fn behind(span: Span, len: u32) -> Span
     requires within { len ≤ span.len }
     requires fits { span.at + span.len < 2 ^ 32 }
@@ -128,7 +128,7 @@ fn behind(span: Span, len: u32) -> Span
     }
 }
 
-// The run of what is left of a span behind its first bytes: the rest of its own run, or the next one.
+// The run of what is left of a span after its first bytes: the rest of its own run, or the next one.
 fn run_behind<'a, T: Text>(text: &'a T, span: Span, run: &'a [u8], len: u32) -> &'a [u8]
     requires len { len ≤ span.len }
     requires within { span.at + span.len ≤ length (T.content text.now) }
@@ -189,7 +189,7 @@ fn len_in(run: &[u8], left: usize) -> Option<usize>
 
 /// The bytes of the span, lent, where they lie in one piece of the text.
 #[tactic(auto, using(crate::proofs::RunLemmas::whole_run, crate::proofs::RunLemmas::short_run))]
-pub fn lent<T: Text>(text: &T, span: Span) -> Option<&[u8]>
+pub fn lend<T: Text>(text: &T, span: Span) -> Option<&[u8]>
     requires { span.at + span.len ≤ length (T.content text.now) }
     ensures value { IfSome result (λ bytes. bytes.now ≡ bytes_in (T.content text.now) span) }
     ensures none { result ≡ None → T.run_len text.now span.at < span.len }
@@ -201,7 +201,7 @@ pub fn lent<T: Text>(text: &T, span: Span) -> Option<&[u8]>
     Some(run)
 }
 
-/// Where the lines of the span begin. Want of memory is the only refusal.
+/// Where the lines of the span begin.
 pub fn line_starts<T: Text>(alloc: Global, text: &T, span: Span) -> Result<Vec<u32>, Fault>
     requires { span.at + span.len ≤ length (T.content text.now) }
     ensures starts { GivesItems result (starts span.at (lines_in (T.content text.now) span)) }

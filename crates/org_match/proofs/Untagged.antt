@@ -1,8 +1,8 @@
--- The verdicts of items that ask of no tag are the same whatever the tags are.
+-- The matches of items that ask of no tag are the same whatever the tags are.
 use Rattle.std.proofs.Common.{◌≡◌, ◌∙◌, ℕ, Bool, true, false, ◌||◌, List, [], ◌∷◌, refl, ap, ap₂, sym}
 use Rattle.std.specs.List.{list_any}
 use Rattle.org_expression.specs.Grammar.{Term, Tag, Found, Compare, Item, item}
-use Rattle.org_match.specs.Verdicts.{ask_tags, asks_tags, either, item_asks_tags, meets, tag_verdicts, term_meets}
+use Rattle.org_match.specs.TagMatches.{ask_tags, asks_tags, either, item_asks_tags, meets, tag_matches, term_meets}
 
 or_left : (a b : Bool) → (a || b) ≡ false → a ≡ false
 or_left true b e = e
@@ -25,7 +25,7 @@ unmet tags (item link sign term) none = none_met tags term none
 same_one : (s t : List (List ℕ)) (i : Item) → item_asks_tags i ≡ false → list_any (meets i) s ≡ list_any (meets i) t
 same_one s t (item link sign term) none = none_met s term none ∙ sym (none_met t term none)
 
-same_all : (s t : List (List ℕ)) (is : List Item) → ask_tags is ≡ false → tag_verdicts s is ≡ tag_verdicts t is
+same_all : (s t : List (List ℕ)) (is : List Item) → ask_tags is ≡ false → tag_matches s is ≡ tag_matches t is
 same_all s t [] none = refl
 same_all s t (i ∷ is) none = ap₂ (λ v vs. v ∷ vs) (same_one s t i (or_left (item_asks_tags i) (ask_tags is) none)) (same_all s t is (or_right (item_asks_tags i) (ask_tags is) none))
 
@@ -34,6 +34,6 @@ either_none [] = refl
 either_none (v ∷ vs) = ap (λ ws. v ∷ ws) (either_none vs)
 
 -- the tags need be right only where they are asked for
-pub verdicts_alike : (s t : List (List ℕ)) (asked : Bool) (is : List Item) → asked ≡ ask_tags is → (asked ≡ true → s ≡ t) → tag_verdicts s is ≡ tag_verdicts t is
-verdicts_alike s t true is so same = ap (λ tags. tag_verdicts tags is) (same refl)
-verdicts_alike s t false is so same = same_all s t is (sym so)
+pub matches_alike : (s t : List (List ℕ)) (asked : Bool) (is : List Item) → asked ≡ ask_tags is → (asked ≡ true → s ≡ t) → tag_matches s is ≡ tag_matches t is
+matches_alike s t true is so same = ap (λ tags. tag_matches tags is) (same refl)
+matches_alike s t false is so same = same_all s t is (sym so)

@@ -19,7 +19,7 @@ tag_item_holds_by answers heading moment i = item_holds (tag_term_holds (answers
 abbrev pub tag_items_hold_by : {F : Type 0} → facts.Ghosts F → F → Moment → List Item → Bool
 tag_items_hold_by answers heading moment is = items_hold (tag_term_holds (answers.tags heading) (answers.value heading) moment) is
 
--- the items behind the slash do
+-- the items after the slash do
 abbrev pub todo_items_hold_by : {F : Type 0} → facts.Ghosts F → F → List Item → Bool
 todo_items_hold_by answers heading is = items_hold (todo_term_holds (answers.keyword heading)) is
 

@@ -20,13 +20,13 @@ pub trait Facts {
     // whether the keyword is a done one
     ghost finished: { Self → Bool };
 
-    /// All tags of the heading, inherited ones too. Want of memory is its only refusal.
+    /// All tags of the heading, inherited ones too.
     fn tags(&self, alloc: Global) -> Result<Texts, Fault>
         ensures value { Gives result (tags self.now) }
         ensures memory { IsOkUnless result memory_fault };
 
     /// The value of a name, if it isn't missing. Special names (Org manual 9.6, "Special Properties") win over a
-    /// drawer's; names ignore ASCII case. Want of memory is its only refusal.
+    /// drawer's; names ignore ASCII case.
     fn value(&self, alloc: Global, name: &[u8]) -> Result<Option<Bytes>, Fault>
         ensures value { Gives result (value self.now name.now) }
         ensures memory { IsOkUnless result memory_fault };

@@ -3,15 +3,15 @@ ghost use Rattle.std.specs.Prelude.{◌≡◌, true, IfOk, IsOkUnless, map};
 ghost use Rattle.org_base.specs.Codes.{memory_fault};
 ghost use Rattle.org_base.specs.Results.{Gives, GivesItems};
 ghost use Rattle.org_match.specs.Facts.{holds_by, is_open_by, tag_items_hold_by, todo_items_hold_by};
-ghost use Rattle.org_match.specs.Verdicts.{ask_tags, tag_verdicts, verdicts_with};
+ghost use Rattle.org_match.specs.TagMatches.{ask_tags, tag_matches, matches_with};
 ghost use Rattle.org_match.specs.Holds.{tag_items, todo_term_holds};
 ghost use Rattle.org_match.specs.Built.{built_item_of, built_term_of};
 
 use crate::built::{BuiltItem, BuiltTerm, Match};
 use crate::facts::Facts;
-use crate::item_matcher::{ItemMatcher, signed};
+use crate::item_matcher::{ItemMatcher, apply_sign};
 use crate::tag_list::TagList;
-use crate::verdicts::TermVerdicts;
+use crate::tag_matches::TermMatches;
 use org_base::{Fault, Texts};
 use org_cal::Moment;
 use org_expression::{Kind, Link};
@@ -31,7 +31,7 @@ impl<'a> Model for Matcher<'a> {
     ghost use Rattle.std.specs.Prelude.{◌≡◌};
     ghost use Rattle.org_expression.specs.Grammar.{Expr};
     ghost use Rattle.org_match.specs.Holds.{tag_items};
-    ghost use Rattle.org_match.specs.Verdicts.{ask_tags};
+    ghost use Rattle.org_match.specs.TagMatches.{ask_tags};
 
     ghost Value = { Expr };
 
@@ -53,7 +53,7 @@ impl Debug for Matcher<'_> {
 }
 
 impl<'a> Matcher<'a> {
-    /// The expression, with what searches for its patterns. Want of memory is its only refusal.
+    /// The expression, with what searches for its patterns.
     pub fn new(alloc: Global, expression: &'a Match) -> Result<Matcher<'a>, Fault>
         ensures value { Gives result expression.now }
         ensures memory { IsOkUnless result memory_fault }
@@ -74,21 +74,21 @@ impl<'a> Matcher<'a> {
         self.asks_tags
     }
 
-    /// For each term before the slash whether one of the tags is what it asks for, or the verdict before says so; there may
-    /// be no verdicts before. So the verdicts of a heading are those of its own tags and those of its parent.
-    pub fn verdicts<T: TagList>(
+    /// For each term before the slash whether one of the tags is what it asks for, or the match before says so; there may
+    /// be no matches before. So the matches of a heading are those of its own tags and those of its parent.
+    pub fn tags_found<T: TagList>(
         &mut self,
         alloc: Global,
         before: &[bool],
         tags: &T,
-    ) -> Result<TermVerdicts, AllocError>
-        ensures value { Gives result (verdicts_with before.now (T.list tags.now) (tag_items self.old)) }
+    ) -> Result<TermMatches, AllocError>
+        ensures value { Gives result (matches_with before.now (T.list tags.now) (tag_items self.old)) }
         ensures unchanged { self.new ≡ self.old }
     {
-        verdicts_of(alloc, before, tags, self.asked.as_mut_slice())
+        matches_of(alloc, before, tags, self.asked.as_mut_slice())
     }
 
-    /// Whether the expression holds of a heading at a moment, as [`Match::test`]. Want of memory is its only refusal, and
+    /// Whether the expression holds of a heading at a moment, as [`Match::test`]. Out of memory is its only refusal, and
     /// leaves the expression as it was.
     pub fn test<F: Facts>(
         &mut self,
@@ -101,19 +101,19 @@ impl<'a> Matcher<'a> {
         ensures unchanged { self.new ≡ self.old }
     {
         let tags = tags_if(alloc, facts, self.asks_tags)?;
-        let verdicts = self.verdicts(alloc, &[], &tags)?;
-        self.test_with(alloc, facts, moment, verdicts.as_slice())
+        let tags_found = self.tags_found(alloc, &[], &tags)?;
+        self.test_with(alloc, facts, moment, tags_found.as_slice())
     }
 
-    /// The same, where the verdicts of all tags of the heading are known. The heading's tags aren't asked for.
+    /// The same, where the matches of all tags of the heading are known. The heading's tags aren't asked for.
     pub fn test_with<F: Facts>(
         &mut self,
         alloc: Global,
         facts: &F,
         moment: &Moment,
-        verdicts: &[bool],
+        tags_found: &[bool],
     ) -> Result<bool, Fault>
-        requires known { verdicts.now ≡ tag_verdicts (F.tags facts.now) (tag_items self.old) }
+        requires known { tags_found.now ≡ tag_matches (F.tags facts.now) (tag_items self.old) }
         ensures value { Gives result (holds_by F.Facts facts.now moment.now self.old) }
         ensures memory { IsOkUnless result memory_fault }
         ensures unchanged { self.new ≡ self.old }
@@ -125,13 +125,13 @@ impl<'a> Matcher<'a> {
         if expression.kind != Kind::Tags && !todo_holds(facts, expression.todo.as_slice()) {
             return Ok(false);
         }
-        tags_hold(alloc, facts, moment, verdicts, self.asked.as_mut_slice())
+        tags_hold(alloc, facts, moment, tags_found, self.asked.as_mut_slice())
     }
 }
 
 impl Match {
     /// Whether the expression holds of a heading at a moment (Org manual 9.6, "Matching tags and properties"). To ask
-    /// of many headings, make a [`Matcher`] of it. Want of memory is its only refusal.
+    /// of many headings, make a [`Matcher`] of it.
     pub fn test<F: Facts>(&self, alloc: Global, facts: &F, moment: Moment) -> Result<bool, Fault>
         ensures value { Gives result (holds_by F.Facts facts.now moment self.now) }
         ensures memory { IsOkUnless result memory_fault }
@@ -164,22 +164,22 @@ fn ask_tags(items: &[BuiltItem]) -> bool
     false
 }
 
-// The verdicts of items on tags, each together with the one before it where there is one.
-fn verdicts_of<T: TagList>(
+// The matches of items on tags, each together with the one before it where there is one.
+fn matches_of<T: TagList>(
     alloc: Global,
     before: &[bool],
     tags: &T,
     items: &mut [ItemMatcher<'_>],
-) -> Result<TermVerdicts, AllocError>
-    ensures value { Gives result (verdicts_with before.now (T.list tags.now) items.old) }
+) -> Result<TermMatches, AllocError>
+    ensures value { Gives result (matches_with before.now (T.list tags.now) items.old) }
     ensures unchanged { items.new ≡ items.old }
 {
-    let mut verdicts = TermVerdicts::new(alloc);
+    let mut tags_found = TermMatches::new(alloc);
     for (place, item) in items.iter_mut().enumerate() {
         let is_met = (place < before.len() && before[place]) || item.meets_one(tags);
-        verdicts.push(is_met)?;
+        tags_found.push(is_met)?;
     }
-    Ok(verdicts)
+    Ok(tags_found)
 }
 
 // The tags of a heading, if they are asked for.
@@ -199,10 +199,10 @@ fn tags_hold<F: Facts>(
     alloc: Global,
     facts: &F,
     moment: &Moment,
-    verdicts: &[bool],
+    tags_found: &[bool],
     items: &mut [ItemMatcher<'_>],
 ) -> Result<bool, Fault>
-    requires known { verdicts.now ≡ tag_verdicts (F.tags facts.now) items.old }
+    requires known { tags_found.now ≡ tag_matches (F.tags facts.now) items.old }
     ensures value { Gives result (tag_items_hold_by F.Facts facts.now moment.now items.old) }
     ensures memory { IsOkUnless result memory_fault }
     ensures unchanged { items.new ≡ items.old }
@@ -215,7 +215,7 @@ fn tags_hold<F: Facts>(
             }
             all = true;
         }
-        all = all && item.holds(alloc, facts, verdicts[place], *moment)?;
+        all = all && item.holds(alloc, facts, tags_found[place], *moment)?;
     }
     Ok(all)
 }
@@ -227,7 +227,7 @@ fn is_open<F: Facts>(facts: &F) -> bool
     facts.keyword().is_some() && !facts.is_finished()
 }
 
-// Whether all keywords of some part between bars are the heading's, or aren't behind a minus.
+// Whether all keywords of some part between bars are the heading's, or aren't after a minus.
 fn todo_holds<F: Facts>(facts: &F, items: &[BuiltItem]) -> bool
     ensures value { result ≡ todo_items_hold_by F.Facts facts.now (map built_item_of items.now) }
 {
@@ -240,13 +240,13 @@ fn todo_holds<F: Facts>(facts: &F, items: &[BuiltItem]) -> bool
             all = true;
         }
         if all {
-            all = signed(item.sign, todo_term_holds(facts, &item.term));
+            all = apply_sign(item.sign, todo_term_holds(facts, &item.term));
         }
     }
     all
 }
 
-// Whether a term behind the slash holds.
+// Whether a term after the slash holds.
 fn todo_term_holds<F: Facts>(facts: &F, term: &BuiltTerm) -> bool
     ensures value { result ≡ todo_term_holds (F.keyword facts.now) (built_term_of term.now) }
 {

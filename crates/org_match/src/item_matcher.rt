@@ -3,10 +3,10 @@ ghost use Rattle.std.specs.Prelude.{◌≡◌, IsOkUnless, bytes_eq};
 ghost use Rattle.std.specs.List.{list_any};
 ghost use Rattle.org_base.specs.Codes.{memory_fault};
 ghost use Rattle.org_base.specs.Results.{Gives};
-ghost use Rattle.org_match.specs.Verdicts.{meets};
+ghost use Rattle.org_match.specs.TagMatches.{meets};
 ghost use Rattle.org_match.specs.Built.{built_item_of};
 ghost use Rattle.org_match.specs.Facts.{tag_item_holds_by};
-ghost use Rattle.org_match.specs.Holds.{is_or, link_of, signed};
+ghost use Rattle.org_match.specs.Holds.{is_or, link_of, apply_sign};
 ghost use Rattle.org_match.specs.Patterns.{found};
 ghost use Rattle.org_expression.specs.Tree.{sign_of};
 
@@ -43,7 +43,7 @@ impl<'a> Model for ItemMatcher<'a> {
 }
 
 impl<'a> ItemMatcher<'a> {
-    // The item, with what searches for its pattern. Want of memory is its only refusal.
+    // The item, with what searches for its pattern.
     pub(crate) fn new(alloc: Global, item: &'a BuiltItem) -> Result<ItemMatcher<'a>, AllocError>
         ensures value { Gives result (built_item_of item.now) }
     {
@@ -77,8 +77,8 @@ impl<'a> ItemMatcher<'a> {
         }
     }
 
-    // Whether the term holds of a heading, or doesn't behind a minus, where it is known whether one of its tags is what
-    // the term asks for. A missing property counts as an empty text. Want of memory is its only refusal.
+    // Whether the term holds of a heading, or doesn't after a minus, where it is known whether one of its tags is what
+    // the term asks for. A missing property counts as an empty text.
     pub(crate) fn holds<F: Facts>(
         &mut self,
         alloc: Global,
@@ -102,13 +102,13 @@ impl<'a> ItemMatcher<'a> {
                 None => compares(moment, *op, &[], value, &mut self.searcher),
             },
         };
-        Ok(signed(item.sign, holds))
+        Ok(apply_sign(item.sign, holds))
     }
 }
 
 // A minus negates its term.
-pub(crate) fn signed(sign: Sign, holds: bool) -> bool
-    ensures value { result ≡ signed (sign_of sign) holds }
+pub(crate) fn apply_sign(sign: Sign, holds: bool) -> bool
+    ensures value { result ≡ apply_sign (sign_of sign) holds }
 {
     match sign {
         Sign::Minus => !holds,

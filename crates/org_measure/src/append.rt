@@ -21,11 +21,11 @@ pub fn append<R: AllocGlobal + Clock + Files<File = File> + Eprint>(
 ) -> u8 {
     match open(rt, path) {
         Ok(mut opened) => append_to(rt, path, &mut opened, line),
-        Err(why) => refused(rt, path, &why),
+        Err(why) => report_refusal(rt, path, &why),
     }
 }
 
-fn refused<R: Eprint>(rt: &R, path: &str, why: &Unfit) -> u8 {
+fn report_refusal<R: Eprint>(rt: &R, path: &str, why: &Unfit) -> u8 {
     let _ = eprintln!(rt; "{path}: {why:?}");
     REFUSED
 }

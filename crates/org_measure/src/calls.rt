@@ -63,7 +63,7 @@ enum Answer {
 pub fn try_calls<R: AllocGlobal + Print>(rt: &R) -> u8 {
     let mut status = AMPLE;
     for call in CALLS {
-        let (answer, is_refused) = tried(rt.alloc(), call);
+        let (answer, is_refused) = try_twice(rt.alloc(), call);
         if is_refused {
             status = REFUSED;
         }
@@ -76,22 +76,22 @@ pub fn try_calls<R: AllocGlobal + Print>(rt: &R) -> u8 {
 }
 
 // A call, and once more where it found no memory: the last answer, and whether it was asked for twice.
-fn tried(alloc: Global, call: Call) -> (Answer, bool) {
-    match answered(alloc, call) {
-        Answer::NoMemory => (answered(alloc, call), true),
+fn try_twice(alloc: Global, call: Call) -> (Answer, bool) {
+    match answer_of(alloc, call) {
+        Answer::NoMemory => (answer_of(alloc, call), true),
         answer => (answer, false),
     }
 }
 
-fn answered(alloc: Global, call: Call) -> Answer {
-    match called(alloc, call) {
+fn answer_of(alloc: Global, call: Call) -> Answer {
+    match run_call(alloc, call) {
         Ok(true) => Answer::AsWanted,
         Err(Fault::Plain(Code::Memory)) => Answer::NoMemory,
         _ => Answer::Other,
     }
 }
 
-fn called(alloc: Global, call: Call) -> Result<bool, Fault> {
+fn run_call(alloc: Global, call: Call) -> Result<bool, Fault> {
     match call {
         Call::Texts => copies_texts(alloc),
         Call::Whole => edits::<Whole>(alloc),

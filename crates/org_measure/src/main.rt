@@ -8,7 +8,7 @@
 //!     org_measure KIND PLACE COUNT READS < TEXT
 //!                                           how many lines an ASCII text has after so many edits, each of which puts one
 //!                                           byte in, read so many times: KIND is `whole` or `pieces`, PLACE `random`, or
-//!                                           `typed`, one byte behind the other from the middle on
+//!                                           `typed`, one byte after the other from the middle on
 //!     org_measure sequence ITEMS COUNT      the size of a sequence of so many items, of which so many were replaced
 //!     org_measure stream DATE TIME          the replies to the commands of standard input, over texts in one string each
 //!     org_measure append PATH LINE          puts the line at the end of the file by one replacement, as it is tried in
@@ -79,7 +79,7 @@ fn main(rt: HostRuntime) -> ExitCode {
     if let Some((path, line)) = append_asked(words.as_slice()) {
         return ExitCode::from(append(&rt, path, line));
     }
-    let Some(part) = asked(words.as_slice()) else {
+    let Some(part) = parse_part(words.as_slice()) else {
         let _ = eprintln!(rt; "org_measure: no such part, see the head of its source");
         return ExitCode::from(2);
     };
@@ -125,7 +125,7 @@ fn read_all<R: AllocGlobal + Input>(rt: &R) -> Option<Vec<u8>> {
 }
 
 // What the program's words say.
-fn asked(words: &[String]) -> Option<Part<'_>> {
+fn parse_part(words: &[String]) -> Option<Part<'_>> {
     if words.len() == 2 && words[1].as_str() == "stamps" {
         return Some(Part::Stamps);
     }
@@ -195,7 +195,7 @@ fn count_stamps(text: &[u8]) -> usize
 }
 
 fn count_occurrences(unit: &str, is_far: bool) -> u64 {
-    let Some(stamp) = daily(unit) else {
+    let Some(stamp) = daily_stamp(unit) else {
         return 0;
     };
     let first = if is_far { FIRST_FAR } else { 1 };
@@ -209,7 +209,7 @@ fn count_occurrences(unit: &str, is_far: bool) -> u64 {
 }
 
 // A stamp of the calendar's first day that repeats by one unit.
-fn daily(unit: &str) -> Option<Stamp> {
+fn daily_stamp(unit: &str) -> Option<Stamp> {
     let text: &[u8] = match unit {
         "h" => b"<0001-01-01 Mon 0:00 +1h>",
         "d" => b"<0001-01-01 Mon +1d>",

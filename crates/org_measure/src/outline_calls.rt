@@ -3,11 +3,11 @@
 use org_base::{Bytes, Code, Fault, Meter, Span, Texts};
 use org_cal::Moment;
 use org_class::{classify, read_settings};
-use org_entry::{Document, Entry, read_entry};
+use org_entry::{Entry, ReadContext, read_entry};
 use org_inherit::{Inherit, Inherits};
-use org_kept::{File, FileOutline};
 use org_match::{Facts, Match};
 use org_outline::{Entries, Outline};
+use org_store::{File, ParsedFile};
 use org_text::{Text, Whole};
 use std::alloc::Global;
 
@@ -24,17 +24,11 @@ fn entry_of<T: Text>(alloc: Global, text: &T) -> Result<Entry, Fault> {
         len: text.len() as u32,
     };
     let classes = classify(alloc, &mut Meter::new(), text, span)?;
-    let document = Document {
+    let context = ReadContext {
         text,
         settings: &settings,
     };
-    read_entry(
-        alloc,
-        &mut Meter::new(),
-        &document,
-        span,
-        classes.as_slice(),
-    )
+    read_entry(alloc, &mut Meter::new(), &context, span, classes.as_slice())
 }
 
 fn section_entry(alloc: Global) -> Result<Entry, Fault> {
@@ -42,7 +36,7 @@ fn section_entry(alloc: Global) -> Result<Entry, Fault> {
     entry_of(alloc, &text)
 }
 
-// Want of memory, where what was given is as before.
+// Out of memory, where what was given is as before.
 fn refused_if(is_as_before: bool) -> Result<bool, Fault> {
     if is_as_before {
         Err(Fault::Plain(Code::Memory))
@@ -51,7 +45,7 @@ fn refused_if(is_as_before: bool) -> Result<bool, Fault> {
     }
 }
 
-// An entry put behind none. Where it is refused it comes back, and there is none still.
+// An entry put after none. Where it is refused it comes back, and there is none still.
 fn pushes(entries: &mut Entries, entry: Entry) -> Result<bool, Fault> {
     match entries.push(entry) {
         Ok(()) => Ok(entries.count() == 1),
@@ -94,7 +88,7 @@ pub fn replaces_entries(alloc: Global) -> Result<bool, Fault> {
     shares(alloc, &mut outline)
 }
 
-// What a file says put behind nothing. Where it is refused it comes back.
+// What a file says put after nothing. Where it is refused it comes back.
 fn gathers_one<'a>(inherits: &mut Inherits<'a>, inherit: Inherit<'a>) -> Result<bool, Fault> {
     match inherits.push(inherit) {
         Ok(()) => Ok(inherits.count() == 1),
@@ -104,15 +98,15 @@ fn gathers_one<'a>(inherits: &mut Inherits<'a>, inherit: Inherit<'a>) -> Result<
     }
 }
 
-fn gathers_of(alloc: Global, outline: &FileOutline, names: &Texts) -> Result<bool, Fault> {
+fn gathers_of(alloc: Global, outline: &ParsedFile, names: &Texts) -> Result<bool, Fault> {
     let inherit = outline.inherit(alloc, "a.org", names)?;
     gathers_one(&mut Inherits::new(alloc), inherit)
 }
 
-fn outline_of(alloc: Global) -> Result<FileOutline, Fault> {
+fn outline_of(alloc: Global) -> Result<ParsedFile, Fault> {
     let text = Whole::of(alloc, SECTION)?;
     let mut file = File::new(alloc, &mut Meter::new(), text, 0)?;
-    file.outlined(alloc, &mut Meter::new())
+    file.read_outline(alloc, &mut Meter::new())
 }
 
 /// What the outlines of files say, gathered.

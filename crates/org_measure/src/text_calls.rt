@@ -24,7 +24,7 @@ fn has_one(texts: &Texts, want: &[u8]) -> bool {
     texts.count() == 1 && texts.get(0) == want
 }
 
-// A second one put behind a first.
+// A second one put after a first.
 fn pushes(texts: &mut Texts) -> Result<bool, Fault> {
     match texts.push(b"second") {
         Ok(()) => Ok(texts.count() == 2),
@@ -87,7 +87,7 @@ fn all_of<T: Text>(text: &T) -> Span
 }
 
 // How many bytes the lines of a text have together.
-fn measured<T: Text>(alloc: Global, text: &T) -> Result<u64, Fault> {
+fn line_bytes<T: Text>(alloc: Global, text: &T) -> Result<u64, Fault> {
     let mut bytes = 0u64;
     for line in Lines::new(alloc, text, all_of(text)) {
         bytes = bytes.saturating_add(line?.bytes.as_slice().len() as u64);
@@ -124,5 +124,5 @@ fn long_line(alloc: Global) -> Result<Pieces, Fault> {
 /// A line that lies in several pieces.
 pub fn assembles_a_line(alloc: Global) -> Result<bool, Fault> {
     let text = long_line(alloc)?;
-    Ok(measured(alloc, &text)? == 4_001)
+    Ok(line_bytes(alloc, &text)? == 4_001)
 }

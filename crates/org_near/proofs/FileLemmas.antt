@@ -14,10 +14,10 @@ use Rattle.org_entry.specs.declared.entry.Entry.{Entry}
 use Rattle.org_index.proofs.CandidateLemmas.{Rise, rises}
 use Rattle.org_inherit.specs.Scope.{Scope}
 use Rattle.org_agenda.specs.Sources.{file_sources, sources_at, sources_from, sources_of}
-use Rattle.org_agenda.specs.declared.source.Source.{Source}
+use Rattle.org_agenda.specs.declared.source.HeadingStamp.{HeadingStamp}
 use Rattle.org_agenda.proofs.ListLemmas.{filter_append}
 use Rattle.org_near.specs.Near.{asked_in, asked_of, is_asked, sources_if}
-use Rattle.org_dated.specs.declared.asked.Asked.{Asked}
+use Rattle.org_stamp_index.specs.declared.near_query.NearQuery.{NearQuery}
 
 abbrev pub Among : ℕ → List ℕ → Type 0
 Among j [] = ⊥
@@ -61,7 +61,7 @@ module _ {X : Type 0} (g : ℕ → List X) where
         ∙ sym (flat_map-cons g i (range_with_len (i + 1) n))
   ]
 
-module _ (a : Asked) (scope : Scope) (file : ℕ) where
+module _ (a : NearQuery) (scope : Scope) (file : ℕ) where
   -- the stamps of entries, one by one
   entries_near : (es : List Entry) (i : ℕ) → ((k : ℕ) → slice_get scope.entries (i + k) ≡ slice_get es k) →
       flat_map (asked_in a scope file) (range_with_len i (length es)) ≡ asked_of a (sources_from scope file i es)
@@ -101,12 +101,12 @@ pub rise : (ks : List ℕ) → IsStrictlySortedBy nat_cmp ks → Rise 0 ks
 rise ks up = rises ks up
 
 -- one heading more
-pub heading_more : (f : ℕ → List Source) (old new all : List Source) (k : ℕ) (rest ks : List ℕ) → new ≡ old ++ f k → rest ≡ k ∷ ks → old ++ flat_map f rest ≡ all → new ++ flat_map f ks ≡ all
+pub heading_more : (f : ℕ → List HeadingStamp) (old new all : List HeadingStamp) (k : ℕ) (rest ks : List ℕ) → new ≡ old ++ f k → rest ≡ k ∷ ks → old ++ flat_map f rest ≡ all → new ++ flat_map f ks ≡ all
 heading_more f old new all k rest ks new_is rest_is so_far =
     ap (λ xs. xs ++ flat_map f ks) new_is ∙ append_assoc old (f k) (flat_map f ks) ∙ ap (λ xs. old ++ xs) (sym (flat_map-cons f k ks)) ∙ ap (λ xs. old ++ flat_map f xs) (sym rest_is) ∙ so_far
 
 -- one file more
-pub near_file_more : (a : Asked) (scopes : List Scope) (i : ℕ) (scope : Scope) (old new all : List Source) → i < length scopes → slice_get scopes i ≡ Some scope → new ≡ old ++ asked_of a (file_sources scope i) →
+pub near_file_more : (a : NearQuery) (scopes : List Scope) (i : ℕ) (scope : Scope) (old new all : List HeadingStamp) → i < length scopes → slice_get scopes i ≡ Some scope → new ≡ old ++ asked_of a (file_sources scope i) →
     old ++ asked_of a (sources_of i (drop i scopes)) ≡ all → new ++ asked_of a (sources_of (i + 1) (drop (i + 1) scopes)) ≡ all
 near_file_more a scopes i scope old new all lt there is so_far =
     let rest : List Scope = drop (i + 1) scopes in
@@ -117,25 +117,25 @@ near_file_more a scopes i scope old new all lt there is so_far =
     ∙ ap (λ ss. old ++ asked_of a (sources_of i ss)) (sym first)
     ∙ so_far
 
-pub near_files_whole : (a : Asked) (scopes : List Scope) (i : ℕ) (xs all : List Source) → length scopes ≤ i → xs ++ asked_of a (sources_of i (drop i scopes)) ≡ all → xs ≡ all
+pub near_files_whole : (a : NearQuery) (scopes : List Scope) (i : ℕ) (xs all : List HeadingStamp) → length scopes ≤ i → xs ++ asked_of a (sources_of i (drop i scopes)) ≡ all → xs ≡ all
 near_files_whole a scopes i xs all le h = sym (append-nil xs) ∙ ap (λ ss. xs ++ asked_of a (sources_of i ss)) (sym (drop_all i scopes le)) ∙ h
 
--- what passes a test goes behind, one by one
-pub passed_more : (p : Source → Bool) (xs : List Source) (i : ℕ) (x : Source) (old new all : List Source) → i < length xs → x ≡ get_or xs i x → p x ≡ true → new ≡ old ++ x ∷ [] →
+-- what passes a test goes after, one by one
+pub passed_more : (p : HeadingStamp → Bool) (xs : List HeadingStamp) (i : ℕ) (x : HeadingStamp) (old new all : List HeadingStamp) → i < length xs → x ≡ get_or xs i x → p x ≡ true → new ≡ old ++ x ∷ [] →
     old ++ filter p (drop i xs) ≡ all → new ++ filter p (drop (i + 1) xs) ≡ all
 passed_more p xs i x old new all lt at passes is so_far =
-    let rest : List Source = drop (i + 1) xs in
+    let rest : List HeadingStamp = drop (i + 1) xs in
     let first : drop i xs ≡ x ∷ rest = drop_more xs i x lt ∙ ap (λ y. y ∷ rest) (sym at) in
     let step : filter p (x ∷ rest) ≡ x ∷ filter p rest = ap (λ b. cond b (x ∷ filter p rest) (filter p rest)) passes in
     ap (λ ys. ys ++ filter p rest) is ∙ append_assoc old (x ∷ []) (filter p rest) ∙ ap (λ ys. old ++ ys) (sym step) ∙ ap (λ ys. old ++ filter p ys) (sym first) ∙ so_far
 
-pub passed_over : (p : Source → Bool) (xs : List Source) (i : ℕ) (x : Source) (old all : List Source) → i < length xs → x ≡ get_or xs i x → p x ≡ false →
+pub passed_over : (p : HeadingStamp → Bool) (xs : List HeadingStamp) (i : ℕ) (x : HeadingStamp) (old all : List HeadingStamp) → i < length xs → x ≡ get_or xs i x → p x ≡ false →
     old ++ filter p (drop i xs) ≡ all → old ++ filter p (drop (i + 1) xs) ≡ all
 passed_over p xs i x old all lt at fails so_far =
-    let rest : List Source = drop (i + 1) xs in
+    let rest : List HeadingStamp = drop (i + 1) xs in
     let first : drop i xs ≡ x ∷ rest = drop_more xs i x lt ∙ ap (λ y. y ∷ rest) (sym at) in
     let step : filter p (x ∷ rest) ≡ filter p rest = ap (λ b. cond b (x ∷ filter p rest) (filter p rest)) fails in
     ap (λ ys. old ++ ys) (sym step) ∙ ap (λ ys. old ++ filter p ys) (sym first) ∙ so_far
 
-pub passed_whole : (p : Source → Bool) (xs : List Source) (i : ℕ) (old all : List Source) → length xs ≤ i → old ++ filter p (drop i xs) ≡ all → old ≡ all
+pub passed_whole : (p : HeadingStamp → Bool) (xs : List HeadingStamp) (i : ℕ) (old all : List HeadingStamp) → length xs ≤ i → old ++ filter p (drop i xs) ≡ all → old ≡ all
 passed_whole p xs i old all le h = sym (append-nil old) ∙ ap (λ ys. old ++ filter p ys) (sym (drop_all i xs le)) ∙ h

@@ -11,24 +11,24 @@ use Rattle.org_entry.specs.Active.{active_stamps, is_planned, stamps_by, stamps_
 use Rattle.org_entry.specs.declared.active.EntryStamp.{EntryStamp}
 use Rattle.org_entry.specs.declared.entry.Entry.{Entry}
 use Rattle.org_head.specs.declared.head.Head.{Head}
-use Rattle.org_index.specs.Extents.{extent_of}
+use Rattle.org_index.specs.Reaches.{reach_of}
 use Rattle.org_index.specs.Near.{touches, warns}
 use Rattle.org_inherit.specs.Hidden.{is_hidden}
 use Rattle.org_inherit.specs.Scope.{Scope}
 use Rattle.org_agenda.specs.Bound.{kept_at, kept_from}
 use Rattle.org_agenda.specs.Sources.{entry_sources, head_sources, owner_of, sources_at, under}
-use Rattle.org_agenda.specs.declared.source.Owner.{Owner}
+use Rattle.org_agenda.specs.declared.source.HeadingRef.{HeadingRef}
 use Rattle.org_agenda.proofs.ListLemmas.{filter_append}
-use Rattle.org_dated.specs.Asked.{asked_of as stamps_asked, is_asked as stamp_asked}
-use Rattle.org_dated.specs.Near.{near_of_entry}
-use Rattle.org_dated.specs.declared.asked.Asked.{Asked}
+use Rattle.org_stamp_index.specs.NearQuery.{asked_of as stamps_asked, is_asked as stamp_asked}
+use Rattle.org_stamp_index.specs.Near.{near_of_entry}
+use Rattle.org_stamp_index.specs.declared.near_query.NearQuery.{NearQuery}
 use Rattle.org_near.specs.Near.{asked_of, is_asked}
 
-module _ (a : Asked) where
-  near_alike : (o : Owner) (s : EntryStamp) → s.is_open ≡ o.is_open → is_asked a (under o s) ≡ stamp_asked a s
-  near_alike o s same = ap (λ b. touches a.from a.to (extent_of a.profile s.stamp) || ((is_planned s.role && b) && warns a.from a.to a.today (extent_of a.profile s.stamp))) (sym same)
+module _ (a : NearQuery) where
+  near_alike : (o : HeadingRef) (s : EntryStamp) → s.is_open ≡ o.is_open → is_asked a (under o s) ≡ stamp_asked a s
+  near_alike o s same = ap (λ b. touches a.from a.to (reach_of a.profile s.stamp) || ((is_planned s.role && b) && warns a.from a.to a.today (reach_of a.profile s.stamp))) (sym same)
 
-  filter_under : (o : Owner) (ss : List EntryStamp) → All (λ s. s.is_open ≡ o.is_open) ss → asked_of a (map (under o) ss) ≡ map (under o) (stamps_asked a ss)
+  filter_under : (o : HeadingRef) (ss : List EntryStamp) → All (λ s. s.is_open ≡ o.is_open) ss → asked_of a (map (under o) ss) ≡ map (under o) (stamps_asked a ss)
   filter_under o [] all = refl
   filter_under o (s ∷ ss) all =
       let one = All-head (λ (t : EntryStamp). t.is_open ≡ o.is_open) s ss all in
@@ -39,7 +39,7 @@ module _ (a : Asked) where
       ]
 
   -- those that are near are the same
-  near_under : (o : Owner) (e : Entry) → asked_of a (entry_sources o e) ≡ map (under o) (stamps_asked a (stamps_under o.is_open e))
+  near_under : (o : HeadingRef) (e : Entry) → asked_of a (entry_sources o e) ≡ map (under o) (stamps_asked a (stamps_under o.is_open e))
   near_under o e = filter_under o (stamps_under o.is_open e) (all_open o.is_open e)
 
   kept_one : (scope : Scope) (file i : ℕ) (e : Entry) (head : Option Head) → length (asked_of a (kept_at scope file i e head)) ≡ length (stamps_asked a (stamps_by scope.settings e head))

@@ -5,31 +5,31 @@ use Rattle.org_entry.specs.declared.entry.Entry.{Entry}
 use Rattle.org_inherit.specs.Scope.{Scope}
 use Rattle.org_agenda.specs.Near.{is_near, near_sources}
 use Rattle.org_agenda.specs.Sources.{file_sources, sources_at}
-use Rattle.org_agenda.specs.declared.source.Source.{Source}
-use Rattle.org_dated.specs.Near.{HasPlace}
-use Rattle.org_dated.specs.declared.asked.Asked.{Asked}
+use Rattle.org_agenda.specs.declared.source.HeadingStamp.{HeadingStamp}
+use Rattle.org_stamp_index.specs.Near.{HasPlace}
+use Rattle.org_stamp_index.specs.declared.near_query.NearQuery.{NearQuery}
 
 -- the stamp is near the days that are asked
-abbrev pub is_asked : Asked → Source → Bool
+abbrev pub is_asked : NearQuery → HeadingStamp → Bool
 is_asked a s = is_near a.profile a.from a.to a.today s
 
 -- of some stamps those that are near
-abbrev pub asked_of : Asked → List Source → List Source
+abbrev pub asked_of : NearQuery → List HeadingStamp → List HeadingStamp
 asked_of a sources = near_sources a.profile a.from a.to a.today sources
 
 -- the stamps of an entry of a file, if it is there
-abbrev pub sources_if : Scope → ℕ → ℕ → Option Entry → List Source
+abbrev pub sources_if : Scope → ℕ → ℕ → Option Entry → List HeadingStamp
 sources_if scope file i None = []
 sources_if scope file i (Some e) = sources_at scope file i e
 
 -- of the entry at a place of a file those that are near
-abbrev pub asked_in : Asked → Scope → ℕ → ℕ → List Source
+abbrev pub asked_in : NearQuery → Scope → ℕ → ℕ → List HeadingStamp
 asked_in a scope file i = asked_of a (sources_if scope file i (slice_get scope.entries i))
 
 -- those of a file
-abbrev pub asked_of_file : Asked → Scope → ℕ → List Source
+abbrev pub asked_of_file : NearQuery → Scope → ℕ → List HeadingStamp
 asked_of_file a scope file = asked_of a (file_sources scope file)
 
 -- a heading whose place isn't in the set has no stamp that is near
-abbrev pub HoldAskedIn : Asked → BTreeSet ℕ → ℕ → Scope → Type 0
+abbrev pub HoldAskedIn : NearQuery → BTreeSet ℕ → ℕ → Scope → Type 0
 HoldAskedIn a places file scope = (i : ℕ) → (HasPlace places i → ⊥) → asked_in a scope file i ≡ []

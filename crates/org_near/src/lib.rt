@@ -6,8 +6,8 @@
 //! ```
 //! let stamps = DatedStamps { inherits, files };
 //! let last = last_of(first, count);
-//! let near = stamps.near(alloc, meter, &days.standpoint, first, last)?;
-//! Agenda::new(alloc, near, &days.standpoint, first, count)
+//! let near = stamps.near(alloc, meter, &days.as_of, first, last)?;
+//! Agenda::new(alloc, near, &days.as_of, first, count)
 //! ```
 //!
 //! Lines of `org_engine/src/agenda.rt`. Tests: `org_tests/src/examined.rt`.

@@ -3,44 +3,44 @@ ghost use Rattle.std.specs.Prelude.{◌≡◌, [], OnOk};
 ghost use Rattle.org_base.specs.Results.{Adds};
 ghost use Rattle.org_agenda.specs.Facts.{HasOwnHead, stamps_at};
 ghost use Rattle.org_agenda.specs.Headings.{HaveHeads};
-ghost use Rattle.org_agenda.specs.Near.{is_pressing};
+ghost use Rattle.org_agenda.specs.Near.{is_reminding};
 ghost use Rattle.org_near.specs.Near.{HoldAskedIn, asked_of, asked_of_file, is_asked};
 
-use org_agenda::{HeadingFacts, Source, heading_at, write_stamps};
-use org_dated::Asked;
+use org_agenda::{HeadingFacts, HeadingStamp, heading_at, write_stamps};
 use org_entry::{EntryStamp, Role};
-use org_index::Extent;
+use org_index::Reach;
 use org_inherit::Inherit;
+use org_stamp_index::NearQuery;
 use std::alloc::{AllocError, Global};
 use std::collections::BTreeSet;
 
 // The stamps that are near the days, as far as they are found, and those of one heading.
 #[derive(Drop)]
-pub(crate) struct NearSources {
-    pub(crate) found: Vec<Source>,
-    own: Vec<Source>,
+pub(crate) struct NearStamps {
+    pub(crate) found: Vec<HeadingStamp>,
+    own: Vec<HeadingStamp>,
     active: Vec<EntryStamp>,
 }
 
-impl NearSources {
+impl NearStamps {
     // No stamps.
-    pub(crate) fn new(alloc: Global) -> NearSources
+    pub(crate) fn new(alloc: Global) -> NearStamps
         ensures value { result.found.items ≡ [] }
     {
-        NearSources {
+        NearStamps {
             found: Vec::new(alloc),
             own: Vec::new(alloc),
             active: Vec::new(alloc),
         }
     }
 
-    // Puts those of a file behind others: of the headings in the set, outside which none has any.
+    // Puts those of a file after others: of the headings in the set, outside which none has any.
     pub(crate) fn push_file(
         &mut self,
         file: usize,
         inherit: &Inherit<'_>,
         places: &BTreeSet<usize>,
-        asked: &Asked,
+        asked: &NearQuery,
     ) -> Result<(), AllocError>
         requires heads { HaveHeads inherit.now.settings inherit.now.entries }
         requires all { HoldAskedIn asked.now places.now file inherit.now }
@@ -56,11 +56,11 @@ impl NearSources {
         Ok(())
     }
 
-    // Puts those of a heading behind others.
+    // Puts those of a heading after others.
     fn push_heading(
         &mut self,
         facts: &HeadingFacts<'_, '_>,
-        asked: &Asked,
+        asked: &NearQuery,
     ) -> Result<(), AllocError>
         requires head { HasOwnHead facts.now }
         ensures ok { Adds result self.old.found self.new.found (asked_of asked.now (stamps_at facts.now)) }
@@ -70,8 +70,12 @@ impl NearSources {
     }
 }
 
-// Puts those of some stamps that are near behind others.
-fn push_near(sources: &mut Vec<Source>, some: &[Source], asked: &Asked) -> Result<(), AllocError>
+// Puts those of some stamps that are near after others.
+fn push_near(
+    sources: &mut Vec<HeadingStamp>,
+    some: &[HeadingStamp],
+    asked: &NearQuery,
+) -> Result<(), AllocError>
     ensures ok { Adds result sources.old sources.new (asked_of asked.now some.now) }
 {
     for source in some {
@@ -83,18 +87,17 @@ fn push_near(sources: &mut Vec<Source>, some: &[Source], asked: &Asked) -> Resul
 }
 
 // Whether a stamp is near the days.
-fn is_near(source: &Source, asked: &Asked) -> bool
+fn is_near(source: &HeadingStamp, asked: &NearQuery) -> bool
     ensures { result ≡ is_asked asked.now source.now }
 {
     let (from, to) = (asked.from.number(), asked.to.number());
-    let extent = Extent::of(&source.stamp, asked.profile);
-    extent.touches(from, to)
-        || (is_pressing(source) && extent.warns(from, to, asked.today.number()))
+    let reach = Reach::of(&source.stamp, asked.profile);
+    reach.touches(from, to) || (is_reminding(source) && reach.warns(from, to, asked.today.number()))
 }
 
 // Whether it stands in the planning line of a heading without a done keyword.
-fn is_pressing(source: &Source) -> bool
-    ensures { result ≡ is_pressing source.now }
+fn is_reminding(source: &HeadingStamp) -> bool
+    ensures { result ≡ is_reminding source.now }
 {
     match source.role {
         Role::Plain => false,

@@ -4,12 +4,12 @@ ghost use Rattle.org_agenda.specs.Bound.{near_count};
 ghost use Rattle.org_agenda.specs.Sources.{sources_of};
 ghost use Rattle.org_near.specs.Stamps.{AreDated};
 
-use crate::near::NearSources;
-use org_agenda::{Source, Stamps, Standpoint};
+use crate::near::NearStamps;
+use org_agenda::{AsOf, HeadingStamp, Stamps};
 use org_base::{Fault, Meter};
 use org_cal::Day;
-use org_dated::{Asked, FileOutline};
 use org_inherit::Inherits;
+use org_stamp_index::{NearQuery, ParsedFile};
 use std::alloc::Global;
 
 /// The stamps of files' headings, found by days: what the headings of each file inherit, and beside it, in the same order, what
@@ -17,7 +17,7 @@ use std::alloc::Global;
 #[derive(Drop)]
 pub struct DatedStamps<'a> {
     pub inherits: &'a Inherits<'a>,
-    pub files: &'a [FileOutline],
+    pub files: &'a [ParsedFile],
 }
 
 impl<'a> Stamps for DatedStamps<'a> {
@@ -31,17 +31,17 @@ impl<'a> Stamps for DatedStamps<'a> {
         &self,
         alloc: Global,
         meter: &mut Meter,
-        standpoint: &Standpoint,
+        as_of: &AsOf,
         from: Day,
         to: Day,
-    ) -> Result<Vec<Source>, Fault> {
-        let asked = Asked {
-            profile: standpoint.profile,
-            today: standpoint.today,
+    ) -> Result<Vec<HeadingStamp>, Fault> {
+        let asked = NearQuery {
+            profile: as_of.profile,
+            today: as_of.today,
             from,
             to,
         };
-        let mut near = NearSources::new(alloc);
+        let mut near = NearStamps::new(alloc);
         for (file, dated) in self.files.iter().enumerate() {
             let places = dated.near(alloc, meter, &asked)?;
             near.push_file(file, self.inherits.get(file), &places, &asked)?;

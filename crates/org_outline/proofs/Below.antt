@@ -163,7 +163,7 @@ nest ls i j a b l h =
     (still_below (level_at ls i) (level_at ls j) (level_at ls (end_of ls i)) (x.first j (omega arith) b) (y.first (end_of ls i) (omega arith) h))
     (x.passes (omega (arith, y.within)))
 
--- an entry past the last has its end right behind it
+-- an entry past the last has its end right after it
 pub end_past : (ls : List (Option ℕ)) (i : ℕ) → length ls ≤ i → end_of ls i ≡ i + 1
 end_past ls i h = let e : length ls - (i + 1) ≡ 0 = omega arith in rw e refl
 

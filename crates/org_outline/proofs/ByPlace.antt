@@ -73,7 +73,7 @@ clones_show v [] (c ∷ cs) h = absurd h
 clones_show v (r ∷ rs) [] h = absurd h
 clones_show v (r ∷ rs) (c ∷ cs) h = λ i. h.0 i ∷ clones_show v rs cs h.1 i
 
--- the end of an entry is behind it and at most the number of entries
+-- the end of an entry is after it and at most the number of entries
 pub end_after : (es : List Entry) (i : ℕ) → i < length es → i < end_of (levels es) i
 end_after es i h = omega (arith, (end_is (levels es) i (omega (arith, h, length-map es level_of))).from)
 

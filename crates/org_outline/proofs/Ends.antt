@@ -56,6 +56,6 @@ first_ends : (ls : List (Option ℕ)) (a n : ℕ) → least_from (λ j. ends Non
 first_ends ls a zero = refl
 first_ends ls a (suc n) = refl
 
--- an entry that is no heading has its end right behind it
+-- an entry that is no heading has its end right after it
 pub no_heading_end : (ls : List (Option ℕ)) (i : ℕ) → level_at ls i ≡ None → end_of ls i ≡ i + 1
 no_heading_end ls i h = rw h (first_ends ls (i + 1) (length ls - (i + 1)))

@@ -63,7 +63,7 @@ none_behind : (ls : List (Option ℕ)) (k : ℕ) (p : Option ℕ) → parent ls 
 none_behind ls k None e = greatest_none (λ x. is_smaller (level_at ls x) (level_at ls k)) k e
 none_behind ls k (Some j) e = λ x a b. (greatest_some (λ x. is_smaller (level_at ls x) (level_at ls k)) k j e).last x (omega arith) b
 
--- over a heading of no smaller level, to behind its parent
+-- over a heading of no smaller level, to after its parent
 pub over_heading : (ls : List (Option ℕ)) (i k a m : ℕ) → NoneFrom ls i (suc k) → level_at ls i ≡ Some m → level_at ls k ≡ Some a → m ≤ a → NoneFrom ls i (behind (parent ls k))
 over_heading ls i k a m r h g l =
     record {

@@ -34,7 +34,7 @@ AncestorsFall = (ls : List (Option ℕ)) (i j : ℕ) → is_above ls i j ≡ tru
 abbrev pub AncestorsOfAncestors : Type 0
 AncestorsOfAncestors = (ls : List (Option ℕ)) (i j k : ℕ) → is_above ls i j ≡ true → is_above ls j k ≡ true → is_above ls i k ≡ true
 
--- the entries that have i as an ancestor are the headings behind it, up to its subtree's end
+-- the entries that have i as an ancestor are the headings after it, up to its subtree's end
 abbrev pub SubtreeIsWhatIsBelow : Type 0
 SubtreeIsWhatIsBelow = (ls : List (Option ℕ)) (i j : ℕ) →
     (is_above ls i j ≡ true) ↔ ((i < j) × (j < end_of ls i) × (is_some (level_at ls j) ≡ true))
@@ -44,15 +44,15 @@ abbrev pub EndIsNotBelow : Type 0
 EndIsNotBelow = (ls : List (Option ℕ)) (i : ℕ) → is_some (level_at ls i) ≡ true → end_of ls i < length ls →
     (is_some (level_at ls (end_of ls i)) ≡ true) × (is_above ls i (end_of ls i) ≡ false)
 
--- of two subtrees the later one ends within the earlier one, or begins behind it
+-- of two subtrees the later one ends within the earlier one, or begins after it
 abbrev pub SubtreesNest : Type 0
 SubtreesNest = (ls : List (Option ℕ)) (i j : ℕ) → i < j → j < end_of ls i → end_of ls j ≤ end_of ls i
 
--- an entry that is no heading has no parent, and its end is right behind it
+-- an entry that is no heading has no parent, and its end is right after it
 abbrev pub OthersStandAlone : Type 0
 OthersStandAlone = (ls : List (Option ℕ)) (i : ℕ) → level_at ls i ≡ None → (parent ls i ≡ None) × (end_of ls i ≡ i + 1)
 
--- a tree begins behind the entries: its first is a heading, and none of them has a smaller level
+-- a tree begins after the entries: its first is a heading, and none of them has a smaller level
 abbrev pub BeginsTree : List (Option ℕ) → List (Option ℕ) → Type 0
 BeginsTree xs ys = (is_some (level_at ys 0) ≡ true) × ((j : ℕ) → is_smaller (level_at xs j) (level_at ys 0) ≡ false)
 
@@ -60,6 +60,6 @@ BeginsTree xs ys = (is_some (level_at ys 0) ≡ true) × ((j : ℕ) → is_small
 abbrev pub TreesStandAlone : Type 0
 TreesStandAlone = (xs ys : List (Option ℕ)) (k : ℕ) → BeginsTree xs ys → ancestors (xs ++ ys) (length xs + k) ≡ map (λ i. length xs + i) (ancestors ys k)
 
--- what stands behind an entry has no say in its ancestors
+-- what stands after an entry has no say in its ancestors
 abbrev pub LaterHasNoSay : Type 0
 LaterHasNoSay = (xs ys : List (Option ℕ)) (k : ℕ) → k < length xs → ancestors (xs ++ ys) k ≡ ancestors xs k

@@ -46,6 +46,6 @@ abbrev pub up_from : List (Option ℕ) → Option ℕ → List ℕ
 up_from ls None = []
 up_from ls (Some j) = j ∷ ancestors ls j
 
--- the table has the subtree ends of the entries behind a place
+-- the table has the subtree ends of the entries after a place
 abbrev pub AreEndsBehind : List (Option ℕ) → ℕ → List ℕ → Type 0
 AreEndsBehind levels place ends = (k : ℕ) → place < k → k < length levels → slice_index ends k ≡ end_of levels k

@@ -44,13 +44,13 @@ fn append(list: &mut Vec<Rc<Entry>>, more: &[Rc<Entry>]) -> Result<(), AllocErro
 }
 
 impl Body {
-    // The entries of a list. Want of memory hands the list back.
+    // The entries of a list. Out of memory hands the list back.
     pub(crate) fn new(
         alloc: Global,
         list: Vec<Rc<Entry>>,
     ) -> Result<Body, AllocFailed<Vec<Rc<Entry>>>>
         ensures value { Gives result (held_in list.items) }
-        ensures back { IfErr result (λ failed. held_in failed.value.items ≡ held_in list.items) }
+        ensures returned { IfErr result (λ failed. held_in failed.value.items ≡ held_in list.items) }
     {
         match parent_table(alloc, &Levels::of(&list)) {
             Ok(parents) => Ok(Body { list, parents }),
@@ -66,7 +66,7 @@ impl Body {
     }
 
     // These entries in the place of those in the range.
-    pub(crate) fn replaced(
+    pub(crate) fn with_range(
         &self,
         alloc: Global,
         range: Range<usize>,
@@ -84,7 +84,7 @@ impl Body {
     }
 
     // Puts an entry in the place of the one at a place. Where both have one level no other entry is looked at; else the
-    // table of parents is made anew. Want of memory leaves the entries as before.
+    // table of parents is made anew. Out of memory leaves the entries as before.
     pub(crate) fn set(
         &mut self,
         alloc: Global,

@@ -36,7 +36,7 @@ impl Entries {
         }
     }
 
-    /// No entries, with room for so many. Want of memory is its only refusal.
+    /// No entries, with room for so many.
     pub fn with_room(alloc: Global, count: usize) -> Result<Entries, Fault>
         ensures value { Gives result [] }
         ensures memory { IsOkUnless result memory_fault }
@@ -45,12 +45,12 @@ impl Entries {
         Ok(Entries { alloc, list })
     }
 
-    /// Puts an entry at the end. Want of memory is the only refusal: it hands the entry back, and the entries are as
+    /// Puts an entry at the end. Out of memory is the only refusal: it hands the entry back, and the entries are as
     /// before.
     pub fn push(&mut self, entry: Entry) -> Result<(), AllocFailed<Entry>>
         ensures ok { OnOk result (self.new ≡ self.old ++ entry ∷ []) }
         ensures err { OnErr result (self.new ≡ self.old) }
-        ensures back { IfErr result (λ refused. refused.value ≡ entry) }
+        ensures returned { IfErr result (λ refused. refused.value ≡ entry) }
     {
         if self.list.reserve(1).is_err() {
             return Err(AllocFailed { value: entry });
@@ -60,7 +60,7 @@ impl Entries {
         Ok(())
     }
 
-    /// Puts an entry that others hold too at the end, at the cost of one count. Want of memory is the only refusal, and
+    /// Puts an entry that others hold too at the end, at the cost of one count. Out of memory is the only refusal, and
     /// leaves the entries as before.
     pub fn push_shared(&mut self, entry: &Rc<Entry>) -> Result<(), Fault>
         ensures ok { OnOk result (self.new ≡ self.old ++ entry.now.value ∷ []) }

@@ -23,7 +23,7 @@ pub fn ancestors_of_ancestors()
     ensures { AncestorsOfAncestors }
 {}
 
-/// The entries below a heading are the headings behind it up to its subtree's end.
+/// The entries below a heading are the headings after it up to its subtree's end.
 pub fn subtree_is_what_is_below()
     ensures { SubtreeIsWhatIsBelow }
 {}
@@ -39,7 +39,7 @@ pub fn subtrees_nest()
     ensures { SubtreesNest }
 {}
 
-/// An entry that is no heading has no parent, and its end is right behind it.
+/// An entry that is no heading has no parent, and its end is right after it.
 pub fn others_stand_alone()
     ensures { OthersStandAlone }
 {}
@@ -50,7 +50,7 @@ pub fn trees_stand_alone()
     ensures { TreesStandAlone }
 {}
 
-/// Entries behind an entry have no say in its ancestors.
+/// Entries after an entry have no say in its ancestors.
 #[tactic(auto, using(crate::proofs::Trees::later_has_no_say))]
 pub fn later_has_no_say()
     ensures { LaterHasNoSay }

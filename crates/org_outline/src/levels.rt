@@ -132,7 +132,7 @@ pub(crate) fn parent_table(alloc: Global, levels: &Levels<'_>) -> Result<Vec<usi
     Ok(parents)
 }
 
-// Where the subtree of an entry ends, from the subtree ends of those behind it. With an entry its whole subtree is below,
+// Where the subtree of an entry ends, from the subtree ends of those after it. With an entry its whole subtree is below,
 // so the search goes on at its end.
 fn end_from(levels: &Levels<'_>, all_ends: &[usize], place: usize) -> usize
     requires within { place < length levels.now }

@@ -1,5 +1,7 @@
 //! The entries of a text with parents, ancestors and subtree ends.
 //!
+//! Every call that allocates may be refused memory. Where it names no other refusal, that is its only one.
+//!
 //! An outline is seen as the list of its entries. The parent of a heading is the nearest earlier heading of a smaller
 //! level, and its subtree ends before the first later heading that isn't below it. Parents are made in one pass that
 //! jumps along what it holds already, so no heading is searched for; subtree ends are made where they are asked for.

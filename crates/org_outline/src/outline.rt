@@ -37,7 +37,7 @@ impl Model for Outline {
     ghost view = { λ s. held s.body };
 }
 
-/// Want of memory, with the entries that weren't put in.
+/// Out of memory, with the entries that weren't put in.
 #[derive(Debug, Drop)]
 pub struct Refused {
     pub entries: Entries,
@@ -60,12 +60,12 @@ impl Outline {
         Outline { alloc, body: None }
     }
 
-    /// An outline of these entries. Want of memory is the only refusal.
+    /// An outline of these entries.
     pub fn of(alloc: Global, entries: Entries) -> Result<Outline, Fault>
         ensures value { Gives result entries }
         ensures memory { IsOkUnless result memory_fault }
     {
-        match shared(alloc, entries.into_list()) {
+        match share_body(alloc, entries.into_list()) {
             Ok(body) => Ok(Outline {
                 alloc,
                 body: Some(body),
@@ -105,7 +105,7 @@ impl Outline {
     }
 
     /// Where the subtree ends: the place of the first later heading that isn't below the entry, else the number of
-    /// entries. That of an entry without head ends right behind it. It passes over the subtree, so who asks of many
+    /// entries. That of an entry without head ends right after it. It passes over the subtree, so who asks of many
     /// entries asks for [`Outline::ends`].
     pub fn end_of(&self, place: usize) -> usize
         requires { place < length self.now }
@@ -119,8 +119,7 @@ impl Outline {
         }
     }
 
-    /// Where the subtrees of all entries end, by their places, in one pass over the entries. Want of memory is its only
-    /// refusal.
+    /// Where the subtrees of all entries end, by their places, in one pass over the entries.
     pub fn ends(&self, alloc: Global) -> Result<Vec<usize>, AllocError>
         ensures value { GivesItems result (all_ends (levels self.now)) }
     {
@@ -131,7 +130,7 @@ impl Outline {
     }
 
     /// An equal outline, which later changes of this one don't reach, as changes of it don't reach this one. It takes
-    /// the same time whatever the number of entries. Want of memory is its only refusal.
+    /// the same time whatever the number of entries.
     pub fn share(&self) -> Result<Outline, Fault>
         ensures value { Gives result self.now }
         ensures memory { IsOkUnless result memory_fault }
@@ -146,14 +145,14 @@ impl Outline {
         })
     }
 
-    /// Puts entries in the place of those in the range. Want of memory is the only refusal: it hands the entries back,
+    /// Puts entries in the place of those in the range. Out of memory is the only refusal: it hands the entries back,
     /// and the outline is as before. It takes a pass over all entries.
     pub fn replace(&mut self, range: Range<usize>, entries: Entries) -> Result<(), Refused>
         requires order { range.start ≤ range.end }
         requires within { range.end ≤ length self.old }
         ensures ok { OnOk result (self.new ≡ splice self.old range.start range.end entries) }
         ensures err { OnErr result (self.new ≡ self.old) }
-        ensures back { IfErr result (λ refused. refused.entries ≡ entries) }
+        ensures returned { IfErr result (λ refused. refused.entries ≡ entries) }
     {
         let Some(body) = &self.body else {
             return self.fill(entries);
@@ -182,7 +181,7 @@ impl Outline {
 
     /// Puts an entry, which others may hold too, in the place of the one at a place. Where both have one level no other
     /// entry is looked at, unless the outline is shared with another one: then its lists are copied first. Else the table
-    /// of parents is made anew by a pass over all entries. Want of memory is the only refusal, and leaves the outline as
+    /// of parents is made anew by a pass over all entries. Out of memory leaves the outline as
     /// before.
     pub fn set(&mut self, place: usize, entry: &Rc<Entry>) -> Result<(), Fault>
         requires { place < length self.old }
@@ -201,9 +200,9 @@ impl Outline {
         requires empty { self.old ≡ [] }
         ensures ok { OnOk result (self.new ≡ entries) }
         ensures err { OnErr result (self.new ≡ self.old) }
-        ensures back { IfErr result (λ refused. refused.entries ≡ entries) }
+        ensures returned { IfErr result (λ refused. refused.entries ≡ entries) }
     {
-        match shared(self.alloc, entries.into_list()) {
+        match share_body(self.alloc, entries.into_list()) {
             Ok(body) => {
                 self.body = Some(body);
                 Ok(())
@@ -215,10 +214,10 @@ impl Outline {
     }
 }
 
-// The body of a list, to be shared. Want of memory hands the list back.
-fn shared(alloc: Global, list: Vec<Rc<Entry>>) -> Result<Rc<Body>, AllocFailed<Vec<Rc<Entry>>>>
+// The body of a list, to be shared. Out of memory hands the list back.
+fn share_body(alloc: Global, list: Vec<Rc<Entry>>) -> Result<Rc<Body>, AllocFailed<Vec<Rc<Entry>>>>
     ensures value { IfOk result (λ b. b.value ≡ held_in list.items) }
-    ensures back { IfErr result (λ failed. held_in failed.value.items ≡ held_in list.items) }
+    ensures returned { IfErr result (λ failed. held_in failed.value.items ≡ held_in list.items) }
 {
     let body = Body::new(alloc, list)?;
     match Rc::new(alloc, body) {
@@ -240,11 +239,11 @@ fn shared_with(
     requires within { range.end ≤ length body.now }
     ensures value { IfOk result (λ b. b.value ≡ splice body.now range.start range.end entries.now) }
 {
-    let body = body.replaced(alloc, range, entries.as_slice())?;
+    let body = body.with_range(alloc, range, entries.as_slice())?;
     Ok(Rc::new(alloc, body)?)
 }
 
-// Puts an entry, which others may hold too, in the place of the one at a place of a body that may be shared. Want of memory
+// Puts an entry, which others may hold too, in the place of the one at a place of a body that may be shared. Out of memory
 // leaves the entries as before.
 fn set_in(
     alloc: Global,

@@ -114,7 +114,7 @@ impl<'a, R: Files<File = File>> Disk<'a, R> {
     }
 
     // The open file of that name, if it was made.
-    fn made(&self, name: Name) -> Result<&File, Cause> {
+    fn open_file(&self, name: Name) -> Result<&File, Cause> {
         match (name, &self.temporary, &self.rescue) {
             (Name::Temporary, Some(file), _) => Ok(file),
             (Name::Rescue, _, Some(rescue)) => Ok(&rescue.file),
@@ -123,12 +123,12 @@ impl<'a, R: Files<File = File>> Disk<'a, R> {
     }
 
     fn write_to(&self, name: Name, bytes: &[u8]) -> Result<(), Cause> {
-        let mut file = self.made(name)?;
+        let mut file = self.open_file(name)?;
         answer(file.write_all(bytes))
     }
 
     fn sync_file(&self, name: Name) -> Result<(), Cause> {
-        answer(self.made(name)?.sync_all())
+        answer(self.open_file(name)?.sync_all())
     }
 
     // The bytes of a file, and the file.
@@ -176,7 +176,7 @@ impl<'a, R: Files<File = File>> Store for Disk<'a, R> {
     }
 
     fn give_access(&mut self, name: Name) -> Result<(), Cause> {
-        answer(self.access.give_to(self.made(name)?))?;
+        answer(self.access.give_to(self.open_file(name)?))?;
         self.record.note_gave_access(name);
         Ok(())
     }

@@ -9,7 +9,7 @@
 //! ```
 //! match open(rt, path) {
 //!     Ok(mut opened) => append_to(rt, path, &mut opened, line),
-//!     Err(why) => refused(rt, path, &why),
+//!     Err(why) => report_refusal(rt, path, &why),
 //! }
 //! // ..
 //! match replace(rt.alloc(), disk, old, &new) {

@@ -71,7 +71,7 @@ pub fn open<'a, R: AllocGlobal + Clock + Files<File = File>>(
         return Err(Unfit::Irregular);
     };
     let _unlocked = fit(rt, real.as_str())?;
-    let lock = locked(rt, real.as_str())?;
+    let lock = take_lock(rt, real.as_str())?;
     let found = fit(rt, real.as_str())?;
     free_of_editors(rt, folder, name)?;
     let paths = paths_of(rt.alloc(), folder, name)?;
@@ -165,7 +165,7 @@ fn is_unsaved_in_vim<R: Files<File = File>>(rt: &R, swap: &str) -> bool {
 }
 
 // The lock of the file that a path leads to; none where the file system knows no locks. It is waited for, for a while.
-fn locked<R: Clock + Files<File = File>>(rt: &R, path: &str) -> Result<Option<File>, Unfit> {
+fn take_lock<R: Clock + Files<File = File>>(rt: &R, path: &str) -> Result<Option<File>, Unfit> {
     for _ in 0..TRIES {
         let file = OpenOptions::new().read(true).write(true).open(rt, path)?;
         match file.try_lock() {

@@ -32,13 +32,13 @@ joined_sums f g p q xs ys a b m n fits = record {
   count_is = omega (arith, m.count_is, n.count_is, length-append xs ys);
   size_is = omega (arith, m.size_is, n.size_is, sum_by-append f xs ys);
   lines_is = omega (arith, m.lines_is, n.lines_is, sum_by-append g xs ys);
-  marks_is = omega (arith, m.marks_is, n.marks_is, joined_marks p xs ys);
+  pending_is = omega (arith, m.pending_is, n.pending_is, joined_marks p xs ys);
   flags_is = omega (arith, m.flags_is, n.flags_is, joined_marks q xs ys);
   covered = record {
     fits = fits;
     count = omega (arith, m.covered.count, n.covered.count);
     lines = omega (arith, m.covered.lines, n.covered.lines);
-    marks = omega (arith, m.covered.marks, n.covered.marks);
+    pending = omega (arith, m.covered.pending, n.covered.pending);
     flags = omega (arith, m.covered.flags, n.covered.flags);
   };
 }
@@ -49,7 +49,7 @@ sums_more f g p q xs i x a b lt is m n fits =
     let e : take i xs ++ x ∷ [] ≡ take (i + 1) xs = ap (λ y. take i xs ++ y ∷ []) is ∙ sym (take_more xs i x lt) in
     subst (λ zs. AreSums f g p q zs (sums_together a b)) e (joined_sums f g p q (take i xs) (x ∷ []) a b m n fits)
 
--- what the items before a place add up to, where the place lies behind all of the left side
+-- what the items before a place add up to, where the place lies after all of the left side
 pub sums_behind : {T : Type 0} (f g : T → ℕ) (p q : T → Bool) (xs ls rs vs bs : List T) (at k n : ℕ) (a b : Sums) → xs ≡ ls ++ rs → vs ≡ ls → bs ≡ rs → n ≡ length ls → at ≡ n + k → AreSums f g p q vs a → AreSums f g p q (take k bs) b → sum_by f xs < 2 ^ 32 → (a.size + b.size < 2 ^ 32) × AreSums f g p q (take at xs) (sums_together a b)
 sums_behind f g p q xs ls rs vs bs at k n a b is same_left same_right len e m r fits =
     let left : AreSums f g p q ls a = subst (λ ys. AreSums f g p q ys a) same_left m in

@@ -35,21 +35,21 @@ module _ {T : Type 0} where
   forked l r = (l.0 ++ r.0, max l.1 r.1 + 1)
 
   -- a leaf has some items, not too many, and knows their sums
-  pub record IsLeaf (size lines : T → ℕ) (marked flagged : T → Bool) (items : List T) (s : Sums) : Type 0 where
+  pub record IsLeaf (size lines : T → ℕ) (pending flagged : T → Bool) (items : List T) (s : Sums) : Type 0 where
     pub some : 0 < length items
     pub few : length items ≤ MAX_LEAF
-    pub sums : AreSums size lines marked flagged items s
+    pub sums : AreSums size lines pending flagged items s
 
   -- a fork knows the sums of both sides: neither is empty, and they are balanced
-  pub record IsFork (size lines : T → ℕ) (marked flagged : T → Bool) (l r : List T × ℕ) (s : Sums) (h : ℕ) : Type 0 where
-    pub sums : AreSums size lines marked flagged (l.0 ++ r.0) s
+  pub record IsFork (size lines : T → ℕ) (pending flagged : T → Bool) (l r : List T × ℕ) (s : Sums) (h : ℕ) : Type 0 where
+    pub sums : AreSums size lines pending flagged (l.0 ++ r.0) s
     pub height_is : h ≡ max l.1 r.1 + 1
-    pub balanced : DifferByAtMost 1 l.1 r.1
+    pub heights : DifferByAtMost 1 l.1 r.1
     pub left : 0 < length l.0
     pub right : 0 < length r.0
     pub low : h < s.count
     pub shallow : least h ≤ s.count
 
   abbrev pub IsTree : (T → ℕ) → (T → ℕ) → (T → Bool) → (T → Bool) → Node T → Type 0
-  IsTree size lines marked flagged (Leaf items sums) = IsLeaf size lines marked flagged items.items sums
-  IsTree size lines marked flagged (Fork l r sums h) = IsFork size lines marked flagged l.value r.value sums h
+  IsTree size lines pending flagged (Leaf items sums) = IsLeaf size lines pending flagged items.items sums
+  IsTree size lines pending flagged (Fork l r sums h) = IsFork size lines pending flagged l.value r.value sums h

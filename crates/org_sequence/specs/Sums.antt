@@ -4,7 +4,7 @@ use Rattle.std.specs.List.{sum_by, count_by}
 use Rattle.org_sequence.specs.declared.measured.Measure.{Measure}
 use Rattle.org_sequence.specs.declared.measured.Measure.TheVariants.{Size, Lines}
 use Rattle.org_sequence.specs.declared.measured.Sign.{Sign}
-use Rattle.org_sequence.specs.declared.measured.Sign.TheVariants.{Mark, Flag}
+use Rattle.org_sequence.specs.declared.measured.Sign.TheVariants.{Pending, Flag}
 use Rattle.org_sequence.specs.declared.sums.Sums.{Sums}
 
 -- the size fits, neither lines nor items are more than it, and no more items bear a sign than there are
@@ -12,7 +12,7 @@ pub record AreCovered (s : Sums) : Type 0 where
   pub fits : s.size < 2 ^ 32
   pub count : s.count ≤ s.size
   pub lines : s.lines ≤ s.size
-  pub marks : s.marks ≤ s.count
+  pub pending : s.pending ≤ s.count
   pub flags : s.flags ≤ s.count
 
 -- what two parts add up to
@@ -21,7 +21,7 @@ sums_together a b = record {
   count = a.count + b.count;
   size = a.size + b.size;
   lines = a.lines + b.lines;
-  marks = a.marks + b.marks;
+  pending = a.pending + b.pending;
   flags = a.flags + b.flags;
 }
 
@@ -33,14 +33,14 @@ module _ {T : Type 0} where
 
   -- whether an item bears a sign
   abbrev pub bears : (T → Bool) → (T → Bool) → Sign → T → Bool
-  bears marked flagged Mark = marked
-  bears marked flagged Flag = flagged
+  bears pending flagged Pending = pending
+  bears pending flagged Flag = flagged
 
   -- what the items of a list add up to
-  pub record AreSums (size lines : T → ℕ) (marked flagged : T → Bool) (items : List T) (s : Sums) : Type 0 where
+  pub record AreSums (size lines : T → ℕ) (pending flagged : T → Bool) (items : List T) (s : Sums) : Type 0 where
     pub count_is : s.count ≡ length items
     pub size_is : s.size ≡ sum_by size items
     pub lines_is : s.lines ≡ sum_by lines items
-    pub marks_is : s.marks ≡ count_by marked items
+    pub pending_is : s.pending ≡ count_by pending items
     pub flags_is : s.flags ≡ count_by flagged items
     pub covered : AreCovered s

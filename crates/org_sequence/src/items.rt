@@ -10,7 +10,7 @@ use std::marker::Model;
 #[derive(Debug, Drop)]
 pub struct Items<'a, T: Measured> {
     sequence: &'a Sequence<T>,
-    // Items that lie together, and the place behind them.
+    // Items that lie together, and the place after them.
     run: &'a [T],
     at: u32,
 }

@@ -17,7 +17,7 @@ fn fork<T: Measured>(
     left: Rc<Tree<T>>,
     right: Rc<Tree<T>>,
 ) -> Result<Rc<Tree<T>>, AllocError>
-    requires balanced { DifferByAtMost 1 left.value.1 right.value.1 }
+    requires heights { DifferByAtMost 1 left.value.1 right.value.1 }
     requires size_fits { sum_by T.size left.value.0 + sum_by T.size right.value.0 < 2 ^ 32 }
     ensures { IfOk result (λ t. t.value ≡ forked left.value right.value) }
 {
@@ -86,7 +86,7 @@ fn lean_right<T: Measured>(
 
 // Two trees whose heights differ by at most two, side by side.
 #[tactic(auto, using(crate::proofs::Joins::joined_length, crate::proofs::Joins::joined_size))]
-fn balanced<T: Measured>(
+fn join_balanced<T: Measured>(
     alloc: Global,
     left: Rc<Tree<T>>,
     right: Rc<Tree<T>>,
@@ -153,14 +153,14 @@ pub(crate) fn join<T: Measured>(
             unreachable!()
         };
         let joined = join(alloc, b, right)?;
-        balanced(alloc, a.clone()?, joined)
+        join_balanced(alloc, a.clone()?, joined)
     } else if hr > hl + hl.min(1) {
         let tree = right.as_ref();
         let Node::Fork(a, b, _, _) = &tree.node else {
             unreachable!()
         };
         let joined = join(alloc, left, a)?;
-        balanced(alloc, joined, b.clone()?)
+        join_balanced(alloc, joined, b.clone()?)
     } else if hl == 0 {
         join_leaves(alloc, left, right)
     } else {
@@ -168,7 +168,7 @@ pub(crate) fn join<T: Measured>(
     }
 }
 
-// One behind the other.
+// One after the other.
 pub(crate) fn join_of<T: Measured>(
     alloc: Global,
     left: &Root<T>,

@@ -10,7 +10,7 @@ use crate::tree::{Node, Root, Tree};
 use std::alloc::{AllocError, Global};
 use std::rc::Rc;
 
-// Equal items behind those of a list.
+// Equal items after those of a list.
 #[tactic(auto, using(crate::proofs::Joins::copied_more))]
 pub(crate) fn push_all<T: Measured>(into: &mut Vec<T>, items: &[T]) -> Result<(), AllocError>
     ensures { IfOk result (λ _. into.new.items ≡ into.old.items ++ items.now) }
@@ -24,7 +24,7 @@ pub(crate) fn push_all<T: Measured>(into: &mut Vec<T>, items: &[T]) -> Result<()
 // A leaf.
 pub(crate) fn leaf<T: Measured>(alloc: Global, items: Vec<T>) -> Result<Rc<Tree<T>>, AllocError>
     requires some { 0 < length items.items }
-    requires few { length items.items ≤ MAX_LEAF }
+    requires at_most { length items.items ≤ MAX_LEAF }
     requires size_fits { sum_by T.size items.items < 2 ^ 32 }
     ensures { IfOk result (λ t. t.value ≡ (items.items, 0)) }
 {
@@ -37,7 +37,7 @@ pub(crate) fn leaf<T: Measured>(alloc: Global, items: Vec<T>) -> Result<Rc<Tree<
 
 // A leaf of equal items, if there are any.
 pub(crate) fn leaf_of<T: Measured>(alloc: Global, items: &[T]) -> Result<Root<T>, AllocError>
-    requires few { length items.now ≤ MAX_LEAF }
+    requires at_most { length items.now ≤ MAX_LEAF }
     requires size_fits { sum_by T.size items.now < 2 ^ 32 }
     ensures { IfOk result (λ t. items_of t ≡ items.now) }
 {

@@ -1,10 +1,12 @@
 //! A persistent balanced sequence of measured items.
 //!
-//! It is seen as the list of its items' values. An item has a size, may count lines, and may bear a mark and a flag;
+//! Every call that allocates may be refused memory. Where it names no other refusal, that is its only one.
+//!
+//! It is seen as the list of its items' values. An item has a size, may count lines, may be pending, and may bear a flag;
 //! sums of these are kept, so the item at a place and the first item with a sign are found in as many steps as the
 //! logarithm of their number. One tree serves pieces of a text and sections of a file, and knows neither.
 //!
-//! Leaves hold up to 32 items: with 16 the first marked item is set sooner and iterating is slower, with 64 the other
+//! Leaves hold up to 32 items: with 16 the first pending item is set sooner and iterating is slower, with 64 the other
 //! way round. Above them the tree is balanced by height, at most about twice the logarithm high. Every edit is a cut
 //! and two joins along one path. Nodes never change, so what is shared stays as it was, and a refused edit has nothing
 //! to undo. No item is empty and none counts more lines than it is long, so one bound covers every sum.

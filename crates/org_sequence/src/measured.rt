@@ -12,8 +12,8 @@ pub trait Measured: Drop {
     /// How many lines the item counts, which may be none.
     ghost lines: { Self → ℕ };
 
-    /// Whether the item bears the mark.
-    ghost marked: { Self → Bool };
+    /// Whether the item is pending.
+    ghost pending: { Self → Bool };
 
     /// Whether the item bears the flag.
     ghost flagged: { Self → Bool };
@@ -28,15 +28,15 @@ pub trait Measured: Drop {
         ensures value { result ≡ lines self.now }
         ensures covered { result ≤ size self.now };
 
-    /// Whether it bears the mark.
-    fn is_marked(&self) -> bool
-        ensures value { result ≡ marked self.now };
+    /// Whether it is pending.
+    fn is_pending(&self) -> bool
+        ensures value { result ≡ pending self.now };
 
     /// Whether it bears the flag.
     fn is_flagged(&self) -> bool
         ensures value { result ≡ flagged self.now };
 
-    /// An equal item. Want of memory is its only refusal.
+    /// An equal item.
     fn share(&self) -> Result<Self, AllocError>
         ensures value { IfOk result (λ item. item ≡ self.now) };
 }
@@ -51,7 +51,7 @@ pub(crate) enum Measure {
 // One of the two signs of an item.
 #[derive(Clone, Copy, Debug)]
 pub(crate) enum Sign {
-    Mark,
+    Pending,
     Flag,
 }
 
@@ -67,10 +67,10 @@ pub(crate) fn amount<T: Measured>(item: &T, measure: Measure) -> u32
 
 // Whether an item bears a sign.
 pub(crate) fn has_sign<T: Measured>(item: &T, sign: Sign) -> bool
-    ensures value { result ≡ bears T.marked T.flagged sign item.now }
+    ensures value { result ≡ bears T.pending T.flagged sign item.now }
 {
     match sign {
-        Sign::Mark => item.is_marked(),
+        Sign::Pending => item.is_pending(),
         Sign::Flag => item.is_flagged(),
     }
 }

@@ -21,7 +21,7 @@ fn replace_in_leaf<T: Measured>(
 ) -> Result<Root<T>, AllocError>
     requires order { from ≤ to }
     requires within { to ≤ length items.now }
-    requires few { length items.now ≤ MAX_LEAF }
+    requires at_most { length items.now ≤ MAX_LEAF }
     requires size_fits { sum_by T.size items.now + sum_by T.size (items_of middle.now) < 2 ^ 32 }
     ensures { IfOk result (λ t. items_of t ≡ splice items.now from to (items_of middle.now)) }
 {
@@ -67,7 +67,7 @@ fn replace<T: Measured>(
 }
 
 // The items under a root with those from one place up to another replaced.
-pub(crate) fn replaced<T: Measured>(
+pub(crate) fn replace_between<T: Measured>(
     alloc: Global,
     root: &Root<T>,
     from: u32,

@@ -9,7 +9,7 @@ use crate::measured::{Measure, Measured, Sign, amount, has_sign};
 
 // The item of a leaf that holds a place in a measure, and how much is counted before it.
 pub(crate) fn find_in<T: Measured>(items: &[T], measure: Measure, place: u32) -> (u32, u32)
-    requires few { length items.now ≤ MAX_LEAF }
+    requires at_most { length items.now ≤ MAX_LEAF }
     requires within { place < sum_by (amount_in T.size T.lines measure) items.now }
     ensures { IsItemOf (amount_in T.size T.lines measure) items.now place result.0 result.1 }
 {
@@ -26,9 +26,9 @@ pub(crate) fn find_in<T: Measured>(items: &[T], measure: Measure, place: u32) ->
 
 // The first item of a leaf from a place on that bears a sign.
 pub(crate) fn first_in<T: Measured>(items: &[T], sign: Sign, from: u32) -> Option<u32>
-    requires few { length items.now ≤ MAX_LEAF }
+    requires at_most { length items.now ≤ MAX_LEAF }
     requires within { from ≤ length items.now }
-    ensures { IsFirstPassing (bears T.marked T.flagged sign) items.now from result }
+    ensures { IsFirstPassing (bears T.pending T.flagged sign) items.now from result }
 {
     for (at, item) in items[from as usize..].iter().enumerate() {
         if has_sign(item, sign) {

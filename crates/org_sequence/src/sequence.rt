@@ -7,7 +7,7 @@ ghost use Rattle.org_sequence.specs.Parts.{items_of, HoldsPlace, IsItemOf, IsFir
 use crate::join::{build, join_of};
 use crate::leaf::leaf;
 use crate::measured::{Measure, Measured, Sign};
-use crate::replace::replaced;
+use crate::replace::replace_between;
 use crate::tree::Root;
 use std::alloc::{AllocError, Global};
 use std::marker::Model;
@@ -37,7 +37,7 @@ impl<T: Measured> Sequence<T> {
         Sequence { alloc, root: None }
     }
 
-    /// The items of a list, as equal items. Want of memory is its only refusal.
+    /// The items of a list, as equal items.
     pub fn of(alloc: Global, items: &[T]) -> Result<Sequence<T>, AllocError>
         requires size_fits { sum_by T.size items.now < 2 ^ 32 }
         ensures value { IfOk result (λ s. s ≡ items.now) }
@@ -86,13 +86,13 @@ impl<T: Measured> Sequence<T> {
         }
     }
 
-    /// How many items bear the mark, which is kept.
-    pub fn marks(&self) -> u32
-        ensures value { result ≡ count_by T.marked self.now }
+    /// How many items are pending, which is kept.
+    pub fn pending(&self) -> u32
+        ensures value { result ≡ count_by T.pending self.now }
     {
         match &self.root {
             None => 0,
-            Some(tree) => tree.sums().marks,
+            Some(tree) => tree.sums().pending,
         }
     }
 
@@ -184,14 +184,14 @@ impl<T: Measured> Sequence<T> {
         }
     }
 
-    /// The first item from a place on that bears the mark, if one does.
-    pub fn first_marked(&self, from: u32) -> Option<u32>
+    /// The first item from a place on that is pending, if one is.
+    pub fn first_pending(&self, from: u32) -> Option<u32>
         requires { from ≤ length self.now }
-        ensures value { IsFirstPassing T.marked self.now from result }
+        ensures value { IsFirstPassing T.pending self.now from result }
     {
         match &self.root {
             None => None,
-            Some(tree) => tree.first_from(Sign::Mark, from),
+            Some(tree) => tree.first_from(Sign::Pending, from),
         }
     }
 
@@ -206,7 +206,7 @@ impl<T: Measured> Sequence<T> {
         }
     }
 
-    /// Replaces the items from one place up to another by equal ones of a list. Want of memory is its only refusal,
+    /// Replaces the items from one place up to another by equal ones of a list. Out of memory is its only refusal,
     /// and leaves the sequence as before.
     pub fn replace(&mut self, from: u32, to: u32, items: &[T]) -> Result<(), AllocError>
         requires order { from ≤ to }
@@ -216,11 +216,11 @@ impl<T: Measured> Sequence<T> {
         ensures err { OnErr result (self.new ≡ self.old) }
     {
         let middle = build(self.alloc, items)?;
-        self.root = replaced(self.alloc, &self.root, from, to, &middle)?;
+        self.root = replace_between(self.alloc, &self.root, from, to, &middle)?;
         Ok(())
     }
 
-    /// Puts an item in the place of another. Want of memory is its only refusal, and leaves the sequence as before.
+    /// Puts an item in the place of another. Out of memory leaves the sequence as before.
     pub fn set(&mut self, at: u32, item: T) -> Result<(), AllocError>
         requires within { at < length self.old }
         requires size_fits { sum_by T.size self.old + T.size item < 2 ^ 32 }
@@ -231,11 +231,11 @@ impl<T: Measured> Sequence<T> {
         items.push(item)?;
         let one = Some(leaf(self.alloc, items)?);
         let _len = self.len();
-        self.root = replaced(self.alloc, &self.root, at, at + 1, &one)?;
+        self.root = replace_between(self.alloc, &self.root, at, at + 1, &one)?;
         Ok(())
     }
 
-    /// Puts an item at the end. Want of memory is its only refusal, and leaves the sequence as before.
+    /// Puts an item at the end. Out of memory leaves the sequence as before.
     pub fn push(&mut self, item: T) -> Result<(), AllocError>
         requires size_fits { sum_by T.size self.old + T.size item < 2 ^ 32 }
         ensures ok { OnOk result (self.new ≡ self.old ++ item ∷ []) }
@@ -248,7 +248,7 @@ impl<T: Measured> Sequence<T> {
         Ok(())
     }
 
-    /// Puts the items of another sequence behind these. Want of memory is its only refusal, and leaves this one as
+    /// Puts the items of another sequence after these. Out of memory leaves this one as
     /// before.
     pub fn append(&mut self, other: &Sequence<T>) -> Result<(), AllocError>
         requires size_fits { sum_by T.size self.old + sum_by T.size other.now < 2 ^ 32 }
@@ -259,8 +259,7 @@ impl<T: Measured> Sequence<T> {
         Ok(())
     }
 
-    /// An equal sequence, which shares all that both hold: its cost is that of one count. Want of memory is its only
-    /// refusal.
+    /// An equal sequence, which shares all that both hold: its cost is that of one count.
     pub fn share(&self) -> Result<Sequence<T>, AllocError>
         ensures value { IfOk result (λ s. s ≡ self.now) }
     {

@@ -11,31 +11,31 @@ pub(crate) struct Sums {
     pub(crate) count: u32,
     pub(crate) size: u32,
     pub(crate) lines: u32,
-    pub(crate) marks: u32,
+    pub(crate) pending: u32,
     pub(crate) flags: u32,
 }
 
 impl Sums {
     pub(crate) fn none() -> Sums
-        ensures { result ≡ record { count = 0; size = 0; lines = 0; marks = 0; flags = 0 } }
+        ensures { result ≡ record { count = 0; size = 0; lines = 0; pending = 0; flags = 0 } }
     {
         Sums {
             count: 0,
             size: 0,
             lines: 0,
-            marks: 0,
+            pending: 0,
             flags: 0,
         }
     }
 
     fn of_one<T: Measured>(item: &T) -> Sums
-        ensures value { AreSums T.size T.lines T.marked T.flagged (item.now ∷ []) result }
+        ensures value { AreSums T.size T.lines T.pending T.flagged (item.now ∷ []) result }
     {
         Sums {
             count: 1,
             size: item.size(),
             lines: item.lines(),
-            marks: u32::from(item.is_marked()),
+            pending: u32::from(item.is_pending()),
             flags: u32::from(item.is_flagged()),
         }
     }
@@ -51,7 +51,7 @@ impl Sums {
             count: self.count + other.count,
             size: self.size + other.size,
             lines: self.lines + other.lines,
-            marks: self.marks + other.marks,
+            pending: self.pending + other.pending,
             flags: self.flags + other.flags,
         }
     }
@@ -60,7 +60,7 @@ impl Sums {
 // What some items add up to.
 pub(crate) fn sums_of<T: Measured>(items: &[T]) -> Sums
     requires fits { sum_by T.size items.now < 2 ^ 32 }
-    ensures value { AreSums T.size T.lines T.marked T.flagged items.now result }
+    ensures value { AreSums T.size T.lines T.pending T.flagged items.now result }
 {
     let mut sums = Sums::none();
     for item in items {

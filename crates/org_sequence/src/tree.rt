@@ -41,7 +41,7 @@ impl<T: Measured> Model for Tree<T> {
 
     ghost view = { λ a. items_and_height a.node };
 
-    ghost invariant = { λ a. IsTree T.size T.lines T.marked T.flagged a.node };
+    ghost invariant = { λ a. IsTree T.size T.lines T.pending T.flagged a.node };
 
     ghost size = { λ d. d.1 };
 
@@ -52,7 +52,7 @@ impl<T: Measured> Model for Tree<T> {
 
 impl<T: Measured> Tree<T> {
     pub(crate) fn sums(&self) -> Sums
-        ensures value { AreSums T.size T.lines T.marked T.flagged self.now.0 result }
+        ensures value { AreSums T.size T.lines T.pending T.flagged self.now.0 result }
         ensures some { 0 < length self.now.0 }
         ensures low { self.now.1 < result.count }
         ensures shallow { least self.now.1 ≤ result.count }
@@ -81,17 +81,17 @@ impl<T: Measured> Tree<T> {
 
     // How many items bear a sign.
     pub(crate) fn signs(&self, sign: Sign) -> u32
-        ensures value { result ≡ count_by (bears T.marked T.flagged sign) self.now.0 }
+        ensures value { result ≡ count_by (bears T.pending T.flagged sign) self.now.0 }
     {
         match sign {
-            Sign::Mark => self.sums().marks,
+            Sign::Pending => self.sums().pending,
             Sign::Flag => self.sums().flags,
         }
     }
 
     pub(crate) fn height(&self) -> u32
         ensures value { result ≡ self.now.1 }
-        ensures room { result + 1 < 2 ^ 32 }
+        ensures has_room { result + 1 < 2 ^ 32 }
     {
         match self.node {
             Node::Leaf(_, _) => 0,
@@ -162,7 +162,7 @@ impl<T: Measured> Tree<T> {
     // The first item from a place on that bears a sign.
     pub(crate) fn first_from(&self, sign: Sign, at: u32) -> Option<u32>
         requires { at ≤ length self.now.0 }
-        ensures { IsFirstPassing (bears T.marked T.flagged sign) self.now.0 at result }
+        ensures { IsFirstPassing (bears T.pending T.flagged sign) self.now.0 at result }
     {
         if self.signs(sign) == 0 {
             return None;
@@ -191,7 +191,7 @@ impl<T: Measured> Tree<T> {
     // What the items before a place add up to.
     pub(crate) fn sums_before(&self, at: u32) -> Sums
         requires { at ≤ length self.now.0 }
-        ensures { AreSums T.size T.lines T.marked T.flagged (take at self.now.0) result }
+        ensures { AreSums T.size T.lines T.pending T.flagged (take at self.now.0) result }
     {
         match &self.node {
             Node::Leaf(items, _) => sums_of(&items.as_slice()[..at as usize]),

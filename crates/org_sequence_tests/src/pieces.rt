@@ -52,7 +52,7 @@ fn has_typed(alloc: Global, text: &Pieces, typed: &str) -> Result<bool, Fault> {
     has_content(alloc, text, want.as_str())
 }
 
-// Types a character behind what was typed, or where nothing is to be typed deletes the last one.
+// Types a character after what was typed, or where nothing is to be typed deletes the last one.
 fn strikes(text: &mut Pieces, typed: &mut String, key: Option<&str>) -> Result<(), Fault> {
     let end = (FRONT.len() + typed.len()) as u64;
     if let Some(key) = key {
@@ -95,7 +95,7 @@ fn typed_and_deleted(rt: HostRuntime) -> Result<(), Fail> {
     Ok(())
 }
 
-// Types a heading behind a text, key by key, and looks at the text after each of them; then nothing may be put into its
+// Types a heading after a text, key by key, and looks at the text after each of them; then nothing may be put into its
 // last letter.
 fn types_keys<T: Text>(alloc: Global, text: &mut T, typed: &mut String) -> Result<bool, Fault> {
     for key in ["*", " ", "T", "O", "D", "O", " ", "\u{e9}", "\n"] {
@@ -124,7 +124,7 @@ fn a_heading_key_by_key(rt: HostRuntime) -> Result<(), Fail> {
 }
 
 // The bytes with a part replaced, if they have that part.
-fn spliced(
+fn splice_all(
     alloc: Global,
     bytes: &[u8],
     at: usize,
@@ -155,7 +155,7 @@ fn edits_both(
     } else {
         "* a heading\nwith a line\n"
     };
-    let after = spliced(alloc, bytes, at, end, ins.as_bytes())?;
+    let after = splice_all(alloc, bytes, at, end, ins.as_bytes())?;
     text.edit(at as u64, (end - at) as u64, ins)?;
     *bytes = after;
     Ok(())
@@ -211,7 +211,7 @@ fn held_behind_a_large_edit(alloc: Global) -> Result<(u64, u32), Fault> {
     }
     text.edit(FRONT.len() as u64, 0, ins.as_str())?;
     text.edit(FRONT.len() as u64, 64_990, "")?;
-    Ok((text.held(), text.count()))
+    Ok((text.block_bytes(), text.count()))
 }
 
 #[test]

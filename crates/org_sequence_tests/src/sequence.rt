@@ -17,7 +17,7 @@ impl Measured for Tally {
 
     ghost lines = { λ t. t.0 % 7 };
 
-    ghost marked = { λ t. nat_eq (t.0 % 5) 0 };
+    ghost pending = { λ t. nat_eq (t.0 % 5) 0 };
 
     ghost flagged = { λ t. nat_eq (t.0 % 11) 0 };
 
@@ -29,7 +29,7 @@ impl Measured for Tally {
         self.0 % 7
     }
 
-    fn is_marked(&self) -> bool {
+    fn is_pending(&self) -> bool {
         self.0 % 5 == 0
     }
 
@@ -95,7 +95,7 @@ fn replace_items(
 }
 
 // A list with a part replaced.
-fn spliced(
+fn splice_all(
     alloc: Global,
     numbers: &[u32],
     from: usize,
@@ -125,7 +125,7 @@ fn replace_both(
     let from = (seed % (u64::from(len) + 1)) as u32;
     let to = from + ((seed >> 20) % u64::from((len - from).min(40) + 1)) as u32;
     let new = numbers_from(alloc, seed)?;
-    let after = spliced(alloc, numbers, from as usize, to as usize, &new)?;
+    let after = splice_all(alloc, numbers, from as usize, to as usize, &new)?;
     if !replace_items(sequence, from, to, &tallies(alloc, &new)?)? {
         return Ok(false);
     }
@@ -168,27 +168,27 @@ fn has_places(sequence: &Sequence<Tally>, numbers: &[u32]) -> bool {
     sequence.size() == size && sequence.lines() == lines && sequence.len() == at
 }
 
-// Whether the marked and flagged items are the numbers divided by 5 and 11.
+// Whether the pending and flagged items are the numbers divided by 5 and 11.
 fn has_signs(sequence: &Sequence<Tally>, numbers: &[u32]) -> bool {
-    let (mut marked, mut flagged, mut marks, mut flags) = (None, None, 0u32, 0u32);
+    let (mut first_pending, mut flagged, mut pending, mut flags) = (None, None, 0u32, 0u32);
     for at in (0..sequence.len()).rev() {
         let n = numbers.get(at as usize).copied().unwrap_or(1);
         if n % 5 == 0 {
-            marked = Some(at);
-            marks = marks.wrapping_add(1);
+            first_pending = Some(at);
+            pending = pending.wrapping_add(1);
         }
         if n % 11 == 0 {
             flagged = Some(at);
             flags = flags.wrapping_add(1);
         }
         if at > sequence.len()
-            || sequence.first_marked(at) != marked
+            || sequence.first_pending(at) != first_pending
             || sequence.first_flagged(at) != flagged
         {
             return false;
         }
     }
-    sequence.marks() == marks && sequence.flags() == flags
+    sequence.pending() == pending && sequence.flags() == flags
 }
 
 fn goes_with_a_list(alloc: Global, rounds: u32) -> bool {

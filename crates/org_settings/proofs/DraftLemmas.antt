@@ -8,7 +8,7 @@ use Rattle.std.proofs.lemmas.Option.{get_or_from_slice_get}
 use Rattle.org_base.specs.Properties.{Given, Property, with_given, with_all}
 use Rattle.org_settings.specs.Keywords.{add_lines}
 use Rattle.org_settings.specs.Laws.{NoLinesAreStandard}
-use Rattle.org_settings.specs.Draft.{SettingsSoFar, nothing_said, with_line, with_lines, ended}
+use Rattle.org_settings.specs.Draft.{SettingsSoFar, nothing_said, with_line, with_lines, into_settings}
 use Rattle.org_settings.specs.SettingLines.{tags_in, category_in, property_in, default_in}
 use Rattle.org_settings.specs.Settings.{first_said, settings_of}
 
@@ -16,7 +16,7 @@ or_again : {X : Type 0} (a b c : Option X) → option_or (option_or a b) c ≡ o
 or_again None b c = refl
 or_again (Some x) b c = refl
 
--- what lines say behind what was said
+-- what lines say after what was said
 abbrev said_then : SettingsSoFar → List (List ℕ) → SettingsSoFar
 said_then said lines = record {
   keywords = add_lines said.keywords lines;
@@ -44,8 +44,8 @@ said_by_lines said (line ∷ lines) =
     said_by_lines (with_line said line) lines ∙ rw (tags, category, properties, default) refl
 
 -- what all lines say, with the defaults where they say nothing
-pub lines_settle : (lines : List (List ℕ)) → ended (with_lines nothing_said lines) ≡ settings_of lines
-lines_settle lines = ap ended (said_by_lines nothing_said lines)
+pub lines_settle : (lines : List (List ℕ)) → into_settings (with_lines nothing_said lines) ≡ settings_of lines
+lines_settle lines = ap into_settings (said_by_lines nothing_said lines)
 
 pub line_more : (said new all : SettingsSoFar) (lines : List (List ℕ)) (i : ℕ) (line : List ℕ) → i < length lines → slice_get lines i ≡ Some line → new ≡ with_line said line → with_lines said (drop i lines) ≡ all → with_lines new (drop (i + 1) lines) ≡ all
 line_more said new all lines i line within there added so_far =

@@ -34,8 +34,8 @@ with_lines said [] = said
 with_lines said (line ∷ lines) = with_lines (with_line said line) lines
 
 -- what holds where no line says more
-abbrev pub ended : SettingsSoFar → FileSettings
-ended said = record {
+abbrev pub into_settings : SettingsSoFar → FileSettings
+into_settings said = record {
   keywords = if length said.keywords == 0 then standard_keywords else said.keywords;
   file_tags = said.file_tags;
   category = said.category;

@@ -54,7 +54,7 @@ abbrev pub add_words : Bool → ℕ → List Keyword → List (List ℕ) → Lis
 add_words done first ks [] = ks
 add_words done first ks (w ∷ ws) = add_words done first (add_word done first ks w) ws
 
--- the keywords of one more line: its first stands behind all others
+-- the keywords of one more line: its first stands after all others
 abbrev pub add_sequence : List Keyword → List (List ℕ) → List Keyword
 add_sequence ks ws =
     let n = done_from ws in

@@ -34,6 +34,6 @@ words text = pieces 32 text
 abbrev pub piece : List ℕ → List (List ℕ)
 piece p = if length p == 0 then [] else p ∷ []
 
--- the pieces that references lend, with a part of a text behind them, if it isn't empty
+-- the pieces that references lend, with a part of a text after them, if it isn't empty
 abbrev pub GainsPiece : List (Bor (List ℕ)) → List (Bor (List ℕ)) → List ℕ → ℕ → ℕ → Type 0
 GainsPiece old new text from to = lent_in new ≡ lent_in old ++ piece (slice_range text from to)

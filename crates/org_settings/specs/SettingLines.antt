@@ -56,7 +56,7 @@ name_of word = if is_appended word then take (length word - 1) word else word
 abbrev pub is_name : List ℕ → Bool
 is_name name = nat_lt 0 (length name) && not (is_appended name)
 
--- what stands behind the first word, trimmed
+-- what stands after the first word, trimmed
 abbrev pub value_behind : List ℕ → List ℕ
 value_behind text = trimmed (drop (length (first_word text)) (trim_start text))
 

@@ -3,7 +3,7 @@ ghost use Rattle.std.specs.Prelude.{◌≡◌, ◌++◌, ◌==◌, if◌then◌e
 ghost use Rattle.org_base.specs.Codes.{memory_fault};
 ghost use Rattle.org_base.specs.Results.{Gives, lent_in};
 ghost use Rattle.org_settings.specs.Keywords.{standard_keywords};
-ghost use Rattle.org_settings.specs.Draft.{nothing_said, with_line, ended};
+ghost use Rattle.org_settings.specs.Draft.{nothing_said, with_line, into_settings};
 ghost use Rattle.org_settings.specs.Settings.{settings_of};
 ghost use Rattle.org_settings.specs.SettingLines.{tags_in, category_in};
 
@@ -71,8 +71,8 @@ impl SettingsDraft {
     }
 
     // What holds where no line says more.
-    pub(crate) fn ended(self, alloc: Global) -> Result<Settings, AllocError>
-        ensures value { Gives result (ended self) }
+    pub(crate) fn into_settings(self, alloc: Global) -> Result<Settings, AllocError>
+        ensures value { Gives result (into_settings self) }
     {
         let SettingsDraft {
             keywords,
@@ -88,9 +88,8 @@ impl SettingsDraft {
 }
 
 impl Settings {
-    /// What setting lines say together (Org manual 9.6, "In-buffer Settings"). Of no lines these are the keyword `TODO`,
-    /// the done keyword `DONE`, no tags, no category, no properties, and the default priority B. Want of memory is the
-    /// only refusal.
+    /// What setting lines say together (Org manual 9.6, "In-buffer Settings"). Of no lines these are the keyword
+    /// `TODO`, the done keyword `DONE`, no tags, no category, no properties, and the default priority B.
     pub fn of_lines(alloc: Global, lines: &Texts) -> Result<Settings, Fault>
         ensures value { Gives result (settings_of lines.now) }
         ensures memory { IsOkUnless result memory_fault }
@@ -99,7 +98,7 @@ impl Settings {
         for place in 0..lines.count() {
             said.add(alloc, lines.get(place))?;
         }
-        Ok(said.ended(alloc)?)
+        Ok(said.into_settings(alloc)?)
     }
 }
 

@@ -1,6 +1,8 @@
 //! What the setting lines of a file say: its keywords, tags, category, properties and default priority; and what a
 //! priority is.
 //!
+//! Every call that allocates may be refused memory. Where it names no other refusal, that is its only one.
+//!
 //! The lines are taken as they are given; which lines of a text are setting lines is `org_class`'s. Keywords are found
 //! by order and not by hash, since whoever writes a file could make hashes collide; up to eight are compared one by
 //! one.

@@ -5,7 +5,7 @@ ghost use Rattle.org_settings.specs.SettingLines.{is_appended, name_of, is_name,
 
 use crate::setting_line::{has_key, setting_value};
 use org_base::Properties;
-use org_base::words::{first_word, trim_start, trimmed};
+use org_base::words::{first_word, trim, trim_start};
 use std::alloc::AllocError;
 
 // Whether the word ends in `+`.
@@ -32,13 +32,13 @@ fn is_name(name: &[u8]) -> bool
     !name.is_empty() && !is_appended(name)
 }
 
-// What stands behind the first word, trimmed.
+// What stands after the first word, trimmed.
 fn value_behind(text: &[u8]) -> &[u8]
     ensures value { result.now ≡ value_behind text.now }
 {
     let rest = trim_start(text);
     let word = first_word(text);
-    trimmed(&rest[word.len()..])
+    trim(&rest[word.len()..])
 }
 
 // Adds what a text `NAME VALUE` or `NAME+ VALUE` gives.

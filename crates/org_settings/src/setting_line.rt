@@ -2,7 +2,7 @@
 ghost use Rattle.std.specs.Prelude.{◌≡◌, ◌≤◌, length};
 ghost use Rattle.org_settings.specs.SettingLines.{key_len, setting_key, setting_value, has_key};
 
-use org_base::words::{same_word, trim_start, trimmed};
+use org_base::words::{same_word, trim, trim_start};
 
 // How many bytes stand before the first colon.
 fn key_len(text: &[u8]) -> usize
@@ -28,7 +28,7 @@ pub(crate) fn setting_value(line: &[u8]) -> &[u8]
     let text = trim_start(line);
     let len = key_len(text);
     if len < text.len() {
-        trimmed(&text[len + 1..])
+        trim(&text[len + 1..])
     } else {
         &[]
     }

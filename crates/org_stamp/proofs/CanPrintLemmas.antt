@@ -16,8 +16,8 @@ use Rattle.org_stamp.specs.declared.mark.Sign.{Sign}
 use Rattle.org_stamp.specs.declared.mark.Sign.TheVariants.{Repeats, Waits}
 use Rattle.org_stamp.specs.declared.stamp.Stamp.{Stamp}
 use Rattle.org_stamp.specs.CanPrint.{IsRepeater, CanPrint}
-use Rattle.org_stamp.specs.Inner.{inner_of, stamp_of_words, after_date, after_name, after_time, timed, times_of, times_at, counted, is_name, is_dash}
-use Rattle.org_stamp.specs.Mark.{Marks, amount, amount_from, finished, limit, mark_of, marks_from, sign_at, top, unit_of, whole, with_mark}
+use Rattle.org_stamp.specs.Inner.{inner_of, stamp_of_words, after_date, after_name, after_time, timed, times_of, times_at, without_zero, is_name, is_dash}
+use Rattle.org_stamp.specs.Mark.{Marks, amount, amount_from, mark_with, limit, mark_of, marks_from, sign_at, top, unit_of, whole, with_mark}
 use Rattle.org_stamp.specs.Read.{single_of, stamp_of}
 use Rattle.org_stamp.specs.Stamp.{IsStamp, with_last}
 use Rattle.org_base.specs.Words.{is_space}
@@ -101,13 +101,13 @@ abbrev IsMark : Mark → Type 0
 IsMark (Repeat r) = IsFew r
 IsMark (Wait d) = d.n < 10000
 
-finished_small : (s : Sign) (p : (ℕ × TimeUnit) × List ℕ) (m : Mark) → p.0.0 < 10000 → finished s p ≡ Some m → IsMark m
+finished_small : (s : Sign) (p : (ℕ × TimeUnit) × List ℕ) (m : Mark) → p.0.0 < 10000 → mark_with s p ≡ Some m → IsMark m
 finished_small (Repeats kind) (a, rest) m few e = mapped _ (limit rest) m e (λ l was is. subst IsMark is (few, limit_small rest l was))
 finished_small (Waits first) (a, []) m few e = subst IsMark (let same : Wait (record { first_only = first; n = a.0; unit = a.1 }) ≡ m = (cc) in same) few
 finished_small (Waits first) (a, (b ∷ bs)) m few e = absurd (cc)
 
 mark_small : (w : List ℕ) (m : Mark) → mark_of w ≡ Some m → IsMark m
-mark_small w m e = option_and_then_some _ (sign_at w) m e (λ s was next. option_and_then_some (finished s.0) (amount s.1) m next (λ p had last. finished_small s.0 p m (amount_small s.1 p had) last))
+mark_small w m e = option_and_then_some _ (sign_at w) m e (λ s was next. option_and_then_some (mark_with s.0) (amount s.1) m next (λ p had last. finished_small s.0 p m (amount_small s.1 p had) last))
 
 abbrev AreMarks : Marks → Type 0
 AreMarks m = IfSome m.0 IsFew × IfSome m.1 (λ d. d.n < 10000)
@@ -128,7 +128,7 @@ counted_by : (r : Repeater) (b : Bool) → b ≡ (r.n == 0) → IsFew r → IfSo
 counted_by r true e h = tt
 counted_by r false e h = record { some = grind (arith, nat_tests); few = h.0; limit_few = h.1 }
 
-counted_small : (r : Option Repeater) → IfSome r IsFew → IfSome (counted r) IsRepeater
+counted_small : (r : Option Repeater) → IfSome r IsFew → IfSome (without_zero r) IsRepeater
 counted_small None h = tt
 counted_small (Some r) h = counted_by r (r.n == 0) refl h
 

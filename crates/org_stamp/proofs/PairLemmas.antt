@@ -60,7 +60,7 @@ pub none_here : (bs : List ℕ) (at : ℕ) → NoSpace bs → pair_at at bs ≡ 
 none_here [] at n h = none_of at
 none_here (b ∷ bs) at n h = step b bs at ∙ (ap (λ t. cond t (pairs_from bs (at + 1) 0) (pair_and at (pairs_from bs (at + 1)) (pair_at at (b ∷ bs)))) n ∙ ap (pair_and at (pairs_from bs (at + 1))) h)
 
--- where one stands, it comes first, and then those behind it
+-- where one stands, it comes first, and then those after it
 pub some_here : (line : List ℕ) (at : ℕ) (p : Pair) → NoSpace (drop at line) → at < p.end → p.end ≤ length line → pair_at at (drop at line) ≡ Some p →
     pairs_from (drop at line) at 0 ≡ p ∷ pairs_from (drop p.end line) p.end 0
 some_here line at p n lt le h =
@@ -80,7 +80,7 @@ some_here line at p n lt le h =
     (skip bs (at + 1) inside
     ∙ (ap (λ r. pairs_from r (at + 1 + inside) 0) there ∙ ap (λ a. pairs_from (drop p.end line) a 0) place)))))
 
--- the next pair behind white space, and those behind it
+-- the next pair after white space, and those after it
 pub next_found : (line : List ℕ) (at n : ℕ) (r : Option Pair) → n ≡ prefix_len is_space (drop at line) →
     r ≡ pair_at (at + n) (drop (at + n) line) → IfSome r (λ p. (at + n < p.end) × (p.end ≤ length line) × (p.at + p.len ≤ length line)) →
     MatchOption r (pairs_from (drop at line) at 0 ≡ []) (λ p. pairs_from (drop at line) at 0 ≡ p ∷ pairs_from (drop p.end line) p.end 0)

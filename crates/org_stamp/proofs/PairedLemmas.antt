@@ -105,7 +105,7 @@ pair_of_is word at bs p e =
     option_and_then_some _ (stamp_of bs) p e (λ all read next.
     mapped _ (single_of bs) p next (λ first one is. subst (IsPairOf word at bs) is (pair_read word at bs first all one read)))
 
--- behind a gap
+-- after a gap
 record PairRead (text : List ℕ) (at : ℕ) (p : Pair) : Type 0 where
   pub rest : List ℕ
   pub is : IsPairAt text at p rest
@@ -220,7 +220,7 @@ pair_back text at p rest h =
     ∙ (ap (pair_of p.word (at + prefix_len is_space text + (length word + prefix_len is_space tail))) (past h.space (stamp ++ rest) h.space_is begins)
     ∙ pair_of_back p (at + prefix_len is_space text + (length word + prefix_len is_space tail)) h.single h.more rest h.whole h.single_is h.stamp_is h.longest (omega (arith, h.at_is, n, g)) h.len_is h.end_is)))
 
--- a pair comes first, and then those behind it
+-- a pair comes first, and then those after it
 
 after : (front rest : List ℕ) (a : ℕ) (p : Pair) → 1 ≤ length front → NoSpace (front ++ rest) → pair_at a (front ++ rest) ≡ Some p → p.end ≡ a + length front →
     pairs_from (front ++ rest) a 0 ≡ p ∷ pairs_from rest p.end 0

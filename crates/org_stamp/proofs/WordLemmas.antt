@@ -99,7 +99,7 @@ word_some bs g n is len some =
     subst (λ k. 0 < length (drop k bs) → 0 < position_or_len is_space (drop k bs)) (sym is) (past_gap bs) some in
     omega (arith, first, len)
 
--- the first word behind the white space, and the rest
+-- the first word after the white space, and the rest
 pub word_next : (bs : List ℕ) (g n : ℕ) → g ≡ prefix_len is_space bs → n ≡ position_or_len is_space (drop g bs) → 0 < length (drop g bs) → words bs ≡ take n (drop g bs) ∷ words (drop n (drop g bs))
 word_next bs g n is len some =
     sym (words-gap bs) ∙ (ap (λ k. words (drop k bs)) (sym is) ∙ words-word (drop g bs) n len (word_some bs g n is len some))

@@ -58,15 +58,15 @@ limit [] = Some None
 limit (b ∷ bs) = if b == 47 then option_map Some (option_and_then whole (amount bs)) else None
 
 -- the mark of a sign, an amount and what follows them in the word; a delay has no limit
-abbrev pub finished : Sign → (ℕ × Unit) × List ℕ → Option Mark
-finished (Repeats kind) (a, rest) =
+abbrev pub mark_with : Sign → (ℕ × Unit) × List ℕ → Option Mark
+mark_with (Repeats kind) (a, rest) =
     option_map (λ most. Repeat (record { kind = kind; n = a.0; unit = a.1; limit = most })) (limit rest)
-finished (Waits first_only) (a, []) = Some (Wait (record { first_only = first_only; n = a.0; unit = a.1 }))
-finished (Waits first_only) (a, (b ∷ bs)) = None
+mark_with (Waits first_only) (a, []) = Some (Wait (record { first_only = first_only; n = a.0; unit = a.1 }))
+mark_with (Waits first_only) (a, (b ∷ bs)) = None
 
 -- the mark that a word is
 abbrev pub mark_of : List ℕ → Option Mark
-mark_of word = option_and_then (λ s. option_and_then (finished s.0) (amount s.1)) (sign_at word)
+mark_of word = option_and_then (λ s. option_and_then (mark_with s.0) (amount s.1)) (sign_at word)
 
 -- the repeater and the delay of a stamp, as far as they were read
 abbrev pub Marks : Type 0

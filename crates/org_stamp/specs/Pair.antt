@@ -17,7 +17,7 @@ word_at bs =
     else (if starts_with nat_eq bs (codes "DEADLINE:") then Some (Deadline, 9)
     else (if starts_with nat_eq bs (codes "CLOSED:") then Some (Closed, 7) else None))
 
--- what is left behind the white space at the front
+-- what is left after the white space at the front
 abbrev pub past_spaces : List ℕ → List ℕ
 past_spaces bs = drop (prefix_len is_space bs) bs
 
@@ -31,12 +31,12 @@ abbrev pub pair_at : ℕ → List ℕ → Option Pair
 pair_at at bs =
     option_and_then (λ k. let rest = drop k.1 bs in pair_of k.0 (at + (k.1 + prefix_len is_space rest)) (past_spaces rest)) (word_at bs)
 
--- the pair, and those behind it
+-- the pair, and those after it
 abbrev pub pair_and : ℕ → (ℕ → List Pair) → Option Pair → List Pair
 pair_and at later None = []
 pair_and at later (Some p) = p ∷ later (p.end - (at + 1))
 
--- the pairs of what stands at the place of a line, behind so many bytes of the last one, with white space or none
+-- the pairs of what stands at the place of a line, after so many bytes of the last one, with white space or none
 -- between, until something is no pair
 unfoldable pub pairs_from : List ℕ → ℕ → ℕ → List Pair
 pairs_from [] at zero = []
@@ -45,7 +45,7 @@ pairs_from (b ∷ bs) at zero =
     if is_space b then pairs_from bs (at + 1) 0 else pair_and at (pairs_from bs (at + 1)) (pair_at at (b ∷ bs))
 pairs_from (b ∷ bs) at (suc inside) = pairs_from bs (at + 1) inside
 
--- the first of the pairs from a place of a line on, behind which come those from its end on; or there are none
+-- the first of the pairs from a place of a line on, after which come those from its end on; or there are none
 abbrev pub IsFirstPair : List ℕ → ℕ → Option Pair → Type 0
 IsFirstPair line at found =
     MatchOption found (pairs_from (drop at line) at 0 ≡ []) (λ p. pairs_from (drop at line) at 0 ≡ p ∷ pairs_from (drop p.end line) p.end 0)
@@ -54,7 +54,7 @@ IsFirstPair line at found =
 abbrev pub EndsFrom : ℕ → ℕ → Pair → Type 0
 EndsFrom at limit p = (at ≤ p.end) × (p.end ≤ limit) × (p.at + p.len ≤ limit)
 
--- a pair ends behind a place, and it and its first stamp no later than at a limit
+-- a pair ends after a place, and it and its first stamp no later than at a limit
 abbrev pub EndsBehind : ℕ → ℕ → Pair → Type 0
 EndsBehind at limit p = (at < p.end) × (p.end ≤ limit) × (p.at + p.len ≤ limit)
 

@@ -36,7 +36,7 @@ pub record IsPairAt (text : List ℕ) (at : ℕ) (p : Pair) (rest : List ℕ) : 
   pub len_is : p.len ≡ length single
   pub end_is : p.end ≡ p.at + length (single ++ more)
 
--- the pairs of what stands from a place on: each behind the one before, until none follows
+-- the pairs of what stands from a place on: each after the one before, until none follows
 abbrev pub ArePairs : List ℕ → ℕ → List Pair → Type 0
 ArePairs text at [] = (p : Pair) (rest : List ℕ) → IsPairAt text at p rest → ⊥
 ArePairs text at (p ∷ ps) = (rest : List ℕ) × IsPairAt text at p rest × ArePairs rest p.end ps

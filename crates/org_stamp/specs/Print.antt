@@ -30,32 +30,32 @@ sign_text Today = codes ".+"
 abbrev pub amount_text : ℕ × Unit → List ℕ
 amount_text a = decimal a.0 ++ letter a.1 ∷ []
 
--- a repeater's limit behind a slash
+-- a repeater's limit after a slash
 abbrev pub limit_text : Option (ℕ × Unit) → List ℕ
 limit_text None = []
 limit_text (Some a) = 47 ∷ amount_text a
 
--- a repeater behind a space
+-- a repeater after a space
 abbrev pub repeater_text : Option Repeater → List ℕ
 repeater_text None = []
 repeater_text (Some r) = 32 ∷ (sign_text r.kind ++ amount_text (r.n, r.unit) ++ limit_text r.limit)
 
--- a delay behind a space
+-- a delay after a space
 abbrev pub delay_text : Option Delay → List ℕ
 delay_text None = []
 delay_text (Some d) = 32 ∷ ((if d.first_only then codes "--" else codes "-") ++ amount_text (d.n, d.unit))
 
--- the end of a time range behind a dash
+-- the end of a time range after a dash
 abbrev pub end_text : Option ℕ → List ℕ
 end_text None = []
 end_text (Some c) = 45 ∷ time_text c
 
--- a time or a time range behind a space; an end without a start isn't printed, and no stamp that is read has one
+-- a time or a time range after a space; an end without a start isn't printed, and no stamp that is read has one
 abbrev pub times_text : Option ℕ → Option ℕ → List ℕ
 times_text None end_time = []
 times_text (Some c) end_time = 32 ∷ (time_text c ++ end_text end_time)
 
--- what stands behind the day's name: times, repeater and delay
+-- what stands after the day's name: times, repeater and delay
 abbrev pub tail_text : Stamp → List ℕ
 tail_text s = times_text s.time s.end_time ++ (repeater_text s.repeater ++ delay_text s.delay)
 

@@ -7,7 +7,7 @@ use Rattle.org_stamp.specs.declared.stamp.Stamp.{Stamp}
 use Rattle.org_stamp.specs.Inner.{inner_of}
 use Rattle.org_stamp.specs.Stamp.{close_of, is_close, with_last, IsSingle, IsStamp}
 
--- the stamp whose bytes behind the opening bracket are these, with the first closing bracket at i
+-- the stamp whose bytes after the opening bracket are these, with the first closing bracket at i
 abbrev pub closed : Bool → List ℕ → Option ℕ → Option (Stamp × ℕ)
 closed active bs None = None
 closed active bs (Some i) =

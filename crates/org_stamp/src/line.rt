@@ -49,7 +49,7 @@ pub fn next_close(line: &[u8], at: usize, known: usize) -> usize
     at + first_close(rest)
 }
 
-// Whether a digit stands behind the place, as behind the bracket that opens a stamp.
+// Whether a digit stands after the place, as after the bracket that opens a stamp.
 fn digit_follows(line: &[u8], at: usize) -> bool
     requires within { at < length line.now }
     ensures value { result ≡ is_ascii_digit (get_or line.now (at + 1) 0) }
@@ -113,7 +113,7 @@ pub fn stamps_in(line: &[u8]) -> LineStamps<'_>
     }
 }
 
-// Where the walk of a line begins: at its front, or behind it where no closing bracket stands in it, as no stamp does then.
+// Where the walk of a line begins: at its front, or after it where no closing bracket stands in it, as no stamp does then.
 fn first_place(line: &[u8], close: usize) -> usize
     requires close { close ≡ position_or_len is_close line.now }
     ensures within { result ≤ length line.now }

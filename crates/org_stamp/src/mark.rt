@@ -1,6 +1,6 @@
 //! Repeaters and delays.
 ghost use Rattle.std.specs.Prelude.{◌≡◌, ◌≤◌};
-ghost use Rattle.org_stamp.specs.Mark.{amount, amount_from, finished, limit, mark_of, sign_at, top, unit_of};
+ghost use Rattle.org_stamp.specs.Mark.{amount, amount_from, mark_with, limit, mark_of, sign_at, top, unit_of};
 ghost use Rattle.org_base.specs.Results.{found_before};
 
 use org_cal::Unit;
@@ -22,7 +22,7 @@ pub struct Repeater {
     pub kind: RepeaterKind,
     pub n: u16,
     pub unit: Unit,
-    /// What stands behind a slash, as in `.+2d/3d`: it is kept and not used (profile).
+    /// What stands after a slash, as in `.+2d/3d`: it is kept and not used (profile).
     pub limit: Option<(u16, Unit)>,
 }
 
@@ -66,8 +66,8 @@ pub(crate) fn unit_of(letter: u8) -> Option<Unit>
 
 // The number after its first digits, with at most so many more, its unit, and what follows.
 fn amount_from(room: u8, n: u16, bytes: &[u8]) -> Option<((u16, Unit), &[u8])>
-    requires few { room ≤ 3 }
-    requires small { n ≤ top room }
+    requires at_most { room ≤ 3 }
+    requires fits { n ≤ top room }
     ensures value { found_before result ≡ amount_from room n bytes.now }
 {
     match bytes {
@@ -132,12 +132,12 @@ pub(crate) fn mark_of(word: &[u8]) -> Option<Mark>
 {
     let (sign, rest) = sign_at(word)?;
     let (found, rest) = amount(rest)?;
-    finished(sign, found.0, found.1, rest)
+    mark_with(sign, found.0, found.1, rest)
 }
 
 // The mark of a sign, a number with its unit and the rest of the word.
-fn finished(sign: Sign, n: u16, unit: Unit, rest: &[u8]) -> Option<Mark>
-    ensures value { result ≡ finished sign ((n, unit), rest.now) }
+fn mark_with(sign: Sign, n: u16, unit: Unit, rest: &[u8]) -> Option<Mark>
+    ensures value { result ≡ mark_with sign ((n, unit), rest.now) }
 {
     match sign {
         Sign::Repeats(kind) => {

@@ -69,7 +69,7 @@ fn pair_at(line: &[u8], at: usize) -> Option<Pair>
 pub fn next_pair(line: &[u8], at: usize) -> Option<Pair>
     requires { at ≤ length line.now }
 
-    // It is the first of the pairs from there on, and those behind it are the pairs from its end on.
+    // It is the first of the pairs from there on, and those after it are the pairs from its end on.
     ensures value { IsFirstPair line.now at result }
     ensures bound { IfSome result (EndsBehind at (length line.now)) }
 {

@@ -52,8 +52,8 @@ pub fn first_close(bytes: &[u8]) -> usize
     }
 }
 
-// The stamp whose bytes behind the opening bracket are these, with the first closing bracket at that place.
-fn closed(active: bool, bytes: &[u8], close: usize) -> Option<(Stamp, usize)>
+// The stamp whose bytes after the opening bracket are these, with the first closing bracket at that place.
+fn stamp_until_close(active: bool, bytes: &[u8], close: usize) -> Option<(Stamp, usize)>
     requires close { close ≡ position_or_len is_close bytes.now }
     ensures value { result ≡ closed active bytes.now (position is_close bytes.now) }
     ensures within { IfSome result (λ found. found.1 ≤ length bytes.now + 1) }
@@ -74,8 +74,8 @@ fn single_before(bytes: &[u8], close: usize) -> Option<(Stamp, usize)>
     ensures within { IfSome result (λ found. found.1 ≤ length bytes.now) }
 {
     match bytes {
-        [b'<', rest @ ..] => closed(true, rest, close - 1),
-        [b'[', rest @ ..] => closed(false, rest, close - 1),
+        [b'<', rest @ ..] => stamp_until_close(true, rest, close - 1),
+        [b'[', rest @ ..] => stamp_until_close(false, rest, close - 1),
         _ => None,
     }
 }
@@ -99,7 +99,7 @@ pub(crate) fn stamp_before(bytes: &[u8], close: usize) -> Option<(Stamp, usize)>
     ensures within { IfSome result (λ found. found.1 ≤ length bytes.now) }
 {
     let (first, len) = single_before(bytes, close)?;
-    Some(ranged(first, len, &bytes[len..]))
+    Some(stamp_or_range(first, len, &bytes[len..]))
 }
 
 // The longest stamp at the front, and its length.
@@ -108,11 +108,11 @@ pub(crate) fn stamp_of(bytes: &[u8]) -> Option<(Stamp, usize)>
     ensures within { IfSome result (λ found. found.1 ≤ length bytes.now) }
 {
     let (first, len) = single_of(bytes)?;
-    Some(ranged(first, len, &bytes[len..]))
+    Some(stamp_or_range(first, len, &bytes[len..]))
 }
 
 // A stamp with its length, or the range that it begins with what follows it.
-fn ranged(first: Stamp, len: usize, rest: &[u8]) -> (Stamp, usize)
+fn stamp_or_range(first: Stamp, len: usize, rest: &[u8]) -> (Stamp, usize)
     requires { len + length rest.now < 2 ^ 63 }
     ensures value { result ≡ ranged first len rest.now }
     ensures within { result.1 ≤ len + length rest.now }

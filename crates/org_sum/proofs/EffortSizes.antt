@@ -100,7 +100,7 @@ gap_of b h = by (is_gap b) h
     by true e = refl
     by false e = absurd cc
 
--- where something stands behind the first word, a gap stands between
+-- where something stands after the first word, a gap stands between
 behind_word : (rest : List ℕ) → 1 ≤ length (trimmed (drop (length (take_while is_letter rest)) rest)) → length (take_while is_letter rest) + 2 ≤ length rest
 behind_word [] h = absurd (omega (arith, h))
 behind_word (b ∷ bs) h = by (is_letter b) refl (behind_word bs)

@@ -2,7 +2,7 @@
 use Rattle.std.proofs.Common.{ℕ, zero, suc, ◌≤◌, Bool, true, false, if◌then◌else◌, Option, None, Some, List, [], ◌∷◌, length, arith, ◌&&◌, is_some}
 use Rattle.std.specs.List.{sum_by}
 use Rattle.std.proofs.lemmas.List.Sums.{sum_by-cons}
-use Rattle.org_drawer.specs.Clock.{common, minutes_to, minutes_in}
+use Rattle.org_drawer.specs.Clock.{common_minutes, minutes_to, minutes_in}
 use Rattle.org_drawer.specs.declared.clock.ClockLine.{ClockLine}
 use Rattle.org_entry.specs.declared.entry.Entry.{Entry}
 use Rattle.org_outline.specs.Levels.{level_of}
@@ -10,7 +10,7 @@ use Rattle.org_sum.specs.Laws.{PartsHaveNoMore}
 use Rattle.org_sum.specs.Measures.{clock_minutes}
 use Rattle.org_sum.specs.Sums.{own_at, sum_below}
 
-common_grows : (from to a b c d : ℕ) → c ≤ a → b ≤ d → common from to a b ≤ common from to c d
+common_grows : (from to a b c d : ℕ) → c ≤ a → b ≤ d → common_minutes from to a b ≤ common_minutes from to c d
 common_grows from to a b c d h k = omega (arith, h, k)
 
 to_grows : (from : ℕ) (to : Option ℕ) (a b c d : ℕ) → c ≤ a → b ≤ d → minutes_to from to a b ≤ minutes_to from to c d

@@ -30,7 +30,7 @@ impl Measure {
 
     // The minutes of an entry.
     pub(crate) fn of(&self, entry: &Entry) -> u64
-        requires small { amount self.now entry.now < 2 ^ 63 }
+        requires fits { amount self.now entry.now < 2 ^ 63 }
         ensures value { result ≡ amount self.now entry.now }
     {
         match self {
@@ -42,14 +42,14 @@ impl Measure {
 
 #[tactic(auto, unfolding(crate::specs::Measures::clock_minutes))]
 fn clock_minutes(period: &Period, entry: &Entry) -> u64
-    requires small { clock_minutes (days_of period.now) entry.now < 2 ^ 63 }
+    requires fits { clock_minutes (days_of period.now) entry.now < 2 ^ 63 }
     ensures value { result ≡ clock_minutes (days_of period.now) entry.now }
 {
     minutes_of(period, entry.details.clocks())
 }
 
 fn minutes_of(period: &Period, clocks: &[ClockLine]) -> u64
-    requires small { minutes_of (days_of period.now) clocks.now < 2 ^ 63 }
+    requires fits { minutes_of (days_of period.now) clocks.now < 2 ^ 63 }
     ensures value { result ≡ minutes_of (days_of period.now) clocks.now }
 {
     let mut sum = 0;

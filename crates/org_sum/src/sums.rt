@@ -16,7 +16,7 @@ use std::alloc::{AllocError, Global};
 
 // What an entry counts.
 fn own_amount(measure: &Measure, entry: &Entry, counts: bool) -> u64
-    requires small { amount measure.now entry.now < 2 ^ 63 }
+    requires fits { amount measure.now entry.now < 2 ^ 63 }
     ensures value { result ≡ own (amount measure.now) entry.now counts }
 {
     if counts && entry.head.is_some() {
@@ -29,7 +29,7 @@ fn own_amount(measure: &Measure, entry: &Entry, counts: bool) -> u64
 // What the entry at a place counts.
 fn amount_at(measure: &Measure, outline: &Outline, counted: &[bool], place: usize) -> u64
     requires count { length counted.now ≡ length outline.now }
-    requires small { total (amount measure.now) outline.now < 2 ^ 63 }
+    requires fits { total (amount measure.now) outline.now < 2 ^ 63 }
     requires within { place < length outline.now }
     ensures value { result ≡ own_at (amount measure.now) outline.now counted.now place }
 {
@@ -49,7 +49,7 @@ pub fn whole_sum(measure: &Measure, outline: &Outline, counted: &[bool]) -> u64
 
 fn sum_of_all(measure: &Measure, outline: &Outline, counted: &[bool]) -> u64
     requires count { length counted.now ≡ length outline.now }
-    requires small { total (amount measure.now) outline.now < 2 ^ 63 }
+    requires fits { total (amount measure.now) outline.now < 2 ^ 63 }
     ensures value { result ≡ whole_sum (amount measure.now) outline.now counted.now }
     ensures most { result ≤ total (amount measure.now) outline.now }
 {
@@ -68,7 +68,7 @@ fn sums_before(
     counted: &[bool],
 ) -> Result<Vec<u64>, AllocError>
     requires count { length counted.now ≡ length outline.now }
-    requires small { total (amount measure.now) outline.now < 2 ^ 63 }
+    requires fits { total (amount measure.now) outline.now < 2 ^ 63 }
     ensures value { GivesItems result (sums_before (amount measure.now) outline.now counted.now) }
 {
     let mut before = Vec::new(alloc);
@@ -89,7 +89,7 @@ fn subtree_sums(
     counted: &[bool],
 ) -> Result<Vec<u64>, AllocError>
     requires count { length counted.now ≡ length outline.now }
-    requires small { total (amount measure.now) outline.now < 2 ^ 63 }
+    requires fits { total (amount measure.now) outline.now < 2 ^ 63 }
     ensures value { GivesItems result (subtree_sums (amount measure.now) outline.now counted.now) }
 {
     let before = sums_before(alloc, measure, outline, counted)?;
@@ -101,8 +101,8 @@ fn subtree_sums(
     Ok(sums)
 }
 
-/// The clock sum of each entry over a period, in minutes: what the clocks of all headings of its subtree that count have in
-/// common with the period (Org manual 9.6, "The clock table"). Want of memory is its only refusal.
+/// The clock sum of each entry over a period, in minutes: what the clocks of all headings of its subtree that count
+/// have in common with the period (Org manual 9.6, "The clock table").
 pub fn clock_sums(
     alloc: Global,
     outline: &Outline,
@@ -119,8 +119,8 @@ pub fn clock_sums(
     Ok(subtree_sums(alloc, &measure, outline, counted)?)
 }
 
-/// The effort sum of each entry, in minutes: the efforts of all headings of its subtree that count (Org manual 9.6, "Effort
-/// Estimates"). Want of memory is its only refusal.
+/// The effort sum of each entry, in minutes: the efforts of all headings of its subtree that count (Org manual 9.6,
+/// "Effort Estimates").
 pub fn effort_sums(alloc: Global, outline: &Outline, counted: &[bool]) -> Result<Vec<u64>, Fault>
     requires count { length counted.now ≡ length outline.now }
     requires text { AreOfText outline.now }

@@ -109,7 +109,7 @@ fn is_stopped(end: End) -> bool {
     }
 }
 
-fn shown(taken: &[u8]) -> Option<u64> {
+fn text_of_parts(taken: &[u8]) -> Option<u64> {
     if REPLIES.starts_with(taken) {
         Some(taken.len() as u64)
     } else {
@@ -140,7 +140,7 @@ fn run_over(alloc: Global, engine: &mut Engine<Whole>, failure: Failure) -> Outc
 fn outcome_of(end: End, reads: u64, sink: &Sink) -> Outcome {
     Outcome {
         is_stopped: is_stopped(end),
-        shown: shown(sink.taken.as_slice()),
+        shown: text_of_parts(sink.taken.as_slice()),
         reads,
         writes: sink.writes,
         flushes: sink.flushes,
@@ -162,7 +162,7 @@ fn count_of(outcome: Outcome, call: Call) -> u64 {
     }
 }
 
-// Whether the run stopped at the failure: no call of its kind came behind it, and of the replies a front was written, a byte
+// Whether the run stopped at the failure: no call of its kind came after it, and of the replies a front was written, a byte
 // for each write that didn't fail.
 fn is_met(outcome: Outcome, failure: Failure) -> bool {
     let failed = match failure.call {
@@ -188,7 +188,7 @@ fn wrong_place(alloc: Global, call: Call, count: u64) -> Result<Option<u64>, Fau
 }
 
 // The calls of a run in which none fails: a read for each byte and one at the end, a write for each byte of the replies, and a
-// flush behind each reply.
+// flush after each reply.
 const READS: u64 = STREAM.len() as u64 + 1;
 
 const WRITES: u64 = REPLIES.len() as u64;

@@ -67,7 +67,7 @@ fn one_stamp_among_years(rt: HostRuntime) -> Result<(), Fail> {
     Ok(())
 }
 
-// Behind an edit the stamps of what it touches are others; those of a heading that goes are gone, and what a session keeps has
+// After an edit the stamps of what it touches are others; those of a heading that goes are gone, and what a session keeps has
 // those that it had.
 #[test]
 fn stamps_behind_edits(rt: HostRuntime) -> Result<(), Fail> {

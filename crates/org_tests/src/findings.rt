@@ -1,6 +1,6 @@
 //! Findings: an example of each kind, and how they are printed.
 
-use org_base::{Fault, Meter, Names};
+use org_base::{Fault, Meter, NameSet};
 use org_cal::{Day, Minute, TimeOfDay};
 use org_check::{
     ALL_KINDS, About, Findings, Form, Kind, Selection, Wanted, checks, report, unknown_kind,
@@ -113,12 +113,12 @@ b <2024-02-09 Fri>--<2024-02-10 Sat> [2024-02-09 Fri]
 
 fn moment() -> Option<Minute> {
     let time = TimeOfDay::read(b"12:00");
-    Some(Minute::of(Day::spelled(b"2024-02-09")?, time))
+    Some(Minute::of(Day::of_text(b"2024-02-09")?, time))
 }
 
-fn found<T: Text>(alloc: Global, text: &T) -> Result<Findings, Fault> {
+fn findings_of<T: Text>(alloc: Global, text: &T) -> Result<Findings, Fault> {
     let settings = read_settings(alloc, &mut Meter::new(), text)?;
-    let mut others = Names::new(alloc);
+    let mut others = NameSet::new(alloc);
     others.add(Vec::from_slice(alloc, b"HOLD")?)?;
     let about = About {
         settings: &settings,
@@ -141,7 +141,7 @@ fn push_names(out: &mut String, findings: &Findings) -> Result<(), Fault> {
 
 fn finds(alloc: Global, text: &str, want: &str) -> Result<bool, Fault> {
     let text = Whole::of(alloc, text)?;
-    let findings = found(alloc, &text)?;
+    let findings = findings_of(alloc, &text)?;
     let mut names = String::new(alloc);
     push_names(&mut names, &findings)?;
     Ok(names.as_str() == want)
@@ -168,7 +168,7 @@ fn kinds_of_findings(rt: HostRuntime) -> Result<(), Fail> {
 fn unseen_kind() -> Option<&'static str> {
     for kind in &ALL_KINDS {
         let name = kind.name();
-        if !KINDS.contains(name) || Kind::named(name) != Some(*kind) {
+        if !KINDS.contains(name) || Kind::of_name(name) != Some(*kind) {
             return Some(name);
         }
     }
@@ -181,9 +181,9 @@ fn each_kind_has_a_row(rt: HostRuntime) {
     assert_eq!(rt; unknown_kind("no-such-date,bad"), Some("bad"));
 }
 
-fn printed(alloc: Global, text: &str, form: Form) -> Result<Vec<u8>, Fault> {
+fn print_findings(alloc: Global, text: &str, form: Form) -> Result<Vec<u8>, Fault> {
     let text = Whole::of(alloc, text)?;
-    let findings = found(alloc, &text)?;
+    let findings = findings_of(alloc, &text)?;
     let mut selection = Selection::new(alloc);
     selection.take("no-such-date,stray-planning")?;
     let wanted = Wanted {
@@ -195,7 +195,7 @@ fn printed(alloc: Global, text: &str, form: Form) -> Result<Vec<u8>, Fault> {
 
 fn is_printed(alloc: Global, form: Form, want: &str) -> Result<bool, Fault> {
     let text = "* a\n\n DEADLINE: <2024-02-09>\n<2024-02-30 \u{1b}\u{9b}\u{e9}>\n";
-    Ok(printed(alloc, text, form)?.as_slice() == want.as_bytes())
+    Ok(print_findings(alloc, text, form)?.as_slice() == want.as_bytes())
 }
 
 const LINES: &str =

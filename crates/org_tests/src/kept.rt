@@ -12,7 +12,7 @@ pub(crate) fn new_engine<T: Text>(alloc: Global) -> Result<Engine<T>, Fault> {
     Ok(Engine::new(alloc, moment, 0))
 }
 
-// The replies to commands, with no background step behind any; None where the run was stopped.
+// The replies to commands, with no background step after any; None where the run was stopped.
 pub(crate) fn replies<T: Text>(
     alloc: Global,
     engine: &mut Engine<T>,
@@ -51,7 +51,7 @@ fn is_counted(engine: &Engine<Whole>, counts: &str) -> bool {
         && number(words.next()) == engine.pending_of(1).ok()
 }
 
-// Whether commands, or one background step, are answered as they should be, with these counts behind them.
+// Whether commands, or one background step, are answered as they should be, with these counts after them.
 fn is_step(alloc: Global, engine: &mut Engine<Whole>, row: &str) -> Result<bool, Fault> {
     let (asked, rest) = row.split_once('~').unwrap_or((row, ""));
     let (want, counts) = rest.split_once('~').unwrap_or((rest, ""));
@@ -158,7 +158,7 @@ const KEYWORDS_FIRST: &str = "add a.org 27
   a:          WAIT q
 ~4 3 0";
 
-// Behind a question all sections are read anew where the keywords changed, and the one that was touched where they did not.
+// After a question all sections are read anew where the keywords changed, and the one that was touched where they did not.
 const KEYWORDS_LATER: &str = "add a.org 27
 * WAIT q
 * WAIT q
@@ -242,7 +242,7 @@ fn pins_and_drops(rt: HostRuntime) -> Result<(), Fail> {
     Ok(())
 }
 
-// The section of the heading is read, and behind the change it is to be read again.
+// The section of the heading is read, and after the change it is to be read again.
 const COMPLETE: &str = "add a.org 27
 * TODO a
 * TODO b

@@ -43,7 +43,7 @@ fn occurs_at(text: &str, day: Day) -> Option<bool> {
 fn is_day(row: &str) -> Option<bool> {
     let (text, rest) = row.split_once('=')?;
     let (day, answer) = rest.split_once(' ')?;
-    let occurs = occurs_at(text, Day::spelled(day.as_bytes())?)?;
+    let occurs = occurs_at(text, Day::of_text(day.as_bytes())?)?;
     Some(occurs == (answer == "yes"))
 }
 
@@ -83,12 +83,12 @@ fn days_in(alloc: Global, days: Occurrences) -> Result<String, Fault> {
 
 fn window(text: &str, from: &str, to: &str) -> Option<Occurrences> {
     let stamp = stamp_of(text)?;
-    let from = Day::spelled(from.as_bytes())?;
-    Some(occurrences_in(&stamp, Profile::One, from, Day::spelled(to.as_bytes())?))
+    let from = Day::of_text(from.as_bytes())?;
+    Some(occurrences_in(&stamp, Profile::One, from, Day::of_text(to.as_bytes())?))
 }
 
 // A row as its window, and the text of its days.
-fn parted(row: &str) -> Option<(Occurrences, &str)> {
+fn window_and_days(row: &str) -> Option<(Occurrences, &str)> {
     let (text, rest) = row.split_once('=')?;
     let (days, want) = rest.split_once('=')?;
     let (from, to) = days.split_once(' ')?;
@@ -96,7 +96,7 @@ fn parted(row: &str) -> Option<(Occurrences, &str)> {
 }
 
 fn is_window(alloc: Global, row: &str) -> Result<bool, Fault> {
-    match parted(row) {
+    match window_and_days(row) {
         Some((days, want)) => Ok(days_in(alloc, days)?.trim_end() == want),
         None => Ok(false),
     }
@@ -118,7 +118,7 @@ fn windows(rt: HostRuntime) -> Result<(), Fail> {
 }
 
 // Ranges that repeat, a day, and where the copy begins that the day shows in the second profile; then stamps, a day, and where
-// they begin next behind it.
+// they begin next after it.
 const STARTS: &str = "<2024-02-20 Tue +1w>--<2024-02-22 Thu>=2024-02-28=2024-02-27
 <2024-02-20 Tue +1w>--<2024-02-22 Thu>=2024-02-26=
 <2024-02-26 Mon +1d>--<2024-02-28 Wed>=2024-02-28=2024-02-28
@@ -137,25 +137,25 @@ const NEXT: &str = "<2024-01-31 Wed +1m>=2024-02-28=2024-02-29
 <9999-12-30 Thu +1d>=9999-12-31=";
 
 // What a row of these asks: a stamp and a day; and the day that is wanted.
-fn asked(row: &str) -> Option<(Stamp, Day, Option<Day>)> {
+fn stamp_and_days(row: &str) -> Option<(Stamp, Day, Option<Day>)> {
     let (text, rest) = row.split_once('=')?;
     let (day, want) = rest.split_once('=')?;
     Some((
         stamp_of(text)?,
-        Day::spelled(day.as_bytes())?,
-        Day::spelled(want.as_bytes()),
+        Day::of_text(day.as_bytes())?,
+        Day::of_text(want.as_bytes()),
     ))
 }
 
 fn is_start(row: &str) -> bool {
-    match asked(row) {
+    match stamp_and_days(row) {
         Some((stamp, day, want)) => range_start(&stamp, Profile::Two, day) == want,
         None => false,
     }
 }
 
 fn is_next(row: &str) -> bool {
-    match asked(row) {
+    match stamp_and_days(row) {
         Some((stamp, day, want)) => next_after(&stamp, day) == want,
         None => false,
     }
@@ -210,7 +210,7 @@ const SHIFTS: &str = "2005-10-15 12:00=<2005-10-01 Sat +1m>=<2005-11-01 Tue +1m>
 2024-02-28 10:30=<9999-12-31 Fri ++1m>=date
 2024-02-28 10:30=<2024-01-01 Mon .+8000y>=date";
 
-fn shown(alloc: Global, stamp: &Stamp, moment: Moment) -> Result<String, Fault> {
+fn text_of_parts(alloc: Global, stamp: &Stamp, moment: Moment) -> Result<String, Fault> {
     match shifted(stamp, moment) {
         Ok(stamp) => print_stamp(alloc, &stamp),
         Err(fault) => Ok(String::from_str(alloc, fault.code().name())?),
@@ -219,7 +219,7 @@ fn shown(alloc: Global, stamp: &Stamp, moment: Moment) -> Result<String, Fault> 
 
 fn shifts(alloc: Global, moment: Moment, text: &str, want: &str) -> Result<bool, Fault> {
     match stamp_of(text) {
-        Some(stamp) => Ok(shown(alloc, &stamp, moment)?.as_str() == want),
+        Some(stamp) => Ok(text_of_parts(alloc, &stamp, moment)?.as_str() == want),
         None => Ok(false),
     }
 }

@@ -21,7 +21,7 @@ const CALLS: u64 = 8;
 const MOST_CALLS: u64 = 11;
 
 // The store and the answer of a replacement whose call of a number fails.
-fn tried(
+fn try_replace(
     alloc: Global,
     failing: u64,
     foreign: &[u8],
@@ -64,7 +64,7 @@ fn is_said(store: &Memory, meanwhile: Meanwhile, foreign: &[u8]) -> bool {
 // The first failing call after which it is not so.
 fn wrong_call(alloc: Global, foreign: &[u8]) -> Result<Option<u64>, AllocError> {
     for failing in 0..=MOST_CALLS {
-        let (store, answer) = tried(alloc, failing, foreign)?;
+        let (store, answer) = try_replace(alloc, failing, foreign)?;
         if !is_so(&store, answer, foreign) {
             return Ok(Some(failing));
         }
@@ -85,17 +85,17 @@ fn answer_of(
     failing: u64,
     foreign: &[u8],
 ) -> Result<(Result<Saved, Unsaved>, u64), AllocError> {
-    let (store, answer) = tried(alloc, failing, foreign)?;
+    let (store, answer) = try_replace(alloc, failing, foreign)?;
     Ok((answer, store.calls()))
 }
 
 // A replacement that was made.
-fn saved(durable: bool, meanwhile: Meanwhile) -> Result<Saved, Unsaved> {
+fn of_saved(durable: bool, meanwhile: Meanwhile) -> Result<Saved, Unsaved> {
     Ok(Saved { durable, meanwhile })
 }
 
 // One of which a step failed, and that left nothing.
-fn failed(step: Step) -> Result<Saved, Unsaved> {
+fn of_failed(step: Step) -> Result<Saved, Unsaved> {
     Err(Unsaved {
         why: Why::Failed(step, Cause::Other),
         left: false,
@@ -107,23 +107,23 @@ fn replaces(rt: HostRuntime) -> Result<(), Fail> {
     let alloc = rt.alloc();
     assert_eq!(rt;
         answer_of(alloc, 0, b"")?,
-        (saved(true, Meanwhile::Nothing), CALLS)
+        (of_saved(true, Meanwhile::Nothing), CALLS)
     );
     assert_eq!(rt;
         answer_of(alloc, 0, FOREIGN)?,
-        (saved(true, Meanwhile::Rescued), MOST_CALLS)
+        (of_saved(true, Meanwhile::Rescued), MOST_CALLS)
     );
     assert_eq!(rt;
         answer_of(alloc, 8, b"")?,
-        (saved(false, Meanwhile::Nothing), CALLS)
+        (of_saved(false, Meanwhile::Nothing), CALLS)
     );
     assert_eq!(rt;
         answer_of(alloc, 7, FOREIGN)?,
-        (saved(true, Meanwhile::Unknown), CALLS)
+        (of_saved(true, Meanwhile::Unknown), CALLS)
     );
     assert_eq!(rt;
         answer_of(alloc, 9, FOREIGN)?,
-        (saved(true, Meanwhile::Lost), MOST_CALLS - 1)
+        (of_saved(true, Meanwhile::Lost), MOST_CALLS - 1)
     );
     Ok(())
 }
@@ -131,12 +131,12 @@ fn replaces(rt: HostRuntime) -> Result<(), Fail> {
 #[test]
 fn says_which_step_failed(rt: HostRuntime) -> Result<(), Fail> {
     let alloc = rt.alloc();
-    assert_eq!(rt; answer_of(alloc, 1, b"")?.0, failed(Step::Make));
-    assert_eq!(rt; answer_of(alloc, 2, b"")?.0, failed(Step::Access));
-    assert_eq!(rt; answer_of(alloc, 3, b"")?.0, failed(Step::Write));
-    assert_eq!(rt; answer_of(alloc, 4, b"")?.0, failed(Step::Sync));
-    assert_eq!(rt; answer_of(alloc, 5, b"")?.0, failed(Step::Read));
-    assert_eq!(rt; answer_of(alloc, 6, b"")?.0, failed(Step::Rename));
+    assert_eq!(rt; answer_of(alloc, 1, b"")?.0, of_failed(Step::Make));
+    assert_eq!(rt; answer_of(alloc, 2, b"")?.0, of_failed(Step::Access));
+    assert_eq!(rt; answer_of(alloc, 3, b"")?.0, of_failed(Step::Write));
+    assert_eq!(rt; answer_of(alloc, 4, b"")?.0, of_failed(Step::Sync));
+    assert_eq!(rt; answer_of(alloc, 5, b"")?.0, of_failed(Step::Read));
+    assert_eq!(rt; answer_of(alloc, 6, b"")?.0, of_failed(Step::Rename));
     Ok(())
 }
 

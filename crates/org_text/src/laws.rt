@@ -1,7 +1,7 @@
 //! Laws of the definitions. Each is a function without parameters whose contract is the law.
 ghost use Rattle.org_text.specs.Laws.{BoundariesCutNothing, LimitsAreNamed};
 
-/// No character of a text is cut at a place exactly where what stands before it and what stands behind it are UTF-8.
+/// No character of a text is cut at a place exactly where what stands before it and what stands after it are UTF-8.
 pub fn boundaries_cut_nothing()
     ensures { BoundariesCutNothing }
 {}

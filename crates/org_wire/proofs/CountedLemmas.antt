@@ -59,7 +59,7 @@ module _ (second : Bool) where
       (new, subst (λ (e : EngineView). CountedTurn idle second bytes e answer new) h.1 at, (ap (λ (b : List ℕ). (reading_of second b).rest) h.0, refl))
   counted_more idle (a ∷ answers) bytes old rest mid answer new h t = (h.0, h.1, counted_more idle answers (reading_of second bytes).rest h.0 rest mid answer new h.2 t)
 
-  -- one more turn, and the background steps behind it
+  -- one more turn, and the background steps after it
   pub count_turn : (idle : ℕ) (first now next : Option (List ℕ)) (old mid new end : EngineView) (result : Next) (answer : Reply) → IfSome first (λ bytes. IsCountedSoFar idle second bytes old mid now) →
       IfSome now (λ b. IsRead (reading_of second b) result next) → Answered second result mid.state answer new.state → Did result mid new → end.state ≡ new.state → Reads idle new end →
       IfSome first (λ bytes. IsCountedSoFar idle second bytes old end next)

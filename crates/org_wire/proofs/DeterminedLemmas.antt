@@ -9,12 +9,12 @@ use Rattle.org_base.specs.declared.fault.Fault.{Fault}
 use Rattle.org_base.specs.declared.fault.Fault.TheVariants.{Plain}
 use Rattle.org_engine.specs.Questions.{AsksOf}
 use Rattle.org_engine.specs.declared.question.Form.{Form}
-use Rattle.org_engine.specs.Step.{Question, answer, view_of, world_for}
+use Rattle.org_engine.specs.Step.{Question, answer, render_view, world_for}
 use Rattle.org_engine.specs.Step as step
 use Rattle.org_engine.proofs.AnswerLemmas.{same_clock, same_match}
 use Rattle.org_engine.specs.World.{State, WorldView}
 use Rattle.org_wire.specs.Determined.{IsSettled, RunsAreDetermined}
-use Rattle.org_wire.specs.Run.{AnswersSo, EndsSo, IsWhole, Means, MeansView, Runs, Turn, last_bytes, shown, told_to, written}
+use Rattle.org_wire.specs.Run.{AnswersSo, EndsSo, IsWhole, Means, MeansView, JaggedVec, Turn, last_bytes, shown, told_to, written}
 use Rattle.org_wire.specs.Stream.{line_of, reading_of}
 use Rattle.org_wire.specs.declared.command.Command.{Command}
 use Rattle.org_wire.specs.declared.command.Command.TheVariants.{Add, Agenda, At, Clock, Complete, Drop, Edit, Inherit, Keywords, Match, Pin, Profile, Text, Todo, Unpin, Version}
@@ -22,11 +22,11 @@ use Rattle.org_wire.specs.declared.command.Request.{Request}
 use Rattle.org_wire.specs.declared.command.Next.{Next}
 use Rattle.org_wire.specs.declared.command.Next.TheVariants.{Given, Refused, Last, Ended}
 use Rattle.org_wire.specs.declared.reply.Reply.{Reply}
-use Rattle.org_wire.specs.declared.whole.End.{End}
+use Rattle.org_wire.specs.declared.run.End.{End}
 
 -- the answer to a question, as it is written
-abbrev tell : Form → Question → WorldView → Reply
-tell form question world = shown (view_of form question world)
+abbrev send : Form → Question → WorldView → Reply
+send form question world = shown (render_view form question world)
 
 -- no pattern was refused
 built : (r : step.Reply) → IsSettled (shown r) → r ≢ step.Refused (Plain code.Regexp)
@@ -34,14 +34,14 @@ built r settled is = settled.1 (ap shown is)
 
 -- views: what is asked has one answer, whether or not its world can be asked
 abbrev IsOneAnswer : Form → (ℕ → Question → Type 0) → Type 0
-IsOneAnswer form asks = (day : ℕ) (p q : Question) (world : WorldView) → asks day p → asks day q → IsSettled (tell form p world) → IsSettled (tell form q world) → view_of form p world ≡ view_of form q world
+IsOneAnswer form asks = (day : ℕ) (p q : Question) (world : WorldView) → asks day p → asks day q → IsSettled (send form p world) → IsSettled (send form q world) → render_view form p world ≡ render_view form q world
 
 one_answer : (form : Form) (asks : ℕ → Question → Type 0) → IsOneAnswer form asks → (w : Result WorldView Fault) (p q : Question) → AsksOf asks w p → AsksOf asks w q → IsSettled (shown (answer form p w)) → IsSettled (shown (answer form q w)) →
     answer form p w ≡ answer form q w
 one_answer form asks one (Err f) p q a b s t = refl
 one_answer form asks one (Ok world) p q a b s t = one world.moment.day p q world a b s t
 
--- what is answered, and the state behind it
+-- what is answered, and the state after it
 record Same (a b : Reply) (mid mid' : State) : Type 0 where
   answer : a ≡ b
   state : mid ≡ mid'
@@ -83,10 +83,10 @@ module _ (second : Bool) where
     by_command (Text name) said other p q = by_one shown _ said other p q
     by_command (Keywords name) said other p q = by_one shown _ said other p q
     by_command Version said other p q = by_one shown _ said other p q
-    by_command (Todo request file words) said other p q = by_view _ request (λ day p q world i j s t. ap (λ question. view_of request.form question world) (i ∙ sym j)) said other p q
-    by_command (Match request file text) said other p q = by_view _ request (λ day p q world i j s t. same_match request.form file text p q world i j (built (view_of request.form p world) s) (built (view_of request.form q world) t)) said other p q
-    by_command (Agenda request date days) said other p q = by_view _ request (λ day p q world i j s t. ap (λ question. view_of request.form question world) (i ∙ sym j)) said other p q
-    by_command (Clock request text) said other p q = by_view _ request (λ day p q world i j s t. same_clock request.form text day p q world i j (built (view_of request.form p world) s) (built (view_of request.form q world) t)) said other p q
+    by_command (Todo request file words) said other p q = by_view _ request (λ day p q world i j s t. ap (λ question. render_view request.form question world) (i ∙ sym j)) said other p q
+    by_command (Match request file text) said other p q = by_view _ request (λ day p q world i j s t. same_match request.form file text p q world i j (built (render_view request.form p world) s) (built (render_view request.form q world) t)) said other p q
+    by_command (Agenda request date days) said other p q = by_view _ request (λ day p q world i j s t. ap (λ question. render_view request.form question world) (i ∙ sym j)) said other p q
+    by_command (Clock request text) said other p q = by_view _ request (λ day p q world i j s t. same_clock request.form text day p q world i j (built (render_view request.form p world) s) (built (render_view request.form q world) t)) said other p q
 
     by_next : (next : Next) → AnswersSo second next old a mid → AnswersSo second next old b mid' → Same a b mid mid'
     by_next (Given command) (said, means, am, after) (other, says, bm, behind) = by_command command said other means says am after bm behind
@@ -97,14 +97,14 @@ module _ (second : Bool) where
   same_turn : (bytes : List ℕ) (old mid mid' : State) (a b : Reply) → Turn second (line_of second) bytes old a mid → Turn second (line_of second) bytes old b mid' → IsSettled a → IsSettled b → Same a b mid mid'
   same_turn bytes old mid mid' a b p q s t = by_next old mid mid' a b s t (reading_of second bytes).next (p.done s.0) (q.done t.0)
 
-  same_runs : (bytes rest left : List ℕ) (old new after : State) (answers others : List Reply) → Runs second (line_of second) bytes old answers rest new → Runs second (line_of second) bytes old others left after →
+  same_runs : (bytes rest left : List ℕ) (old new after : State) (answers others : List Reply) → JaggedVec second (line_of second) bytes old answers rest new → JaggedVec second (line_of second) bytes old others left after →
       length answers ≡ length others → All IsSettled answers → All IsSettled others → (answers ≡ others) × (rest ≡ left) × (new ≡ after)
   same_runs bytes rest left old new after [] [] p q e s t = (refl, p.0 ∙ sym q.0, p.1 ∙ sym q.1)
   same_runs bytes rest left old new after [] (b ∷ others) p q e s t = absurd (omega (arith, e))
   same_runs bytes rest left old new after (a ∷ answers) [] p q e s t = absurd (omega (arith, e))
   same_runs bytes rest left old new after (a ∷ answers) (b ∷ others) (mid, turn, runs) (mid', other, behind) e s t =
       let one = same_turn bytes old mid mid' a b turn other (All-head IsSettled a answers s) (All-head IsSettled b others t) in
-      let all = same_runs (reading_of second bytes).rest rest left mid new after answers others runs (subst (λ (m : State). Runs second (line_of second) (reading_of second bytes).rest m others left after) (sym one.state) behind)
+      let all = same_runs (reading_of second bytes).rest rest left mid new after answers others runs (subst (λ (m : State). JaggedVec second (line_of second) (reading_of second bytes).rest m others left after) (sym one.state) behind)
       (omega (arith, e)) (All-tail IsSettled a answers s) (All-tail IsSettled b others t) in
       (ap (λ x. x ∷ answers) one.answer ∙ ap (λ xs. b ∷ xs) all.0, all.1, all.2)
 
@@ -117,7 +117,7 @@ module _ (second : Bool) where
     stops (Last fault) e p = p
     stops Ended e p = p
 
-  same_length : (bytes rest left : List ℕ) (old new after : State) (answers others : List Reply) (end last : End) → Runs second (line_of second) bytes old answers rest new → Runs second (line_of second) bytes old others left after →
+  same_length : (bytes rest left : List ℕ) (old new after : State) (answers others : List Reply) (end last : End) → JaggedVec second (line_of second) bytes old answers rest new → JaggedVec second (line_of second) bytes old others left after →
       EndsSo (reading_of second rest).next end → EndsSo (reading_of second left).next last → All IsSettled answers → All IsSettled others → length answers ≡ length others
   same_length bytes rest left old new after [] [] end last p q e f s t = refl
   same_length bytes rest left old new after [] (b ∷ others) end last p (mid', other, behind) e f s t =
@@ -126,7 +126,7 @@ module _ (second : Bool) where
       absurd (no_turn bytes old mid a last (subst (λ l. EndsSo (reading_of second l).next last) q.0 f) turn (All-head IsSettled a answers s))
   same_length bytes rest left old new after (a ∷ answers) (b ∷ others) end last (mid, turn, runs) (mid', other, behind) e f s t =
       let one = same_turn bytes old mid mid' a b turn other (All-head IsSettled a answers s) (All-head IsSettled b others t) in
-      ap suc (same_length (reading_of second bytes).rest rest left mid new after answers others end last runs (subst (λ (m : State). Runs second (line_of second) (reading_of second bytes).rest m others left after) (sym one.state) behind)
+      ap suc (same_length (reading_of second bytes).rest rest left mid new after answers others end last runs (subst (λ (m : State). JaggedVec second (line_of second) (reading_of second bytes).rest m others left after) (sym one.state) behind)
       e f (All-tail IsSettled a answers s) (All-tail IsSettled b others t))
 
   one_end : (next : Next) (end last : End) → EndsSo next end → EndsSo next last → end ≡ last

@@ -7,7 +7,7 @@ use Rattle.org_wire.specs.Spelled.{IsSpelled}
 use Rattle.org_wire.specs.Stream.{Bad, Framed, Line, Plainly, line_of}
 use Rattle.org_wire.specs.Turns.{AnswersAllRead, IsReadRun}
 use Rattle.org_wire.specs.Views.{CountedView}
-use Rattle.org_wire.specs.declared.whole.End.{End}
+use Rattle.org_wire.specs.declared.run.End.{End}
 use Rattle.org_wire.proofs.SpelledBack.{lines_are_spelled}
 
 module _ (second : Bool) (says : List ℕ → Line) (spelled : IsSpelled second says) where
@@ -17,9 +17,9 @@ module _ (second : Bool) (says : List ℕ → Line) (spelled : IsSpelled second 
   one_saying : (line : List ℕ) (l m : Line) → line_of second line ≡ l → says line ≡ m → l ≡ m
   one_saying line Bad Bad p q = refl
   one_saying line Bad (Plainly command) p q = sym p ∙ (read.plain line command).1 ((spelled.plain line command).0 q)
-  one_saying line Bad (Framed frame size) p q = sym p ∙ (read.framed line frame size).1 ((spelled.framed line frame size).0 q)
+  one_saying line Bad (Framed frame size) p q = sym p ∙ (read.command_of_frame line frame size).1 ((spelled.command_of_frame line frame size).0 q)
   one_saying line (Plainly command) m p q = sym ((spelled.plain line command).1 ((read.plain line command).0 p)) ∙ q
-  one_saying line (Framed frame size) m p q = sym ((spelled.framed line frame size).1 ((read.framed line frame size).0 p)) ∙ q
+  one_saying line (Framed frame size) m p q = sym ((spelled.command_of_frame line frame size).1 ((read.command_of_frame line frame size).0 p)) ∙ q
 
   pub says_is : line_of second ≡ says
   says_is = λ i line. one_saying line (line_of second line) (says line) refl refl i

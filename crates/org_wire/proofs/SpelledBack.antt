@@ -15,12 +15,12 @@ use Rattle.org_wire.specs.Spelled.{AreKeywords, AreNames, IsFileOf, IsFrameLine,
 use Rattle.org_wire.specs.Stream.{Bad, Framed, Line, Plainly, add_line, agenda_line, at_line, complete_at, complete_line, dated_line, edit_at, edit_del, edit_line, file_line, first_number, inherit_line, is_name, is_one_word, line_of, list_line, match_line, moment_of, number_of, pin_line, pinned_line, question_line, seen_name, seen_of, seen_serial, seen_session, sized, todo_line, unpin_line, view_line, view_words, words_from, words_line}
 use Rattle.org_wire.specs.declared.command.Command.{Command}
 use Rattle.org_wire.specs.declared.command.Command.TheVariants.{Add, Agenda, At, Clock, Complete, Drop, Edit, Inherit, Keywords, Match, Pin, Profile, Text, Todo, Unpin, Version}
-use Rattle.org_wire.specs.declared.command.Frame.{Frame}
-use Rattle.org_wire.specs.declared.command.Frame.TheVariants as frame
+use Rattle.org_wire.specs.declared.command.PayloadHeader.{PayloadHeader}
+use Rattle.org_wire.specs.declared.command.PayloadHeader.TheVariants as frame
 use Rattle.org_engine.specs.declared.question.Form.{Form}
 use Rattle.org_engine.specs.declared.question.Form.TheVariants as form
 use Rattle.org_wire.specs.declared.command.Request.{Request}
-use Rattle.org_wire.specs.declared.command.Seen.{Seen}
+use Rattle.org_wire.specs.declared.command.BaseVersion.{BaseVersion}
 use Rattle.org_wire.proofs.NumberLemmas.{numbers_are_spelled}
 use Rattle.org_wire.proofs.SpelledLines.{Spelled, both, spelled_so}
 use Rattle.org_wire.proofs.SpelledWords.{apart, cut_back, first_back, parted_more, words_back}
@@ -125,7 +125,7 @@ module _ (second : Bool) where
       ap add_line (cut_back 32 name (decimal size) (name_apart name is)) ∙ named ∙ ap (sized (frame.Add name)) (number_so size le)
 
   -- what a session saw
-  seen_back : (seen : Seen) (rest : List ℕ) → IsSeen seen → seen_of (decimal seen.session ++ (32 ∷ (seen.name ++ (32 ∷ (decimal seen.serial ++ (32 ∷ rest)))))) ≡ Some (seen, rest)
+  seen_back : (seen : BaseVersion) (rest : List ℕ) → IsSeen seen → seen_of (decimal seen.session ++ (32 ∷ (seen.name ++ (32 ∷ (decimal seen.serial ++ (32 ∷ rest)))))) ≡ Some (seen, rest)
   seen_back seen rest is =
       let last : List ℕ = decimal seen.serial ++ (32 ∷ rest) in
       let named : seen_name seen.session (Some (record { before = seen.name; after = last })) ≡ seen_serial seen.session seen.name (first_number (cut_at 32 last)) = rw (name_so seen.name is.1) refl in
@@ -134,7 +134,7 @@ module _ (second : Bool) where
       ∙ named
       ∙ ap (seen_serial seen.session seen.name) (first_back seen.serial rest is.2)
 
-  complete_back : (seen : Seen) (place : ℕ) (keyword : List ℕ) → IsSeen seen → IsNumber place → IsWord keyword →
+  complete_back : (seen : BaseVersion) (place : ℕ) (keyword : List ℕ) → IsSeen seen → IsNumber place → IsWord keyword →
       line_of second (spaced (codes "complete" ∷ (seen_parts seen ++ (decimal place ∷ (keyword ∷ []))))) ≡ Plainly (Complete seen place keyword)
   unfolding line_of
   complete_back seen place keyword is le word =
@@ -142,7 +142,7 @@ module _ (second : Bool) where
       let last : complete_at seen (Some (place, keyword)) ≡ Plainly (Complete seen place keyword) = rw (word_so keyword word) refl in
       ap complete_line (seen_back seen rest is) ∙ ap (complete_at seen) (first_back place keyword le) ∙ last
 
-  edit_back : (seen : Seen) (at del size : ℕ) → IsSeen seen → IsNumber at → IsNumber del → IsNumber size →
+  edit_back : (seen : BaseVersion) (at del size : ℕ) → IsSeen seen → IsNumber at → IsNumber del → IsNumber size →
       line_of second (spaced (codes "edit" ∷ (seen_parts seen ++ (decimal at ∷ (decimal del ∷ (decimal size ∷ [])))))) ≡ Framed (frame.Edit seen at del) size
   unfolding line_of
   edit_back seen at del size is a d n =
@@ -269,12 +269,12 @@ module _ (second : Bool) where
   plain_back line (Agenda request date days) is = agenda_back request date line days is.0 is.1 is.2
   plain_back line (Clock request text) is = clock_back request text line is
 
-  framed_back : (line : List ℕ) (frame : Frame) (size : ℕ) → IsFrameLine frame size line → line_of second line ≡ Framed frame size
+  framed_back : (line : List ℕ) (frame : PayloadHeader) (size : ℕ) → IsFrameLine frame size line → line_of second line ≡ Framed frame size
   framed_back line (frame.Add name) size is = ap (line_of second) is.0 ∙ add_back name size is.1 is.2
   framed_back line (frame.Edit seen at del) size is = ap (line_of second) is.0 ∙ edit_back seen at del size is.1 is.2 is.3 is.4
 
 pub lines_are_spelled : LinesAreSpelled
 lines_are_spelled second = record {
   plain = λ line command. (λ e. subst (λ (l : Line). Spelled second l line) e (spelled_so second line), plain_back second line command);
-  framed = λ line frame size. (λ e. subst (λ (l : Line). Spelled second l line) e (spelled_so second line), framed_back second line frame size);
+  command_of_frame = λ line frame size. (λ e. subst (λ (l : Line). Spelled second l line) e (spelled_so second line), framed_back second line frame size);
 }

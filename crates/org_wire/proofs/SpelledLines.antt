@@ -15,12 +15,12 @@ use Rattle.org_wire.specs.Spelled.{IsFileOf, IsFrameLine, IsKnown, IsLineOf, IsN
 use Rattle.org_wire.specs.Stream.{Bad, Framed, Line, Plainly, add_line, agenda_line, are_words, at_line, clock_line, complete_at, complete_line, dated_line, drop_line, edit_at, edit_del, edit_line, file_line, first_number, inherit_line, is_name, keywords_line, is_one_word, is_word, line_of, list_line, list_words, match_line, moment_of, number_of, pin_line, pinned_line, profile_line, question_line, seen_name, seen_of, seen_serial, seen_session, sized, text_line, todo_line, unpin_line, view_line, view_words, words_from, words_line}
 use Rattle.org_wire.specs.declared.command.Command.TheVariants.{At, Clock, Complete, Drop, Inherit, Keywords, Match, Profile, Text, Todo, Version}
 use Rattle.org_base.specs.declared.profile.Profile.TheVariants.{One, Two}
-use Rattle.org_wire.specs.declared.command.Frame.{Frame}
-use Rattle.org_wire.specs.declared.command.Frame.TheVariants as frame
+use Rattle.org_wire.specs.declared.command.PayloadHeader.{PayloadHeader}
+use Rattle.org_wire.specs.declared.command.PayloadHeader.TheVariants as frame
 use Rattle.org_engine.specs.declared.question.Form.{Form}
 use Rattle.org_engine.specs.declared.question.Form.TheVariants as form
 use Rattle.org_wire.specs.declared.command.Request.{Request}
-use Rattle.org_wire.specs.declared.command.Seen.{Seen}
+use Rattle.org_wire.specs.declared.command.BaseVersion.{BaseVersion}
 use Rattle.org_cal.specs.Texts.{date_of, time_of}
 use Rattle.org_wire.proofs.NumberLemmas.{numbers_are_spelled}
 use Rattle.org_wire.proofs.SpelledWords.{FirstSays, IsThere, Says, cut_says, first_says, parted_more, some_word, words_there}
@@ -121,7 +121,7 @@ module _ (second : Bool) where
       (cut.before, cut.after, e ∙ ap (λ t. codes "at" ++ (32 ∷ t)) says.0, word_is cut.before b.0, word_is cut.after b.1, refl)) tt
 
   -- a payload of so many bytes
-  sized_says : (line word : List ℕ) (frame : Frame) (n : Option ℕ) → number_of word ≡ n → ((size : ℕ) → number_of word ≡ Some size → IsFrameLine frame size line) → Spelled (sized frame n) line
+  sized_says : (line word : List ℕ) (frame : PayloadHeader) (n : Option ℕ) → number_of word ≡ n → ((size : ℕ) → number_of word ≡ Some size → IsFrameLine frame size line) → Spelled (sized frame n) line
   sized_says line word frame None k is = tt
   sized_says line word frame (Some size) k is = is size k
 
@@ -134,7 +134,7 @@ module _ (second : Bool) where
       (e ∙ ap (λ t. codes "add" ++ (32 ∷ t)) (says.0 ∙ ap (λ w. cut.before ++ (32 ∷ w)) number.0), name_is cut.before y, number.1))) tt
 
   -- what a session saw
-  abbrev pub SeenSays : List ℕ → Option (Seen × List ℕ) → Type 0
+  abbrev pub SeenSays : List ℕ → Option (BaseVersion × List ℕ) → Type 0
   SeenSays text None = Unit {0}
   SeenSays text (Some seen) =
       (text ≡ decimal seen.0.session ++ (32 ∷ (seen.0.name ++ (32 ∷ (decimal seen.0.serial ++ (32 ∷ seen.1)))))) × IsSeen seen.0
@@ -160,19 +160,19 @@ module _ (second : Bool) where
   seen_says text = session_says text (first_number (cut_at 32 text)) (first_says text)
 
   -- `complete`
-  complete_word : (line rest : List ℕ) (seen : Seen) (o : Option (ℕ × List ℕ)) → FirstSays rest o → IsSeen seen →
+  complete_word : (line rest : List ℕ) (seen : BaseVersion) (o : Option (ℕ × List ℕ)) → FirstSays rest o → IsSeen seen →
       line ≡ codes "complete" ++ (32 ∷ (decimal seen.session ++ (32 ∷ (seen.name ++ (32 ∷ (decimal seen.serial ++ (32 ∷ rest))))))) → Spelled (complete_at seen o) line
   complete_word line rest seen None says is e = tt
   complete_word line rest seen (Some place) says is e = choose line (is_one_word place.1) (Plainly (Complete seen place.0 place.1)) Bad (λ y.
       (e ∙ ap (λ t. codes "complete" ++ (32 ∷ (decimal seen.session ++ (32 ∷ (seen.name ++ (32 ∷ (decimal seen.serial ++ (32 ∷ t)))))))) says.0, is, says.1, word_is place.1 y)) tt
 
-  complete_says : (line rest : List ℕ) (o : Option (Seen × List ℕ)) → SeenSays rest o → line ≡ codes "complete" ++ (32 ∷ rest) → Spelled (complete_line o) line
+  complete_says : (line rest : List ℕ) (o : Option (BaseVersion × List ℕ)) → SeenSays rest o → line ≡ codes "complete" ++ (32 ∷ rest) → Spelled (complete_line o) line
   complete_says line rest None says e = tt
   complete_says line rest (Some seen) says e =
       complete_word line seen.1 seen.0 (first_number (cut_at 32 seen.1)) (first_says seen.1) says.1 (e ∙ ap (λ t. codes "complete" ++ (32 ∷ t)) says.0)
 
   -- `edit`
-  edit_size : (line front rest : List ℕ) (seen : Seen) (at : ℕ) (o : Option (ℕ × List ℕ)) → FirstSays rest o → IsSeen seen → IsNumber at →
+  edit_size : (line front rest : List ℕ) (seen : BaseVersion) (at : ℕ) (o : Option (ℕ × List ℕ)) → FirstSays rest o → IsSeen seen → IsNumber at →
       line ≡ codes "edit" ++ (32 ∷ (decimal seen.session ++ (32 ∷ (seen.name ++ (32 ∷ (decimal seen.serial ++ (32 ∷ (decimal at ++ (32 ∷ rest))))))))) → Spelled (edit_del seen at o) line
   edit_size line front rest seen at None says is number e = tt
   edit_size line front rest seen at (Some del) says is number e = sized_says line del.1 (frame.Edit seen at del.0) (number_of del.1) refl (λ size k.
@@ -180,14 +180,14 @@ module _ (second : Bool) where
       let tail : rest ≡ decimal del.0 ++ (32 ∷ decimal size) = says.0 ∙ ap (λ w. decimal del.0 ++ (32 ∷ w)) last.0 in
       (e ∙ ap (λ t. codes "edit" ++ (32 ∷ (decimal seen.session ++ (32 ∷ (seen.name ++ (32 ∷ (decimal seen.serial ++ (32 ∷ (decimal at ++ (32 ∷ t)))))))))) tail, is, number, says.1, last.1))
 
-  edit_place : (line rest : List ℕ) (seen : Seen) (o : Option (ℕ × List ℕ)) → FirstSays rest o → IsSeen seen →
+  edit_place : (line rest : List ℕ) (seen : BaseVersion) (o : Option (ℕ × List ℕ)) → FirstSays rest o → IsSeen seen →
       line ≡ codes "edit" ++ (32 ∷ (decimal seen.session ++ (32 ∷ (seen.name ++ (32 ∷ (decimal seen.serial ++ (32 ∷ rest))))))) → Spelled (edit_at seen o) line
   edit_place line rest seen None says is e = tt
   edit_place line rest seen (Some at) says is e =
       edit_size line [] at.1 seen at.0 (first_number (cut_at 32 at.1)) (first_says at.1) is says.1
       (e ∙ ap (λ t. codes "edit" ++ (32 ∷ (decimal seen.session ++ (32 ∷ (seen.name ++ (32 ∷ (decimal seen.serial ++ (32 ∷ t)))))))) says.0)
 
-  edit_says : (line rest : List ℕ) (o : Option (Seen × List ℕ)) → SeenSays rest o → line ≡ codes "edit" ++ (32 ∷ rest) → Spelled (edit_line o) line
+  edit_says : (line rest : List ℕ) (o : Option (BaseVersion × List ℕ)) → SeenSays rest o → line ≡ codes "edit" ++ (32 ∷ rest) → Spelled (edit_line o) line
   edit_says line rest None says e = tt
   edit_says line rest (Some seen) says e =
       edit_place line seen.1 seen.0 (first_number (cut_at 32 seen.1)) (first_says seen.1) says.1 (e ∙ ap (λ t. codes "edit" ++ (32 ∷ t)) says.0)
@@ -202,7 +202,7 @@ module _ (second : Bool) where
   question_is (Some session) parts view line any whole e =
       (whole.0 ∙ ap (λ t. codes "pinned" ++ (32 ∷ t)) (ap (λ t. decimal session ++ (32 ∷ t)) e ∙ sym (parted_more 32 (decimal session) parts any)), whole.1)
 
-  -- a view behind the word for its form
+  -- a view after the word for its form
   abbrev pub formed : Form → List ℕ → List ℕ
   formed form.Text view = view
   formed form.Places view = codes "places" ++ (32 ∷ view)
@@ -227,7 +227,7 @@ module _ (second : Bool) where
   keywords_parted [] any = absurd (omega (arith, any))
   keywords_parted (k ∷ ks) any = refl
 
-  -- a list's own part of a view, behind the name of the file that it is over
+  -- a list's own part of a view, after the name of the file that it is over
   abbrev pub Behind : Option (List ℕ) → List ℕ → List ℕ → Type 0
   Behind None list view = view ≡ list
   Behind (Some name) list view = (view ≡ (codes "file=" ++ name) ++ (32 ∷ list)) × IsName name
@@ -322,7 +322,7 @@ module _ (second : Bool) where
       (choose line (bytes_eq view (codes "clock")) (Plainly (Clock request [])) _ (λ y. inr (view_is request (codes "clock" ∷ []) view line (omega arith) whole (same view (codes "clock") y), refl))
       (words_say request view line (cut_at 32 view) (cut_says 32 view) whole)))
 
-  -- a question behind the word for places
+  -- a question after the word for places
   placed : (question : List ℕ) → starts_with nat_eq question (codes "places ") ≡ true → question ≡ codes "places" ++ (32 ∷ drop 7 question)
   placed question starts = (starts_is Decides-eqb question (codes "places ") (starts_with nat_eq question (codes "places ")) refl).0 starts
 

@@ -14,7 +14,7 @@ abbrev pub CountsSo : Next → EngineView → EngineView → Type 0
 CountsSo (Given command) old new = CountsFor command old new
 CountsSo _ old new = new.counts ≡ old.counts
 
--- one turn of an engine, and behind it at most so many background steps, which leave the state and count one section each
+-- one turn of an engine, and after it at most so many background steps, which leave the state and count one section each
 pub record CountedTurn (idle : ℕ) (second : Bool) (bytes : List ℕ) (old : EngineView) (answer : Reply) (new : EngineView) : Type 0 where
   pub mid : EngineView
   pub turn : Turn second (line_of second) bytes old.state answer mid.state

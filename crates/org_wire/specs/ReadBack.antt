@@ -1,5 +1,5 @@
 -- Replies, read back by a reader that knows their format alone: a line ends at its line feed, its words stand between single
--- spaces, and a view has as many bytes behind its line as that says (profile).
+-- spaces, and a view has as many bytes after its line as that says (profile).
 -- Characters by their codes: 10 line feed, 32 space.
 use Rattle.std.specs.Prelude.{◌≡◌, ◌<◌, ◌^◌, ◌-◌, ◌==◌, ℕ, List, [], ◌∷◌, ◌++◌, Option, None, Some, bytes_eq, codes, drop, flat_map, if◌then◌else◌, length, nat_le, slice_get, take}
 use Rattle.std.specs.List.{All, slice_split}
@@ -14,7 +14,7 @@ use Rattle.org_wire.specs.Replies.{reply_bytes}
 use Rattle.org_wire.specs.declared.reply.Reply.{Reply}
 use Rattle.org_wire.specs.declared.reply.Reply.TheVariants.{Changed, Serial, Shown, Refused}
 
--- a reply, and the bytes behind it
+-- a reply, and the bytes after it
 pub record Got : Type 0 where
   pub reply : Reply
   pub rest : List ℕ
@@ -25,15 +25,15 @@ all_codes = code.Memory ∷ (code.Command ∷ (code.Long ∷ (code.Unknown ∷ (
     ∷ (code.Stale ∷ (code.Session ∷ (code.Date ∷ (code.Days ∷ (code.Match ∷ (code.Regexp ∷ (code.Option ∷ (code.Unpinned ∷ (code.Pinned ∷ (code.Heading
     ∷ (code.Keyword ∷ (code.Hours ∷ (code.Spent ∷ (code.Cut ∷ (code.Device ∷ (code.Late ∷ [])))))))))))))))))))))))))
 
--- the refusal of a code, with what stands behind its name
+-- the refusal of a code, with what stands after its name
 abbrev pub fault_of : Code → List (List ℕ) → Fault
 fault_of code.Stale (serial ∷ []) = fault.Stale (digits_value 10 serial)
 fault_of code.Match (at ∷ []) = fault.MatchAt (digits_value 10 at)
 fault_of c words = fault.Plain c
 
 -- a view of so many bytes, if they are there
-abbrev pub view_of : ℕ → List ℕ → Option Got
-view_of n rest = if nat_le n (length rest) then Some (record { reply = Shown (take n rest); rest = drop n rest }) else None
+abbrev pub render_view : ℕ → List ℕ → Option Got
+render_view n rest = if nat_le n (length rest) then Some (record { reply = Shown (take n rest); rest = drop n rest }) else None
 
 -- a change whose new bytes are so many, if they are there
 abbrev pub part_of : ℕ → ℕ → ℕ → ℕ → List ℕ → Option Got
@@ -48,7 +48,7 @@ change_of serial at words rest = None
 -- the reply whose line has these words
 abbrev pub reply_of : List (List ℕ) → List ℕ → Option Got
 reply_of (word ∷ (number ∷ [])) rest = if bytes_eq word (codes "ok") then Some (record { reply = Serial (digits_value 10 number); rest = rest })
-    else if bytes_eq word (codes "view") then view_of (digits_value 10 number) rest
+    else if bytes_eq word (codes "view") then render_view (digits_value 10 number) rest
     else None
 reply_of (word ∷ (number ∷ (name ∷ words))) rest =
     if bytes_eq word (codes "err") then option_map (λ c. record { reply = Refused (fault_of c words); rest = rest }) (slice_get all_codes (digits_value 10 number - 1))
@@ -56,7 +56,7 @@ reply_of (word ∷ (number ∷ (name ∷ words))) rest =
     else None
 reply_of words rest = None
 
--- the same of a stream that is cut behind its first line
+-- the same of a stream that is cut after its first line
 abbrev pub reply_behind : Option Cut → Option Got
 reply_behind None = None
 reply_behind (Some cut) = reply_of (slice_split (λ b. b == 32) cut.before) cut.after

@@ -8,8 +8,8 @@ use Rattle.org_cal.specs.Faults.{date_fault}
 use Rattle.org_cal.specs.declared.moment.Moment.{Moment}
 use Rattle.org_base.specs.declared.fault.Fault.{Fault}
 use Rattle.org_engine.specs.World.{EngineView, FileView, State}
-use Rattle.org_file.specs.Completion.{completion_part}
-use Rattle.org_file.specs.Parts.{Part}
+use Rattle.org_complete.specs.Completion.{completion_part}
+use Rattle.org_complete.specs.Parts.{Part}
 use Rattle.org_engine.specs.Questions.{AsksMatch, AsksOf, AsksTable, asked_agenda}
 use Rattle.org_engine.specs.Step as step
 use Rattle.org_engine.specs.declared.question.Form.TheVariants as form
@@ -24,8 +24,8 @@ use Rattle.org_wire.specs.declared.command.Next.{Next}
 use Rattle.org_wire.specs.declared.command.Next.TheVariants.{Given, Refused, Last, Ended}
 use Rattle.org_wire.specs.declared.reply.Reply.{Reply}
 use Rattle.org_wire.specs.declared.reply.Reply.TheVariants as reply
-use Rattle.org_wire.specs.declared.whole.End.{End}
-use Rattle.org_wire.specs.declared.whole.End.TheVariants.{Done, Stopped}
+use Rattle.org_wire.specs.declared.run.End.{End}
+use Rattle.org_wire.specs.declared.run.End.TheVariants.{Done, Stopped}
 
 -- the command of another moment; where none is spelled, one that is refused
 abbrev pub moment_command : Option Moment → step.Command
@@ -89,7 +89,7 @@ told_to second (Complete seen line keyword) s answer =
     if second then changed (part_in line keyword s.world.moment (step.file_named seen.name s.world.files)) answer else shown answer
 told_to second command s answer = shown answer
 
--- the reply that stands for want of memory
+-- the reply that stands where memory is refused
 abbrev pub out_of_memory : Reply
 out_of_memory = reply.Refused memory_fault
 
@@ -100,15 +100,15 @@ AnswersSo second (Given command) old answer new =
 AnswersSo second (Refused fault) old answer new = (answer ≡ reply.Refused fault) × (new ≡ old)
 AnswersSo second _ old answer new = ⊥
 
--- one turn: the reply to what stands first on the stream, or want of memory with the state unchanged
+-- one turn: the reply to what stands first on the stream, or out of memory with the state unchanged
 pub record Turn (second : Bool) (says : List ℕ → Line) (bytes : List ℕ) (old : State) (answer : Reply) (new : State) : Type 0 where
   pub done : (answer ≡ out_of_memory → ⊥) → AnswersSo second (read_by says bytes).next old answer new
   pub memory : answer ≡ out_of_memory → (new ≡ old) × IsReplaceable (read_by says bytes).next
 
 -- these are the replies to what stands first on the stream; then these bytes and this state are left
-abbrev pub Runs : Bool → (List ℕ → Line) → List ℕ → State → List Reply → List ℕ → State → Type 0
-Runs second says bytes old [] rest new = (rest ≡ bytes) × (new ≡ old)
-Runs second says bytes old (answer ∷ answers) rest new = (mid : State) × Turn second says bytes old answer mid × Runs second says (read_by says bytes).rest mid answers rest new
+abbrev pub JaggedVec : Bool → (List ℕ → Line) → List ℕ → State → List Reply → List ℕ → State → Type 0
+JaggedVec second says bytes old [] rest new = (rest ≡ bytes) × (new ≡ old)
+JaggedVec second says bytes old (answer ∷ answers) rest new = (mid : State) × Turn second says bytes old answer mid × JaggedVec second says (read_by says bytes).rest mid answers rest new
 
 -- what is written of replies
 abbrev pub written : List Reply → List ℕ
@@ -129,7 +129,7 @@ EndsSo _ end = ⊥
 pub record IsWhole (second : Bool) (says : List ℕ → Line) (bytes : List ℕ) (old : State) (end : End) (new : State) (had has : Option (List ℕ)) : Type 0 where
   pub answers : List Reply
   pub rest : List ℕ
-  pub runs : Runs second says bytes old answers rest new
+  pub runs : JaggedVec second says bytes old answers rest new
   pub ends : EndsSo (read_by says rest).next end
   pub wrote : Appends had has (written answers ++ last_bytes (read_by says rest).next)
 
@@ -143,7 +143,7 @@ pub record IsFront (second : Bool) (says : List ℕ → Line) (bytes : List ℕ)
   pub answers : List Reply
   pub cut : Option Reply
   pub rest : List ℕ
-  pub runs : Runs second says bytes old (answers ++ option_to_list cut) rest new
+  pub runs : JaggedVec second says bytes old (answers ++ option_to_list cut) rest new
   pub part : List ℕ
   pub lost : List ℕ
   pub is : cut_bytes cut (read_by says rest).next ≡ part ++ lost
@@ -172,7 +172,7 @@ pub record AnswersTaken (second : Bool) (says : List ℕ → Line) (bytes : List
   pub answers : List Reply
   pub rest : List ℕ
   pub part : List ℕ
-  pub runs : Runs second says bytes old answers rest new
+  pub runs : JaggedVec second says bytes old answers rest new
   pub wrote : Appends had has (written answers)
   pub taken : Consumes (Some rest) held part
   pub ends : IsUnfinished (read_by says part).next

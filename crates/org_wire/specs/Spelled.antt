@@ -13,10 +13,10 @@ use Rattle.org_engine.specs.declared.question.Form.TheVariants as form
 use Rattle.org_wire.specs.Stream.{Framed, Line, Plainly, moment_of, most_number}
 use Rattle.org_wire.specs.declared.command.Command.{Command}
 use Rattle.org_wire.specs.declared.command.Command.TheVariants.{Add, Agenda, At, Clock, Complete, Drop, Edit, Inherit, Keywords, Match, Pin, Profile, Text, Todo, Unpin, Version}
-use Rattle.org_wire.specs.declared.command.Frame.{Frame}
-use Rattle.org_wire.specs.declared.command.Frame.TheVariants as frame
+use Rattle.org_wire.specs.declared.command.PayloadHeader.{PayloadHeader}
+use Rattle.org_wire.specs.declared.command.PayloadHeader.TheVariants as frame
 use Rattle.org_wire.specs.declared.command.Request.{Request}
-use Rattle.org_wire.specs.declared.command.Seen.{Seen}
+use Rattle.org_wire.specs.declared.command.BaseVersion.{BaseVersion}
 
 -- parts with one byte between
 abbrev pub parted : ℕ → List (List ℕ) → List ℕ
@@ -45,11 +45,11 @@ abbrev pub IsNumber : ℕ → Type 0
 IsNumber n = n ≤ most_number
 
 -- what a session saw: `S NAME SERIAL`
-abbrev pub seen_parts : Seen → List (List ℕ)
+abbrev pub seen_parts : BaseVersion → List (List ℕ)
 seen_parts seen = decimal seen.session ∷ (seen.name ∷ (decimal seen.serial ∷ []))
 
 -- its numbers aren't too large, and its name is one
-abbrev pub IsSeen : Seen → Type 0
+abbrev pub IsSeen : BaseVersion → Type 0
 IsSeen seen = IsNumber seen.session × IsName seen.name × IsNumber seen.serial
 
 -- `places` in front of the parts of a view whose places are asked for
@@ -129,7 +129,7 @@ IsLineOf second (Agenda request date days) line = IsView second request (codes "
 IsLineOf second (Clock request text) line = IsViewWith second request [] (codes "clock") text line
 
 -- the line of a command before its payload of so many bytes
-abbrev pub IsFrameLine : Frame → ℕ → List ℕ → Type 0
+abbrev pub IsFrameLine : PayloadHeader → ℕ → List ℕ → Type 0
 IsFrameLine (frame.Add name) size line = (line ≡ spaced (codes "add" ∷ (name ∷ (decimal size ∷ [])))) × IsName name × IsNumber size
 IsFrameLine (frame.Edit seen at del) size line =
     (line ≡ spaced (codes "edit" ∷ (seen_parts seen ++ (decimal at ∷ (decimal del ∷ (decimal size ∷ [])))))) × IsSeen seen × IsNumber at × IsNumber del × IsNumber size
@@ -138,4 +138,4 @@ IsFrameLine (frame.Edit seen at del) size line =
 -- follows exactly where it is the spelling of a command with one, and else nothing
 pub record IsSpelled (second : Bool) (says : List ℕ → Line) : Type 0 where
   pub plain : (line : List ℕ) (command : Command) → says line ≡ Plainly command ↔ IsLineOf second command line
-  pub framed : (line : List ℕ) (frame : Frame) (size : ℕ) → says line ≡ Framed frame size ↔ IsFrameLine frame size line
+  pub command_of_frame : (line : List ℕ) (frame : PayloadHeader) (size : ℕ) → says line ≡ Framed frame size ↔ IsFrameLine frame size line

@@ -18,12 +18,12 @@ use Rattle.org_wire.specs.Lines as lines
 use Rattle.org_wire.specs.declared.words.TheConstants.{MOST_NUMBER}
 use Rattle.org_wire.specs.declared.command.Command.{Command}
 use Rattle.org_wire.specs.declared.command.Command.TheVariants.{Add, Agenda, At, Clock, Complete, Drop, Edit, Inherit, Keywords, Match, Pin, Profile, Text, Todo, Unpin, Version}
-use Rattle.org_wire.specs.declared.command.Frame.{Frame}
-use Rattle.org_wire.specs.declared.command.Frame.TheVariants as frame
+use Rattle.org_wire.specs.declared.command.PayloadHeader.{PayloadHeader}
+use Rattle.org_wire.specs.declared.command.PayloadHeader.TheVariants as frame
 use Rattle.org_wire.specs.declared.command.Request.{Request}
 use Rattle.org_wire.specs.declared.protocol.Protocol.{Protocol}
 use Rattle.org_wire.specs.declared.protocol.Protocol.TheVariants.{First, Second}
-use Rattle.org_wire.specs.declared.command.Seen.{Seen}
+use Rattle.org_wire.specs.declared.command.BaseVersion.{BaseVersion}
 use Rattle.org_wire.specs.declared.command.Next.{Next}
 use Rattle.org_wire.specs.declared.command.Next.TheVariants.{Given, Refused, Last, Ended}
 
@@ -36,7 +36,7 @@ is_second Second = true
 pub data Line : Type 0 where
   Bad : Line
   Plainly : (command : Command) → Line
-  Framed : (frame : Frame) (size : ℕ) → Line
+  Framed : (frame : PayloadHeader) (size : ℕ) → Line
 
 -- the largest number
 abbrev pub most_number : ℕ
@@ -74,7 +74,7 @@ abbrev pub are_words : ℕ → Bool → List ℕ → Bool
 are_words gap begins [] = not begins
 are_words gap begins (b ∷ bs) = if b == gap then not begins && are_words gap true bs else are_words gap false bs
 
--- the words between bytes of a kind, behind an open word
+-- the words between bytes of a kind, after an open word
 abbrev pub words_from : ℕ → List ℕ → List ℕ → List (List ℕ)
 words_from gap word [] = word ∷ []
 words_from gap word (b ∷ bs) = if b == gap then word ∷ words_from gap [] bs else words_from gap (word ++ b ∷ []) bs
@@ -100,7 +100,7 @@ abbrev pub inherit_line : List ℕ → Line
 inherit_line names = if is_utf8 names && are_words 32 true names then Plainly (Inherit (words_from 32 [] names)) else Bad
 
 -- a payload follows that is as long as a number says
-abbrev pub sized : Frame → Option ℕ → Line
+abbrev pub sized : PayloadHeader → Option ℕ → Line
 sized frame None = Bad
 sized frame (Some size) = Framed frame size
 
@@ -146,46 +146,46 @@ first_number None = None
 first_number (Some cut) = with_rest (number_of cut.before) cut.after
 
 -- `S NAME SERIAL`, which say what a session saw, and what follows them
-abbrev pub seen_serial : ℕ → List ℕ → Option (ℕ × List ℕ) → Option (Seen × List ℕ)
+abbrev pub seen_serial : ℕ → List ℕ → Option (ℕ × List ℕ) → Option (BaseVersion × List ℕ)
 seen_serial session name None = None
 seen_serial session name (Some serial) = Some (record { session = session; name = name; serial = serial.0 }, serial.1)
 
 -- the same from the name on
-abbrev pub seen_name : ℕ → Option lines.Cut → Option (Seen × List ℕ)
+abbrev pub seen_name : ℕ → Option lines.Cut → Option (BaseVersion × List ℕ)
 seen_name session None = None
 seen_name session (Some cut) = if is_name cut.before then seen_serial session cut.before (first_number (cut_at 32 cut.after)) else None
 
--- the same behind the session
-abbrev pub seen_session : Option (ℕ × List ℕ) → Option (Seen × List ℕ)
+-- the same after the session
+abbrev pub seen_session : Option (ℕ × List ℕ) → Option (BaseVersion × List ℕ)
 seen_session None = None
 seen_session (Some session) = seen_name session.0 (cut_at 32 session.1)
 
 -- the same of a text
-abbrev pub seen_of : List ℕ → Option (Seen × List ℕ)
+abbrev pub seen_of : List ℕ → Option (BaseVersion × List ℕ)
 seen_of text = seen_session (first_number (cut_at 32 text))
 
--- `edit S NAME SERIAL AT DEL LEN`, behind what was seen, behind AT, and whole
-abbrev pub edit_del : Seen → ℕ → Option (ℕ × List ℕ) → Line
+-- `edit S NAME SERIAL AT DEL LEN`, after what was seen, after AT, and whole
+abbrev pub edit_del : BaseVersion → ℕ → Option (ℕ × List ℕ) → Line
 edit_del seen at None = Bad
 edit_del seen at (Some del) = sized (frame.Edit seen at del.0) (number_of del.1)
 
 -- the same from AT on
-abbrev pub edit_at : Seen → Option (ℕ × List ℕ) → Line
+abbrev pub edit_at : BaseVersion → Option (ℕ × List ℕ) → Line
 edit_at seen None = Bad
 edit_at seen (Some at) = edit_del seen at.0 (first_number (cut_at 32 at.1))
 
--- the line behind its first word
-abbrev pub edit_line : Option (Seen × List ℕ) → Line
+-- the line after its first word
+abbrev pub edit_line : Option (BaseVersion × List ℕ) → Line
 edit_line None = Bad
 edit_line (Some seen) = edit_at seen.0 (first_number (cut_at 32 seen.1))
 
--- `complete S NAME SERIAL LINE KEYWORD`, behind what was seen, and whole
-abbrev pub complete_at : Seen → Option (ℕ × List ℕ) → Line
+-- `complete S NAME SERIAL LINE KEYWORD`, after what was seen, and whole
+abbrev pub complete_at : BaseVersion → Option (ℕ × List ℕ) → Line
 complete_at seen None = Bad
 complete_at seen (Some line) = if is_one_word line.1 then Plainly (Complete seen line.0 line.1) else Bad
 
--- the line behind its first word
-abbrev pub complete_line : Option (Seen × List ℕ) → Line
+-- the line after its first word
+abbrev pub complete_line : Option (BaseVersion × List ℕ) → Line
 complete_line None = Bad
 complete_line (Some seen) = complete_at seen.0 (first_number (cut_at 32 seen.1))
 
@@ -205,14 +205,14 @@ abbrev pub unpin_line : Option ℕ → Line
 unpin_line None = Bad
 unpin_line (Some session) = Plainly (Unpin session)
 
--- a list with words behind it, over all files or over the one of a name
+-- a list with words after it, over all files or over the one of a name
 abbrev pub list_words : Request → Option (List ℕ) → Option lines.Cut → Line
 list_words request file None = Bad
 list_words request file (Some cut) = if bytes_eq cut.before (codes "todo") then todo_line request file cut.after
     else if bytes_eq cut.before (codes "match") then match_line request file cut.after
     else Bad
 
--- a list that is a word alone, or has words behind it
+-- a list that is a word alone, or has words after it
 abbrev pub list_line : Request → Option (List ℕ) → List ℕ → Line
 list_line request file line = if bytes_eq line (codes "todo") then Plainly (Todo request file [])
     else if bytes_eq line (codes "match") then Plainly (Match request file [])
@@ -232,7 +232,7 @@ view_words request (Some cut) = if bytes_eq cut.before (codes "todo") then todo_
     else if bytes_eq cut.before (codes "agenda") then agenda_line request (cut_at 32 cut.after)
     else Bad
 
--- a view that is a word alone, or has words behind it
+-- a view that is a word alone, or has words after it
 abbrev pub view_line : Request → List ℕ → Line
 view_line request line = if bytes_eq line (codes "todo") then Plainly (Todo request None [])
     else if bytes_eq line (codes "match") then Plainly (Match request None [])
@@ -250,7 +250,7 @@ abbrev pub pinned_line : Bool → Option (ℕ × List ℕ) → Line
 pinned_line second None = Bad
 pinned_line second (Some session) = question_line second (Some session.0) session.1
 
--- a line of a profile or a pin, cut behind its first word; any other asks the current world for a view
+-- a line of a profile or a pin, cut after its first word; any other asks the current world for a view
 abbrev pub others_line : Bool → List ℕ → lines.Cut → Line
 others_line second line cut = if bytes_eq cut.before (codes "profile") then profile_line cut.after
     else if bytes_eq cut.before (codes "pin") then pin_line (number_of cut.after)
@@ -259,7 +259,7 @@ others_line second line cut = if bytes_eq cut.before (codes "profile") then prof
     else if bytes_eq cut.before (codes "keywords") && second then keywords_line cut.after
     else question_line second None line
 
--- a line of several words, cut behind its first; without one the current world is asked for a view
+-- a line of several words, cut after its first; without one the current world is asked for a view
 abbrev pub words_line : Bool → List ℕ → Option lines.Cut → Line
 words_line second line None = question_line second None line
 words_line second line (Some cut) = if bytes_eq cut.before (codes "edit") then edit_line (seen_of cut.after)
@@ -283,17 +283,17 @@ pub record Reading : Type 0 where
   pub rest : List ℕ
 
 -- the command of a frame and its payload
-abbrev pub framed : Frame → List ℕ → Command
-framed (frame.Add name) bytes = Add name bytes
-framed (frame.Edit seen at del) bytes = Edit seen at del bytes
+abbrev pub command_of_frame : PayloadHeader → List ℕ → Command
+command_of_frame (frame.Add name) bytes = Add name bytes
+command_of_frame (frame.Edit seen at del) bytes = Edit seen at del bytes
 
--- what comes next, behind a line: a payload follows a frame, and is taken only where it may be that long
+-- what comes next, after a line: a payload follows a frame, and is taken only where it may be that long
 abbrev pub after_line : Line → List ℕ → Reading
 after_line Bad rest = record { next = Refused (Plain code.Command); rest = rest }
 after_line (Plainly command) rest = record { next = Given command; rest = rest }
 after_line (Framed frame size) rest = if nat_lt max_bytes size then record { next = Last (Plain Size); rest = rest }
     else if nat_lt (length rest) size then record { next = Last (Plain Cut); rest = [] }
-    else record { next = Given (framed frame (take size rest)); rest = drop size rest }
+    else record { next = Given (command_of_frame frame (take size rest)); rest = drop size rest }
 
 -- what comes next, after the bytes of a line, where this is what lines say
 abbrev pub behind_by : (List ℕ → Line) → List ℕ → List ℕ → Reading
@@ -325,7 +325,7 @@ MayTakeMemory (Profile profile) = ⊥
 MayTakeMemory (Unpin session) = ⊥
 MayTakeMemory _ = Unit {0}
 
--- where want of memory may be answered instead: a whole command that may take memory, and not a bad line or a frame's own
+-- where out of memory may be answered instead: a whole command that may take memory, and not a bad line or a frame's own
 -- checks
 abbrev pub IsReplaceable : Next → Type 0
 IsReplaceable (Given command) = MayTakeMemory command
@@ -339,7 +339,7 @@ out_of_memory = Refused (Plain Memory)
 abbrev pub broken : Next
 broken = Last (Plain Device)
 
--- this was read, up to want of memory and broken devices
+-- this was read, but for out of memory and broken devices
 pub record IsRead (reading : Reading) (next : Next) (left : Option (List ℕ)) : Type 0 where
   pub rest : (next ≡ broken → ⊥) → left ≡ Some reading.rest
   pub is : (next ≡ broken → ⊥) → (next ≡ out_of_memory → ⊥) → next ≡ reading.next

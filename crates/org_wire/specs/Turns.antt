@@ -12,7 +12,7 @@ use Rattle.org_engine.specs.declared.changes.Completion.{Completion}
 use Rattle.org_engine.specs.declared.question.View.{View}
 use Rattle.org_wire.specs.Devices.{AppendsTo}
 use Rattle.org_wire.specs.Replies.{fault_bytes}
-use Rattle.org_wire.specs.Run.{AnswersAllTaken, AnswersSo, IsRunOver, Runs, out_of_memory, shown, written}
+use Rattle.org_wire.specs.Run.{AnswersAllTaken, AnswersSo, IsRunOver, JaggedVec, out_of_memory, shown, written}
 use Rattle.org_wire.specs.Stream.{MayTakeMemory, line_of}
 use Rattle.org_wire.specs.declared.command.Command.{Command}
 use Rattle.org_wire.specs.declared.command.Command.TheVariants.{Add, Agenda, At, Clock, Complete, Drop, Edit, Inherit, Keywords, Match, Pin, Profile, Text, Todo, Unpin, Version}
@@ -22,15 +22,15 @@ use Rattle.org_wire.specs.declared.command.Next.TheVariants.{Given, Refused, Las
 use Rattle.org_wire.specs.declared.reply.Reply.{Reply}
 use Rattle.org_wire.specs.Views.{CountedView}
 use Rattle.org_wire.specs.declared.reply.Reply.TheVariants as reply
-use Rattle.org_wire.specs.declared.whole.End.{End}
-use Rattle.org_wire.specs.declared.whole.End.TheVariants.{Stopped}
+use Rattle.org_wire.specs.declared.run.End.{End}
+use Rattle.org_wire.specs.declared.run.End.TheVariants.{Stopped}
 
 -- the stream was answered so far, and these bytes are left
 pub record IsSoFar (second : Bool) (bytes : List ℕ) (old new : State) (had has now : Option (List ℕ)) : Type 0 where
   pub answers : List Reply
   pub rest : List ℕ
   pub left : now ≡ Some rest
-  pub runs : Runs second (line_of second) bytes old answers rest new
+  pub runs : JaggedVec second (line_of second) bytes old answers rest new
   pub wrote : Appends had has (written answers)
 
 -- a run over a stream whose lines are read
@@ -41,7 +41,7 @@ IsReadRun second = IsRunOver second (line_of second)
 abbrev pub AnswersAllRead : {W : Type 0} → Bool → (W → Option (List ℕ)) → Option (List ℕ) → CountedView W → EngineView → Option (List ℕ) → CountedView W → EngineView → Type 0
 AnswersAllRead second = AnswersAllTaken second (line_of second)
 
--- the answer to a command, or want of memory with nothing changed
+-- the answer to a command, or out of memory with nothing changed
 pub record IsServed (second : Bool) (command : Command) (old : State) (answer : Reply) (new : State) : Type 0 where
   pub done : (answer ≡ out_of_memory → ⊥) → AnswersSo second (Given command) old answer new
   pub memory : answer ≡ out_of_memory → (new ≡ old) × MayTakeMemory command
@@ -56,9 +56,9 @@ ServesSurely said old answer new =
     (answer ≡ shown (step.step said old.state).reply) × (new.state ≡ (step.step said old.state).after)
 
 -- the reply to a change or a pin
-abbrev pub told : Result ℕ Fault → Reply
-told (Ok serial) = reply.Serial serial
-told (Err fault) = reply.Refused fault
+abbrev pub serial_reply : Result ℕ Fault → Reply
+serial_reply (Ok serial) = reply.Serial serial
+serial_reply (Err fault) = reply.Refused fault
 
 -- the reply to a completion, with what it replaced
 abbrev pub told_change : Result Completion Fault → Reply
@@ -75,7 +75,7 @@ abbrev pub told_text : {Y : Type 0} → Result (String Y) Fault → Reply
 told_text (Ok text) = reply.Shown (string_bytes text)
 told_text (Err fault) = reply.Refused fault
 
--- the answer to a view, or want of memory with nothing changed
+-- the answer to a view, or out of memory with nothing changed
 pub record IsViewServed (view : View) (request : Request) (old : State) (answer : Reply) (new : State) : Type 0 where
   pub done : (answer ≡ out_of_memory → ⊥) → (question : step.Question) × AsksOf (Asks view) (step.world_for request.session old) question
       × (answer ≡ shown (step.step (step.Ask question request.form request.session) old).reply) × (new ≡ (step.step (step.Ask question request.form request.session) old).after)

@@ -2,14 +2,14 @@
 ghost use Rattle.std.specs.Prelude.{◌≡◌, ◌<◌, ◌≤◌, [], ◌∷◌, ◌++◌, true, IfOk, IfErr, OnOk, Err, nat_le, IsOkUnless, length};
 ghost use Rattle.org_base.specs.Codes.{memory_fault};
 
-use crate::command::{Frame, Next, framed};
+use crate::command::{Next, PayloadHeader, command_of_frame};
 use crate::counted::Counted;
 use crate::frames::{add_frame, command_of, edit_frame};
 use crate::line::LineBuffer;
 use crate::parse::parse_line;
-use crate::parsed::Parsed;
+use crate::parsed::ParsedLine;
 use crate::protocol::Protocol;
-use crate::room::{MOST_ROOM, Room};
+use crate::read_buffer::{MOST_ROOM, ReadBuffer};
 use org_base::{Bytes, Code, Fault};
 use org_text::MAX_BYTES;
 use std::alloc::Global;
@@ -33,7 +33,7 @@ pub(crate) enum Stop {
 pub(crate) enum LineEnd {
     // Its LF.
     Whole,
-    // Its LF, behind more bytes than a line may have.
+    // Its LF, after more bytes than a line may have.
     Long,
 }
 
@@ -41,7 +41,7 @@ pub(crate) enum LineEnd {
 #[derive(Debug, Drop)]
 pub struct Input<'a, R> {
     reader: &'a mut Counted<R>,
-    room: Room,
+    room: ReadBuffer,
     line: LineBuffer,
     second: bool,
     alloc: Global,
@@ -68,7 +68,7 @@ impl<'a, R: Read> Input<'a, R> {
     ghost use Rattle.org_wire.specs.Devices.{StaysBounded};
     ghost use Rattle.org_wire.specs.Stream.{broken, is_second, reading_of, behind};
 
-    /// A stream over a reader. Want of memory for a line or for what is read ahead is its only refusal. The reader
+    /// A stream over a reader. Out of memory for a line or for what is read ahead is its only refusal. The reader
     /// isn't called: a call would have to know that none has failed.
     pub fn new(
         alloc: Global,
@@ -82,7 +82,7 @@ impl<'a, R: Read> Input<'a, R> {
         ensures memory { IsOkUnless result memory_fault }
     {
         let line = LineBuffer::new(alloc)?;
-        let room = Room::new(alloc, MOST_ROOM)?;
+        let room = ReadBuffer::new(alloc, MOST_ROOM)?;
         Ok(Input {
             reader,
             room,
@@ -97,7 +97,7 @@ impl<'a, R: Read> Input<'a, R> {
         alloc: Global,
         reader: &'a mut Counted<R>,
         line: LineBuffer,
-        room: Room,
+        room: ReadBuffer,
         protocol: Protocol,
     ) -> Input<'a, R>
         requires { room ≡ [] }
@@ -132,7 +132,7 @@ impl<'a, R: Read> Input<'a, R> {
 
     // Reads where nothing is there.
     fn make_ready(&mut self) -> Result<(), Stop>
-        requires fresh { self.old.reader.now.failed ≡ 0 }
+        requires not_failed { self.old.reader.now.failed ≡ 0 }
         ensures there { OnOk result (IsReady R.remaining self.old self.new) }
         ensures stopped { IfErr result (HasStopped R.remaining self.old self.new) }
         ensures failed { result ≡ Err Stop.Failed → HoldsAll R.remaining self.old self.new }
@@ -143,7 +143,7 @@ impl<'a, R: Read> Input<'a, R> {
         ensures same_reference { self.new.reader.ghost_name ≡ self.old.reader.ghost_name }
         ensures line { self.new.line ≡ self.old.line }
     {
-        if !self.room.ready().is_empty() {
+        if !self.room.unread_bytes().is_empty() {
             return Ok(());
         }
         if self.reader.calls() >= MOST_READS {
@@ -158,7 +158,7 @@ impl<'a, R: Read> Input<'a, R> {
 
     // Takes the next byte.
     fn next_byte(&mut self) -> Result<u8, Stop>
-        requires fresh { self.old.reader.now.failed ≡ 0 }
+        requires not_failed { self.old.reader.now.failed ≡ 0 }
         ensures taken { IfOk result (λ byte. Takes R.remaining self.old self.new (byte ∷ [])) }
         ensures stopped { IfErr result (HasStopped R.remaining self.old self.new) }
         ensures failed { result ≡ Err Stop.Failed → HoldsAll R.remaining self.old self.new }
@@ -176,7 +176,7 @@ impl<'a, R: Read> Input<'a, R> {
     // Reads up to the next LF, which it takes too, and keeps the line before it. Of a long line the rest is skipped. Where the
     // stream ends before an LF, what stands before the end is kept as such a line would be.
     pub(crate) fn read_line(&mut self) -> Result<LineEnd, Stop>
-        requires fresh { self.old.reader.now.failed ≡ 0 }
+        requires not_failed { self.old.reader.now.failed ≡ 0 }
         ensures line { TakesLine R.remaining self.old result self.new }
         ensures failed { result ≡ Err Stop.Failed → StopsShort R.remaining (reading_of self.old.second) self.old self.new }
         ensures counted { CountsCall result self.old.reader.now self.new.reader.now }
@@ -213,7 +213,7 @@ impl<'a, R: Read> Input<'a, R> {
 
     // Reads so many bytes, a run at a time. Where they find no memory they are read and thrown away, and there is no text.
     fn read_payload(&mut self, size: usize) -> Result<Option<Bytes>, Stop>
-        requires fresh { self.old.reader.now.failed ≡ 0 }
+        requires not_failed { self.old.reader.now.failed ≡ 0 }
         ensures value { TakesPayload R.remaining size self.old result self.new }
         ensures failed { result ≡ Err Stop.Failed → TakesFewer R.remaining size self.old self.new }
         ensures counted { CountsCall result self.old.reader.now self.new.reader.now }
@@ -230,7 +230,7 @@ impl<'a, R: Read> Input<'a, R> {
                 break;
             }
             self.make_ready()?;
-            let ready = self.room.ready();
+            let ready = self.room.unread_bytes();
             let count = ready.len().min(left);
             has_memory = keep(&mut bytes, has_memory, &ready[..count]);
             self.room.advance(count);
@@ -244,8 +244,8 @@ impl<'a, R: Read> Input<'a, R> {
     }
 
     // The command of a frame, whose payload follows. Without a frame there was no memory for it.
-    fn read_frame(&mut self, frame: Option<Frame>, size: u64) -> Next
-        requires fresh { self.old.reader.now.failed ≡ 0 }
+    fn read_frame(&mut self, frame: Option<PayloadHeader>, size: u64) -> Next
+        requires not_failed { self.old.reader.now.failed ≡ 0 }
         ensures value { ReadsFrame R.remaining frame size self.old result self.new }
         ensures failed { StopsInFrame R.remaining size self.old result self.new }
         ensures counted { CountsNext result self.old.reader.now self.new.reader.now }
@@ -260,7 +260,7 @@ impl<'a, R: Read> Input<'a, R> {
         }
         match self.read_payload(size as usize) {
             Ok(Some(bytes)) => match frame {
-                Some(frame) => Next::Given(framed(frame, bytes)),
+                Some(frame) => Next::Given(command_of_frame(frame, bytes)),
                 None => Next::Refused(Fault::Plain(Code::Memory)),
             },
             Ok(None) => Next::Refused(Fault::Plain(Code::Memory)),
@@ -271,7 +271,7 @@ impl<'a, R: Read> Input<'a, R> {
 
     // The command of the line that was read, with its payload.
     pub(crate) fn read_whole(&mut self) -> Next
-        requires fresh { self.old.reader.now.failed ≡ 0 }
+        requires not_failed { self.old.reader.now.failed ≡ 0 }
         ensures value { Reads R.remaining (behind self.old.second self.old.line) self.old result self.new }
         ensures failed { result ≡ broken → StopsShort R.remaining (behind self.old.second self.old.line) self.old self.new }
         ensures counted { CountsNext result self.old.reader.now self.new.reader.now }
@@ -282,17 +282,17 @@ impl<'a, R: Read> Input<'a, R> {
         ensures same_reference { self.new.reader.ghost_name ≡ self.old.reader.ghost_name }
     {
         match parse_line(self.second, self.line.as_slice()) {
-            Parsed::Bad => Next::Refused(Fault::Plain(Code::Command)),
-            Parsed::Ready(command) => Next::Given(command),
-            Parsed::Worded(words) => match command_of(self.alloc, words) {
+            ParsedLine::Bad => Next::Refused(Fault::Plain(Code::Command)),
+            ParsedLine::Ready(command) => Next::Given(command),
+            ParsedLine::BorrowedCommand(words) => match command_of(self.alloc, words) {
                 Ok(command) => Next::Given(command),
                 Err(_) => Next::Refused(Fault::Plain(Code::Memory)),
             },
-            Parsed::Add(name, size) => {
+            ParsedLine::Add(name, size) => {
                 let frame = add_frame(self.alloc, name);
                 self.read_frame(frame, size)
             }
-            Parsed::Edit(seen, at, del, size) => {
+            ParsedLine::Edit(seen, at, del, size) => {
                 let frame = edit_frame(self.alloc, seen, at, del);
                 self.read_frame(frame, size)
             }

@@ -5,23 +5,25 @@ ghost use Rattle.org_wire.specs.Stream.{add_line, at_line, complete_line, drop_l
 ghost use Rattle.org_wire.specs.Parsed.{IsWithin, said};
 
 use crate::command::Command;
-use crate::parsed::{Parsed, Worded};
+use crate::parsed::{BorrowedCommand, ParsedLine};
 use crate::views::parse_question;
-use crate::words::{are_words, cut, first_number, is_utf8, moment, name, number, one_word, seen};
+use crate::words::{
+    are_words, cut, first_number, is_utf8, moment, name, number, one_word, read_base,
+};
 use org_base::Profile;
 
 // What a line says, in the second protocol or in the first. Words are separated by exactly one space,
 // and none is empty.
 #[tactic(auto, unfolding(crate::specs::Stream::line_of))]
-pub(crate) fn parse_line(second: bool, line: &[u8]) -> Parsed<'_>
+pub(crate) fn parse_line(second: bool, line: &[u8]) -> ParsedLine<'_>
     ensures value { line_of second line.now ≡ said result }
     ensures within { IsWithin (length line.now) result }
 {
     if line == b"inherit".as_slice() {
-        return Parsed::Worded(Worded::Inherit(None));
+        return ParsedLine::BorrowedCommand(BorrowedCommand::Inherit(None));
     }
     if line == b"version".as_slice() && second {
-        return Parsed::Ready(Command::Version);
+        return ParsedLine::Ready(Command::Version);
     }
     let Some((word, rest)) = cut(line, b' ') else {
         return parse_question(second, None, line);
@@ -51,7 +53,7 @@ pub(crate) fn parse_line(second: bool, line: &[u8]) -> Parsed<'_>
 }
 
 // What a line says whose first word is none of those before: of profiles and pins, or a view.
-fn parse_others<'a>(second: bool, line: &'a [u8], word: &[u8], rest: &'a [u8]) -> Parsed<'a>
+fn parse_others<'a>(second: bool, line: &'a [u8], word: &[u8], rest: &'a [u8]) -> ParsedLine<'a>
     requires shorter { length rest.now ≤ length line.now }
     ensures value { others_line second line.now (record { before = word.now; after = rest.now }) ≡ said result }
     ensures within { IsWithin (length line.now) result }
@@ -74,160 +76,162 @@ fn parse_others<'a>(second: bool, line: &'a [u8], word: &[u8], rest: &'a [u8]) -
     parse_question(second, None, line)
 }
 
-// What stands behind `pinned`.
-fn parse_pinned(second: bool, rest: &[u8]) -> Parsed<'_>
+// What stands after `pinned`.
+fn parse_pinned(second: bool, rest: &[u8]) -> ParsedLine<'_>
     ensures value { pinned_line second (first_number (cut_at 32 rest.now)) ≡ said result }
     ensures within { IsWithin (length rest.now) result }
 {
     match first_number(rest) {
         Some((session, line)) => parse_question(second, Some(session), line),
-        None => Parsed::Bad,
+        None => ParsedLine::Bad,
     }
 }
 
-// What stands behind `edit`.
-fn parse_edit(rest: &[u8]) -> Parsed<'_>
+// What stands after `edit`.
+fn parse_edit(rest: &[u8]) -> ParsedLine<'_>
     ensures value { edit_line (seen_of rest.now) ≡ said result }
     ensures within { IsWithin (length rest.now) result }
 {
-    let Some((seen, rest)) = seen(rest) else {
-        return Parsed::Bad;
+    let Some((seen, rest)) = read_base(rest) else {
+        return ParsedLine::Bad;
     };
     let Some((at, rest)) = first_number(rest) else {
-        return Parsed::Bad;
+        return ParsedLine::Bad;
     };
     let Some((del, size)) = first_number(rest) else {
-        return Parsed::Bad;
+        return ParsedLine::Bad;
     };
     match number(size) {
-        Some(size) => Parsed::Edit(seen, at, del, size),
-        None => Parsed::Bad,
+        Some(size) => ParsedLine::Edit(seen, at, del, size),
+        None => ParsedLine::Bad,
     }
 }
 
-// What stands behind `complete`.
-fn parse_complete(rest: &[u8]) -> Parsed<'_>
+// What stands after `complete`.
+fn parse_complete(rest: &[u8]) -> ParsedLine<'_>
     ensures value { complete_line (seen_of rest.now) ≡ said result }
     ensures within { IsWithin (length rest.now) result }
 {
-    let Some((seen, rest)) = seen(rest) else {
-        return Parsed::Bad;
+    let Some((seen, rest)) = read_base(rest) else {
+        return ParsedLine::Bad;
     };
     let Some((line, word)) = first_number(rest) else {
-        return Parsed::Bad;
+        return ParsedLine::Bad;
     };
     match one_word(word) {
-        Some(keyword) => Parsed::Worded(Worded::Complete(seen, line, keyword)),
-        None => Parsed::Bad,
+        Some(keyword) => ParsedLine::BorrowedCommand(BorrowedCommand::Complete(
+            seen, line, keyword,
+        )),
+        None => ParsedLine::Bad,
     }
 }
 
-// What stands behind `profile`.
-fn parse_profile(rest: &[u8]) -> Parsed<'_>
+// What stands after `profile`.
+fn parse_profile(rest: &[u8]) -> ParsedLine<'_>
     ensures value { profile_line rest.now ≡ said result }
     ensures within { IsWithin (length rest.now) result }
 {
     match rest {
-        b"1" => Parsed::Ready(Command::Profile(Profile::One)),
-        b"2" => Parsed::Ready(Command::Profile(Profile::Two)),
-        _ => Parsed::Bad,
+        b"1" => ParsedLine::Ready(Command::Profile(Profile::One)),
+        b"2" => ParsedLine::Ready(Command::Profile(Profile::Two)),
+        _ => ParsedLine::Bad,
     }
 }
 
-// What stands behind `pin`.
-fn parse_pin(rest: &[u8]) -> Parsed<'_>
+// What stands after `pin`.
+fn parse_pin(rest: &[u8]) -> ParsedLine<'_>
     ensures value { pin_line (number_of rest.now) ≡ said result }
     ensures within { IsWithin (length rest.now) result }
 {
     match number(rest) {
-        Some(session) => Parsed::Ready(Command::Pin(session)),
-        None => Parsed::Bad,
+        Some(session) => ParsedLine::Ready(Command::Pin(session)),
+        None => ParsedLine::Bad,
     }
 }
 
-// What stands behind `unpin`.
-fn parse_unpin(rest: &[u8]) -> Parsed<'_>
+// What stands after `unpin`.
+fn parse_unpin(rest: &[u8]) -> ParsedLine<'_>
     ensures value { unpin_line (number_of rest.now) ≡ said result }
     ensures within { IsWithin (length rest.now) result }
 {
     match number(rest) {
-        Some(session) => Parsed::Ready(Command::Unpin(session)),
-        None => Parsed::Bad,
+        Some(session) => ParsedLine::Ready(Command::Unpin(session)),
+        None => ParsedLine::Bad,
     }
 }
 
-// What stands behind `drop`.
-fn parse_drop(rest: &[u8]) -> Parsed<'_>
+// What stands after `drop`.
+fn parse_drop(rest: &[u8]) -> ParsedLine<'_>
     ensures value { drop_line rest.now ≡ said result }
     ensures within { IsWithin (length rest.now) result }
 {
     match name(rest) {
-        Some(name) => Parsed::Worded(Worded::Drop(name)),
-        None => Parsed::Bad,
+        Some(name) => ParsedLine::BorrowedCommand(BorrowedCommand::Drop(name)),
+        None => ParsedLine::Bad,
     }
 }
 
-// What stands behind `inherit`.
-fn parse_inherit(rest: &[u8]) -> Parsed<'_>
+// What stands after `inherit`.
+fn parse_inherit(rest: &[u8]) -> ParsedLine<'_>
     ensures value { inherit_line rest.now ≡ said result }
     ensures within { IsWithin (length rest.now) result }
 {
     if is_utf8(rest) && are_words(b' ', rest) {
-        Parsed::Worded(Worded::Inherit(Some(rest)))
+        ParsedLine::BorrowedCommand(BorrowedCommand::Inherit(Some(rest)))
     } else {
-        Parsed::Bad
+        ParsedLine::Bad
     }
 }
 
-// What stands behind `text`.
-fn parse_text(rest: &[u8]) -> Parsed<'_>
+// What stands after `text`.
+fn parse_text(rest: &[u8]) -> ParsedLine<'_>
     ensures value { text_line rest.now ≡ said result }
     ensures within { IsWithin (length rest.now) result }
 {
     match name(rest) {
-        Some(name) => Parsed::Worded(Worded::Text(name)),
-        None => Parsed::Bad,
+        Some(name) => ParsedLine::BorrowedCommand(BorrowedCommand::Text(name)),
+        None => ParsedLine::Bad,
     }
 }
 
-// What stands behind `keywords`.
-fn parse_keywords(rest: &[u8]) -> Parsed<'_>
+// What stands after `keywords`.
+fn parse_keywords(rest: &[u8]) -> ParsedLine<'_>
     ensures value { keywords_line rest.now ≡ said result }
     ensures within { IsWithin (length rest.now) result }
 {
     match name(rest) {
-        Some(name) => Parsed::Worded(Worded::Keywords(name)),
-        None => Parsed::Bad,
+        Some(name) => ParsedLine::BorrowedCommand(BorrowedCommand::Keywords(name)),
+        None => ParsedLine::Bad,
     }
 }
 
-// What stands behind `add`.
-fn parse_add(rest: &[u8]) -> Parsed<'_>
+// What stands after `add`.
+fn parse_add(rest: &[u8]) -> ParsedLine<'_>
     ensures value { add_line (cut_at 32 rest.now) ≡ said result }
     ensures within { IsWithin (length rest.now) result }
 {
     let Some((word, size)) = cut(rest, b' ') else {
-        return Parsed::Bad;
+        return ParsedLine::Bad;
     };
     let Some(name) = name(word) else {
-        return Parsed::Bad;
+        return ParsedLine::Bad;
     };
     match number(size) {
-        Some(size) => Parsed::Add(name, size),
-        None => Parsed::Bad,
+        Some(size) => ParsedLine::Add(name, size),
+        None => ParsedLine::Bad,
     }
 }
 
-// What stands behind `at`.
-fn parse_at(rest: &[u8]) -> Parsed<'_>
+// What stands after `at`.
+fn parse_at(rest: &[u8]) -> ParsedLine<'_>
     ensures value { at_line (cut_at 32 rest.now) ≡ said result }
     ensures within { IsWithin (length rest.now) result }
 {
     let Some((date, time)) = cut(rest, b' ') else {
-        return Parsed::Bad;
+        return ParsedLine::Bad;
     };
     if one_word(date).is_none() || one_word(time).is_none() {
-        return Parsed::Bad;
+        return ParsedLine::Bad;
     }
-    Parsed::Ready(Command::At(moment(date, time)))
+    ParsedLine::Ready(Command::At(moment(date, time)))
 }

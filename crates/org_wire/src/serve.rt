@@ -5,12 +5,12 @@ ghost use Rattle.org_engine.specs.Questions.{IsShort};
 ghost use Rattle.org_engine.specs.Examined.{MayExamine};
 ghost use Rattle.org_engine.specs.Marks.{Looks, Reads, pending_asked};
 ghost use Rattle.org_wire.specs.Run.{moment_command};
-ghost use Rattle.org_wire.specs.Turns.{CountsFor, Serves, ServesSurely, ServesView, told, told_change, told_lines, told_text};
+ghost use Rattle.org_wire.specs.Turns.{CountsFor, Serves, ServesSurely, ServesView, serial_reply, told_change, told_lines, told_text};
 ghost use Rattle.org_wire.specs.declared.command.Command.TheVariants.{Complete, Edit};
 
-use crate::command::{Command, Request, Seen};
+use crate::command::{BaseVersion, Command, Request};
 use crate::reply::{Replaced, Reply};
-use org_base::{Bytes, Code, Fault, Name};
+use org_base::{Bytes, Code, Fault, Word};
 use org_cal::Moment;
 use org_engine::{Completion, Engine, View};
 use org_text::Text;
@@ -21,17 +21,17 @@ pub(crate) fn serve<T: Text>(engine: &mut Engine<T>, command: Command, second: b
     ensures counts { CountsFor command engine.old engine.new }
 {
     match command {
-        Command::Add(name, text) => told(engine.add_bytes(name.as_str(), text)),
-        Command::Drop(name) => told(engine.drop_file(name.as_str())),
+        Command::Add(name, text) => serial_reply(engine.add_bytes(name.as_str(), text)),
+        Command::Drop(name) => serial_reply(engine.drop_file(name.as_str())),
         Command::Edit(seen, at, del, ins) => edit(engine, &seen, at, del, ins.as_slice()),
         Command::Complete(seen, line, keyword) => {
             complete(engine, &seen, line, keyword.as_str(), second)
         }
         Command::Inherit(names) => Reply::Serial(engine.set_inherit(names)),
         Command::At(moment) => set_moment(engine, moment),
-        Command::Profile(profile) => told(engine.set_profile(profile)),
-        Command::Pin(session) => told(engine.pin(session)),
-        Command::Unpin(session) => told(engine.unpin(session)),
+        Command::Profile(profile) => serial_reply(engine.set_profile(profile)),
+        Command::Pin(session) => serial_reply(engine.pin(session)),
+        Command::Unpin(session) => serial_reply(engine.unpin(session)),
         Command::Text(name) => told_text(engine.text_of(name.as_str())),
         Command::Keywords(name) => told_lines(engine.keywords_of(name.as_str())),
         Command::Version => told_lines(engine.version()),
@@ -49,7 +49,7 @@ pub(crate) fn serve<T: Text>(engine: &mut Engine<T>, command: Command, second: b
 }
 
 // A name, lent.
-fn name_in(file: &Option<Name>) -> Option<&str>
+fn name_in(file: &Option<Word>) -> Option<&str>
     ensures value { option_copied result ≡ file.now }
 {
     match file {
@@ -59,8 +59,8 @@ fn name_in(file: &Option<Name>) -> Option<&str>
 }
 
 // The reply to a change or a pin.
-fn told(outcome: Result<u64, Fault>) -> Reply
-    ensures value { result ≡ told outcome }
+fn serial_reply(outcome: Result<u64, Fault>) -> Reply
+    ensures value { result ≡ serial_reply outcome }
 {
     match outcome {
         Ok(serial) => Reply::Serial(serial),
@@ -106,17 +106,17 @@ fn told_change(outcome: Result<Completion, Fault>) -> Reply
 }
 
 // Replaces bytes of the text that a session saw.
-fn edit<T: Text>(engine: &mut Engine<T>, seen: &Seen, at: u64, del: u64, ins: &[u8]) -> Reply
+fn edit<T: Text>(engine: &mut Engine<T>, seen: &BaseVersion, at: u64, del: u64, ins: &[u8]) -> Reply
     ensures value { (second : Bool) → Serves second (Edit seen.now at del ins.now) engine.old result engine.new }
     ensures counts { CountsFor (Edit seen.now at del ins.now) engine.old engine.new }
 {
-    told(engine.edit(seen.session, seen.name.as_str(), seen.serial, at, del, ins))
+    serial_reply(engine.edit(seen.session, seen.name.as_str(), seen.serial, at, del, ins))
 }
 
 // Completes a heading of the text that a session saw; in the second protocol the answer says what that replaced.
 fn complete<T: Text>(
     engine: &mut Engine<T>,
-    seen: &Seen,
+    seen: &BaseVersion,
     line: u64,
     keyword: &str,
     second: bool,
@@ -134,7 +134,7 @@ fn complete<T: Text>(
             keyword,
         ));
     }
-    told(engine.complete(seen.session, name, seen.serial, line, keyword))
+    serial_reply(engine.complete(seen.session, name, seen.serial, line, keyword))
 }
 
 // Asks for a view.

@@ -1,16 +1,16 @@
--- What is put behind clean lines.
+-- What is put after clean lines.
 use Rattle.std.proofs.Common.{◌≡◌, ◌∙◌, ℕ, ◌+◌, ◌^◌, ◌<◌, Bool, true, false, cond, ◌⊎◌, inl, inr, List, [], ◌∷◌, ◌++◌, refl, sym, ap, subst, arith, append_assoc, append-nil}
 use Rattle.std.specs.Prelude.{decimal}
-use Rattle.org_rows.specs.Clean.{IsClean}
-use Rattle.org_rows.specs.Visible.{visible}
-use Rattle.org_rows.specs.declared.visible.Escape.TheVariants.{Caret}
-use Rattle.org_rows.proofs.CleanLemmas.{clean_append, clean_byte, clean_front, visible_is_clean}
-use Rattle.org_rows.proofs.JsonLemmas.{decimal_clean}
+use Rattle.org_client.specs.Clean.{IsClean}
+use Rattle.org_client.specs.Visible.{visible}
+use Rattle.org_client.specs.declared.visible.Escape.TheVariants.{Caret}
+use Rattle.org_client.proofs.CleanLemmas.{clean_append, clean_byte, clean_front, visible_is_clean}
+use Rattle.org_client.proofs.JsonLemmas.{decimal_clean}
 use Rattle.orgq.specs.Shown.{AddsClean, AreCleanLines, no_line, one_more, IsCleanLine, IsColor, color, color_of, number_text, shown_line, shown_text}
-use Rattle.orgq.specs.declared.show.Look.{Look}
+use Rattle.orgq.specs.declared.show.PrintOptions.{PrintOptions}
 use Rattle.org_layout.specs.declared.shown.Line.{Line}
 
-ours : (look : Look) (line : Line) → IsColor (color look line)
+ours : (look : PrintOptions) (line : Line) → IsColor (color look line)
 ours look line = by look.is_colored
   where
     by : (t : Bool) → IsColor (cond t (color_of line) [])
@@ -21,7 +21,7 @@ more : (old line new : List ℕ) → IsCleanLine line → new ≡ old ++ line �
 more old line new is added before = subst AreCleanLines (sym added) (one_more old line before is)
 
 -- a line with a front that has no control character
-fronted : (look : Look) (line : Line) (front text : List ℕ) (is_seen : Bool) → is_seen ≡ true → IsClean front → IsCleanLine (front ++ shown_line (color look line) is_seen text)
+fronted : (look : PrintOptions) (line : Line) (front text : List ℕ) (is_seen : Bool) → is_seen ≡ true → IsClean front → IsCleanLine (front ++ shown_line (color look line) is_seen text)
 fronted look line front text is_seen on clean = record {
   front = front;
   color = color look line;
@@ -35,10 +35,10 @@ fronted look line front text is_seen on clean = record {
 pub no_lines : AreCleanLines []
 no_lines = no_line
 
-pub keeps_text : (look : Look) (line : Line) (text old new : List ℕ) → look.is_seen ≡ true → new ≡ old ++ shown_line (color look line) look.is_seen text → AreCleanLines old → AreCleanLines new
+pub keeps_text : (look : PrintOptions) (line : Line) (text old new : List ℕ) → look.is_seen ≡ true → new ≡ old ++ shown_line (color look line) look.is_seen text → AreCleanLines old → AreCleanLines new
 keeps_text look line text old new on added = more old (shown_line (color look line) look.is_seen text) new (fronted look line [] text look.is_seen on refl) added
 
-pub keeps_placed : (look : Look) (line : Line) (text old between new : List ℕ) → look.is_seen ≡ true → AddsClean old between → new ≡ between ++ shown_line (color look line) look.is_seen text →
+pub keeps_placed : (look : PrintOptions) (line : Line) (text old between new : List ℕ) → look.is_seen ≡ true → AddsClean old between → new ≡ between ++ shown_line (color look line) look.is_seen text →
     AreCleanLines old → AreCleanLines new
 keeps_placed look line text old between new on placed added =
     let shown : List ℕ = shown_line (color look line) look.is_seen text in
@@ -58,7 +58,7 @@ keeps_row text old new clean added =
       made = ap (λ s. s ++ 10 ∷ []) (sym (append-nil text));
     }) added
 
--- the number of a line, behind a name or alone
+-- the number of a line, after a name or alone
 number_clean : (number : ℕ) (is_spaced : Bool) → number < 2 ^ 64 → IsClean (number_text number is_spaced)
 number_clean number is_spaced small =
     clean_append (58 ∷ decimal number) (58 ∷ cond is_spaced (32 ∷ []) []) (clean_front 58 (decimal number) (omega arith) (omega arith) (decimal_clean number small)) (by is_spaced)

@@ -1,4 +1,4 @@
--- Exit statuses behind an answer (profile).
+-- Exit statuses after an answer (profile).
 use Rattle.std.specs.Prelude.{ℕ, Bool, true, false}
 
 -- a file was left out; else there is a row, or none
@@ -7,7 +7,7 @@ status_of has_row true = 3
 status_of true false = 0
 status_of false false = 1
 
--- behind a check: a file was left out; else nothing was found that counts, or something was
+-- after a check: a file was left out; else nothing was found that counts, or something was
 abbrev pub check_status : Bool → Bool → ℕ
 check_status counts true = 3
 check_status false false = 0

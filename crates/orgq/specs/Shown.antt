@@ -2,12 +2,12 @@
 use Rattle.std.specs.Prelude.{◌≡◌, ℕ, Bool, true, false, if◌then◌else◌, List, [], ◌∷◌, ◌++◌, codes, decimal, length, ◌==◌, ◌⊎◌, Result, OnOk, Vec}
 use Rattle.org_agenda.specs.declared.row.RowKind.{RowKind}
 use Rattle.org_agenda.specs.declared.row.RowKind.TheVariants.{LateSchedule, LateDeadline, Warning}
-use Rattle.org_rows.specs.Clean.{IsClean}
-use Rattle.org_rows.specs.Visible.{visible}
-use Rattle.org_rows.specs.declared.visible.Escape.TheVariants.{Caret}
+use Rattle.org_client.specs.Clean.{IsClean}
+use Rattle.org_client.specs.Visible.{visible}
+use Rattle.org_client.specs.declared.visible.Escape.TheVariants.{Caret}
 use Rattle.orgq.specs.declared.show.Form.{Form}
 use Rattle.orgq.specs.declared.show.Form.TheVariants.{Plain, Places, Json, Csv}
-use Rattle.orgq.specs.declared.show.Look.{Look}
+use Rattle.orgq.specs.declared.show.PrintOptions.{PrintOptions}
 use Rattle.org_layout.specs.declared.shown.Line.{Line}
 use Rattle.org_layout.specs.declared.shown.Line.TheVariants.{Day, Step, Row, Table}
 
@@ -25,7 +25,7 @@ color_of (Step first last) = 27 ∷ codes "[1m"
 color_of (Row shown) = kind_color shown.row.kind
 color_of (Table row) = []
 
-abbrev pub color : Look → Line → List ℕ
+abbrev pub color : PrintOptions → Line → List ℕ
 color look line = if look.is_colored then color_of line else []
 
 -- a text, without control characters where they are to be seen
@@ -43,14 +43,14 @@ is_safe Places is_seen = is_seen
 is_safe Json is_seen = true
 is_safe Csv is_seen = true
 
-abbrev pub IsSafe : Look → Type 0
+abbrev pub IsSafe : PrintOptions → Type 0
 IsSafe look = is_safe look.form look.is_seen ≡ true
 
 -- one of our colours, or none
 abbrev pub IsColor : List ℕ → Type 0
 IsColor color = (color ≡ []) ⊎ ((line : Line) × (color ≡ color_of line))
 
--- what stands before a colour of ours, and a text behind it: neither has a control character
+-- what stands before a colour of ours, and a text after it: neither has a control character
 pub record IsCleanLine (bytes : List ℕ) : Type 0 where
   pub front : List ℕ
   pub color : List ℕ
@@ -69,12 +69,12 @@ pub data AreCleanLines : List ℕ → Type 0 where
 abbrev pub KeepsClean : {T E A : Type 0} → Result T E → Vec ℕ A → Vec ℕ A → Type 0
 KeepsClean result old new = AreCleanLines old.items → OnOk result (AreCleanLines new.items)
 
--- a text without control characters behind others
+-- a text without control characters after others
 pub record AddsClean (old new : List ℕ) : Type 0 where
   pub text : List ℕ
   pub clean : IsClean text
   pub added : new ≡ old ++ text
 
--- the number of a line behind a file's name
+-- the number of a line after a file's name
 abbrev pub number_text : ℕ → Bool → List ℕ
 number_text number is_spaced = 58 ∷ decimal number ++ 58 ∷ (if is_spaced then 32 ∷ [] else [])

@@ -40,41 +40,73 @@ const OF_CHECK: &str = "\
 
 /// The arguments that the program takes.
 pub fn command<'a>(alloc: Global) -> Result<Command<'a>, AllocError> {
+    program(alloc)?
+        .subcommand(agenda(alloc)?)?
+        .subcommand(todo(alloc)?)?
+        .subcommand(match_list(alloc)?)?
+        .subcommand(clock(alloc)?)?
+        .subcommand(next(alloc)?)?
+        .subcommand(check(alloc)?)
+}
+
+// What stands in front of every command, and alone asks for today.
+fn program<'a>(alloc: Global) -> Result<Command<'a>, AllocError> {
     let path = words(
         alloc,
         "PATH",
         "A file or folder, as -f; with a slash or .org in its name",
     );
-    let command = Command::new(alloc, "orgq")
+    let program = Command::new(alloc, "orgq")
         .subcommand_precedence_over_arg(true)
         .about(
             "Agendas, lists and clock tables of your Org files, and what in them will not show; without a command today's agenda",
         )
         .arg(path)?;
-    let command = with_options(alloc, command, OF_TODAY, false)?;
-    let command = with_options(alloc, command, OF_ALL, true)?;
+    with_options(
+        alloc,
+        with_options(alloc, program, OF_TODAY, false)?,
+        OF_ALL,
+        true,
+    )
+}
+
+fn agenda<'a>(alloc: Global) -> Result<Command<'a>, AllocError> {
+    let day = word(alloc, "DATE", "The first day, as 2024-02-28");
     let agenda = Command::new(alloc, "agenda").about("Some days, by default today");
-    let agenda = agenda.arg(word(alloc, "DATE", "The first day, as 2024-02-28"))?;
+    with_options(alloc, agenda.arg(day)?, OF_AGENDA, false)
+}
+
+fn todo<'a>(alloc: Global) -> Result<Command<'a>, AllocError> {
+    let keywords = words(alloc, "KEYWORD", "Keywords; without them the open ones");
     let todo = Command::new(alloc, "todo").about("The open entries, or those with some keyword");
-    let list = Command::new(alloc, "match").about("The entries of which an expression holds");
-    let list = list.arg(word(
+    todo.arg(keywords)
+}
+
+fn match_list<'a>(alloc: Global) -> Result<Command<'a>, AllocError> {
+    let expression = word(
         alloc,
         "EXPR",
         "The expression, as work/!NEXT; behind -- where it begins with a minus",
-    )
-    .required(true))?;
+    );
+    let list = Command::new(alloc, "match").about("The entries of which an expression holds");
+    list.arg(expression.required(true))
+}
+
+fn clock<'a>(alloc: Global) -> Result<Command<'a>, AllocError> {
+    let block = word(alloc, "BLOCK", "A block of time, as today or 2024-W09");
     let clock = Command::new(alloc, "clock").about("A clock table, by default this week's");
-    let clock = clock.arg(word(alloc, "BLOCK", "A block of time, as today or 2024-W09"))?;
+    with_options(alloc, clock.arg(block)?, OF_CLOCK, false)
+}
+
+fn next<'a>(alloc: Global) -> Result<Command<'a>, AllocError> {
     let next = Command::new(alloc, "next").about("What comes next of each stamp, by time");
+    with_options(alloc, next, OF_NEXT, false)
+}
+
+fn check<'a>(alloc: Global) -> Result<Command<'a>, AllocError> {
+    let files = words(alloc, "FILE", "A file or folder, as -f, of any name");
     let check = Command::new(alloc, "check").about("What looks planned and will not show");
-    let check = check.arg(words(alloc, "FILE", "A file or folder, as -f, of any name"))?;
-    command
-        .subcommand(with_options(alloc, agenda, OF_AGENDA, false)?)?
-        .subcommand(todo.arg(words(alloc, "KEYWORD", "Keywords; without them the open ones"))?)?
-        .subcommand(list)?
-        .subcommand(with_options(alloc, clock, OF_CLOCK, false)?)?
-        .subcommand(with_options(alloc, next, OF_NEXT, false)?)?
-        .subcommand(with_options(alloc, check, OF_CHECK, false)?)
+    with_options(alloc, check.arg(files)?, OF_CHECK, false)
 }
 
 fn word<'a>(alloc: Global, name: &'static str, help: &'static str) -> Arg<'a> {

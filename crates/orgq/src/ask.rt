@@ -1,13 +1,13 @@
 //! What is asked, and the answer to it.
-ghost use Rattle.org_rows.specs.Files.{AreRead};
+ghost use Rattle.org_client.specs.Files.{AreRead};
 
-use crate::coming::coming;
 use crate::options::{clock_options, texts};
 use crate::problem::Problem;
+use crate::rows_ahead::rows_ahead;
 use crate::table::clock_table;
 use crate::view::{Answer, Days, agenda_days, agenda_over, match_list, todo_list};
 use clap::ArgMatches;
-use org_agenda::Standpoint;
+use org_agenda::AsOf;
 use org_base::{Code, Fault, Profile, Texts};
 use org_cal::{Day, Moment};
 use org_clocktable::TableSpec;
@@ -20,7 +20,7 @@ const LONGEST: usize = 65_536;
 
 /// What is asked for.
 #[derive(Debug, Drop)]
-pub enum Asked<'a> {
+pub enum Query<'a> {
     Agenda(Days),
     Todo(Texts),
     Match(&'a str),
@@ -30,20 +30,20 @@ pub enum Asked<'a> {
     Next(Days, Option<u32>),
 }
 
-impl<'a> Asked<'a> {
+impl<'a> Query<'a> {
     /// The expression that was typed, if there is one.
     pub fn expression(&self) -> &str {
         match self {
-            Asked::Match(expression) => expression,
-            Asked::Clock(_, expression) => expression,
-            Asked::Agenda(_) | Asked::Todo(_) | Asked::Next(..) => "",
+            Query::Match(expression) => expression,
+            Query::Clock(_, expression) => expression,
+            Query::Agenda(_) | Query::Todo(_) | Query::Next(..) => "",
         }
     }
 
     /// The kind of a list's rows in fields between commas.
     pub fn list(&self) -> &'static str {
         match self {
-            Asked::Match(_) => "tagsmatch",
+            Query::Match(_) => "tagsmatch",
             _ => "todo",
         }
     }
@@ -54,33 +54,33 @@ pub fn read_question<'a>(
     alloc: Global,
     matches: &ArgMatches<'a>,
     moment: &Moment,
-) -> Result<Asked<'a>, Problem> {
+) -> Result<Query<'a>, Problem> {
     let days = matches.get_one::<u32>("days");
     match matches.subcommand() {
-        Some(("agenda", own)) => Ok(Asked::Agenda(asked_days(own, days, moment)?)),
+        Some(("agenda", own)) => Ok(Query::Agenda(asked_days(own, days, moment)?)),
         Some(("next", own)) => {
             let count = own.get_one::<u32>("days").or(days).unwrap_or(30);
             let days = days_from(moment.day, count)?;
-            Ok(Asked::Next(days, own.get_one::<u32>("within")))
+            Ok(Query::Next(days, own.get_one::<u32>("within")))
         }
-        None => Ok(Asked::Agenda(days_from(moment.day, days.unwrap_or(1))?)),
+        None => Ok(Query::Agenda(days_from(moment.day, days.unwrap_or(1))?)),
         Some(_) if days.is_some() => Err(Problem::DaysOf),
         Some((name, own)) => asked_list(alloc, name, own),
     }
 }
 
 // What a command asks for that has no days of its own.
-fn asked_list<'a>(alloc: Global, name: &str, own: &ArgMatches<'a>) -> Result<Asked<'a>, Problem> {
+fn asked_list<'a>(alloc: Global, name: &str, own: &ArgMatches<'a>) -> Result<Query<'a>, Problem> {
     match name {
-        "todo" => Ok(Asked::Todo(texts(alloc, own.get_strs("KEYWORD"))?)),
-        "match" => Ok(Asked::Match(own.get_str("EXPR").unwrap_or(""))),
+        "todo" => Ok(Query::Todo(texts(alloc, own.get_strs("KEYWORD"))?)),
+        "match" => Ok(Query::Match(own.get_str("EXPR").unwrap_or(""))),
         _ => asked_table(alloc, own),
     }
 }
 
 fn asked_days(own: &ArgMatches<'_>, days: Option<u32>, moment: &Moment) -> Result<Days, Problem> {
     let first = match own.get_str("DATE") {
-        Some(text) => match Day::spelled(text.as_bytes()) {
+        Some(text) => match Day::of_text(text.as_bytes()) {
             Some(day) => day,
             None => return Err(Problem::Date),
         },
@@ -96,7 +96,7 @@ fn days_from(first: Day, count: u32) -> Result<Days, Problem> {
     }
 }
 
-fn asked_table<'a>(alloc: Global, own: &ArgMatches<'a>) -> Result<Asked<'a>, Problem> {
+fn asked_table<'a>(alloc: Global, own: &ArgMatches<'a>) -> Result<Query<'a>, Problem> {
     if !matches!(own.get_str("step"), None | Some("day" | "week")) {
         return Err(Problem::Step);
     }
@@ -107,13 +107,13 @@ fn asked_table<'a>(alloc: Global, own: &ArgMatches<'a>) -> Result<Asked<'a>, Pro
         return Err(Problem::Fault(Fault::Plain(Code::Option)));
     }
     let text = clock_options(alloc, own)?;
-    Ok(Asked::Clock(text, own.get_str("match").unwrap_or("")))
+    Ok(Query::Clock(text, own.get_str("match").unwrap_or("")))
 }
 
 /// What is asked, in which profile, and at which moment.
 #[derive(Clone, Copy, Debug)]
 pub struct Question<'a, 'b> {
-    pub asked: &'a Asked<'b>,
+    pub asked: &'a Query<'b>,
     pub profile: Profile,
     pub moment: Moment,
 }
@@ -121,13 +121,13 @@ pub struct Question<'a, 'b> {
 /// Whether a question can be answered: its expression and its options are such.
 pub fn check(alloc: Global, question: &Question<'_, '_>) -> Result<(), Fault> {
     match question.asked {
-        Asked::Match(expression) => {
+        Query::Match(expression) => {
             let _ = read_expression(alloc, expression)?;
         }
-        Asked::Clock(options, _) => {
+        Query::Clock(options, _) => {
             check_options(alloc, options.as_str(), question.moment.day)?;
         }
-        Asked::Agenda(_) | Asked::Todo(_) | Asked::Next(..) => {}
+        Query::Agenda(_) | Query::Todo(_) | Query::Next(..) => {}
     }
     Ok(())
 }
@@ -156,23 +156,23 @@ pub fn answer(
     requires read { AreRead inherits.now }
 {
     let now = question.moment;
-    let standpoint = Standpoint {
+    let as_of = AsOf {
         profile: question.profile,
         today: now.day,
     };
     match question.asked {
-        Asked::Agenda(days) => agenda_days(alloc, inherits, &standpoint, *days),
-        Asked::Todo(words) => todo_list(alloc, inherits, words),
-        Asked::Match(expression) => matching(alloc, inherits, expression, now),
-        Asked::Clock(options, _) => clock(alloc, inherits, options.as_str(), now),
-        Asked::Next(days, within) => {
-            let agenda = agenda_over(alloc, inherits, &standpoint, *days)?;
-            coming(alloc, inherits, &agenda, &now, *within)
+        Query::Agenda(days) => agenda_days(alloc, inherits, &as_of, *days),
+        Query::Todo(words) => todo_list(alloc, inherits, words),
+        Query::Match(expression) => match_answer(alloc, inherits, expression, now),
+        Query::Clock(options, _) => clock(alloc, inherits, options.as_str(), now),
+        Query::Next(days, within) => {
+            let agenda = agenda_over(alloc, inherits, &as_of, *days)?;
+            rows_ahead(alloc, inherits, &agenda, &now, *within)
         }
     }
 }
 
-fn matching(
+fn match_answer(
     alloc: Global,
     inherits: &Inherits<'_>,
     expression: &str,

@@ -80,7 +80,7 @@ fn selection(alloc: Global, own: &ArgMatches<'_>) -> Result<Selection, Problem> 
 
 // From which severity on a finding counts.
 fn least(word: Option<&str>) -> Result<Severity, Problem> {
-    match Severity::named(word.unwrap_or("note")) {
+    match Severity::of_name(word.unwrap_or("note")) {
         Some(severity) => Ok(severity),
         None => Err(Problem::Severity),
     }

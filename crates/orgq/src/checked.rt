@@ -1,8 +1,8 @@
 //! Files that are checked.
 
-use crate::files::{FileSet, Named};
+use crate::files::{FileSink, Named};
 use crate::keywords::with_keywords;
-use org_base::{Fault, MOST_FILES, Meter, Names};
+use org_base::{Fault, MOST_FILES, Meter, NameSet};
 use org_class::read_settings;
 use org_settings::Settings;
 use org_text::{Text, Whole};
@@ -54,8 +54,8 @@ impl CheckedFiles {
     }
 
     /// The keywords of all of them, each once.
-    pub fn keywords(&self, alloc: Global) -> Result<Names, AllocError> {
-        let mut names = Names::new(alloc);
+    pub fn keywords(&self, alloc: Global) -> Result<NameSet, AllocError> {
+        let mut names = NameSet::new(alloc);
         for file in self.as_slice() {
             add_keywords(alloc, &mut names, file.settings())?;
         }
@@ -63,7 +63,7 @@ impl CheckedFiles {
     }
 }
 
-impl FileSet for CheckedFiles {
+impl FileSink for CheckedFiles {
     fn has_path(&self, path: &str) -> bool {
         self.as_slice()
             .iter()
@@ -106,8 +106,8 @@ fn checked_file(
     })
 }
 
-// What the setting lines of a text say; where it names no keyword, with these keywords. The line of keywords that is put behind
-// the text for this is put behind a copy.
+// What the setting lines of a text say; where it names no keyword, with these keywords. The line of keywords that is put after
+// the text for this is put after a copy.
 fn settings_with(alloc: Global, text: &Whole, words: &str) -> Result<Settings, Fault> {
     let text = with_keywords(alloc, text.copy_out()?, words)?;
     let text = Whole::of_string(alloc, text)?;
@@ -115,14 +115,14 @@ fn settings_with(alloc: Global, text: &Whole, words: &str) -> Result<Settings, F
 }
 
 // Adds those keywords that aren't there.
-fn add_keywords(alloc: Global, names: &mut Names, settings: &Settings) -> Result<(), AllocError> {
+fn add_keywords(alloc: Global, names: &mut NameSet, settings: &Settings) -> Result<(), AllocError> {
     for place in 0..settings.keyword_count() {
         add_new(alloc, names, settings.keyword_word(place))?;
     }
     Ok(())
 }
 
-fn add_new(alloc: Global, names: &mut Names, word: &[u8]) -> Result<(), AllocError> {
+fn add_new(alloc: Global, names: &mut NameSet, word: &[u8]) -> Result<(), AllocError> {
     if names.place(word).is_none() {
         names.add(Vec::from_slice(alloc, word)?)?;
     }

@@ -24,7 +24,7 @@ pub fn now<R: AllocGlobal + Files + Env + Clock>(rt: &R) -> Result<Moment, Probl
     let system = SystemTimeZone::read(rt)?;
     let zone = system.time_zone(&zones)?;
     let now = Zoned::now(rt, zone)?;
-    match civil(&now) {
+    match local_moment(&now) {
         Some(moment) => Ok(moment),
         None => Err(Problem::Clock),
     }
@@ -80,7 +80,7 @@ fn zone_bytes<R: AllocGlobal + Files + Env>(
     }
 }
 
-fn civil(now: &Zoned<'_>) -> Option<Moment> {
+fn local_moment(now: &Zoned<'_>) -> Option<Moment> {
     let year = u16::try_from(now.year()).ok()?;
     let month = u8::try_from(now.month()).ok()?;
     let of_month = u8::try_from(now.day()).ok()?;

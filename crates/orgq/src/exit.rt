@@ -8,7 +8,7 @@ pub const BAD_ARGUMENTS: u8 = 2;
 /// Output failed, or there was no memory.
 pub const STOPPED: u8 = 4;
 
-/// The status behind an answer: 3 where a file was left out, else 0 where there is a row and 1 where there is none.
+/// The status after an answer: 3 where a file was left out, else 0 where there is a row and 1 where there is none.
 pub fn status_of(has_row: bool, left_out: bool) -> u8
     ensures value { result ≡ status_of has_row left_out }
 {

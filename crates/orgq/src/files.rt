@@ -2,7 +2,7 @@
 
 use crate::keywords::with_keywords;
 use org_base::{Code, Fault};
-use org_rows::Library;
+use org_client::FileSet;
 use org_text::{MAX_BYTES, Text, Whole};
 use std::alloc::{AllocError, Global};
 use std::fs::OpenFile;
@@ -31,7 +31,7 @@ pub struct Named<'a> {
 }
 
 /// Files that come one by one, none of them twice.
-pub trait FileSet {
+pub trait FileSink {
     /// Whether a file of this path is there.
     fn has_path(&self, path: &str) -> bool;
 
@@ -49,7 +49,7 @@ pub trait FileSet {
     ) -> Result<(), Fault>;
 }
 
-impl FileSet for Library<Whole> {
+impl FileSink for FileSet<Whole> {
     fn has_path(&self, path: &str) -> bool {
         self.has(path)
     }
@@ -77,7 +77,7 @@ impl FileSet for Library<Whole> {
 
 /// Reads a file whole and adds it to a set under its name, with these keywords where it has none of its own. Where it can't
 /// be added the set has the files that it had.
-pub fn load<R: AllocGlobal + Files, S: FileSet>(
+pub fn load<R: AllocGlobal + Files, S: FileSink>(
     rt: &R,
     set: &mut S,
     named: Named<'_>,
@@ -141,7 +141,7 @@ pub fn real_path<R: AllocGlobal + Files>(rt: &R, path: &str) -> Result<String, A
     }
 }
 
-/// Puts the files that a path stands for behind others: itself, or of a folder its files `*.org` by their names, but for
+/// Puts the files that a path stands for after others: itself, or of a folder its files `*.org` by their names, but for
 /// hidden ones and what is no file. Gives how many names of the folder aren't UTF-8, and so are passed over.
 pub fn push_paths<R: AllocGlobal + Files + Clone + Drop>(
     rt: &R,
@@ -167,7 +167,7 @@ pub fn push_paths<R: AllocGlobal + Files + Clone + Drop>(
     Ok(passed)
 }
 
-// Puts a name of a folder behind others, if it is one of a file that is meant; where a link leads nowhere, it is one.
+// Puts a name of a folder after others, if it is one of a file that is meant; where a link leads nowhere, it is one.
 fn push_entry<R: AllocGlobal + Files>(
     rt: &R,
     paths: &mut Vec<String>,

@@ -3,7 +3,7 @@ ghost use Rattle.std.specs.Prelude.{IfOk};
 ghost use Rattle.org_check.specs.Clean.{AreCleanLines, KeepsClean};
 
 use crate::checked::{CheckedFile, CheckedFiles};
-use org_base::{Fault, Meter, Names};
+use org_base::{Fault, Meter, NameSet};
 use org_cal::Minute;
 use org_check::{About, Wanted, checks, report};
 use std::alloc::Global;
@@ -38,7 +38,7 @@ pub fn report_of(
 }
 
 // What is known beside a file's text; its own keywords are among those of all files, and are no others.
-fn about<'a>(file: &'a CheckedFile, keywords: &'a Names, now: Minute) -> About<'a> {
+fn about<'a>(file: &'a CheckedFile, keywords: &'a NameSet, now: Minute) -> About<'a> {
     About {
         settings: file.settings(),
         others: keywords,

@@ -2,13 +2,13 @@
 
 use crate::say::say_of;
 use org_base::{Fault, Texts};
+use org_client::ReadFile;
 use org_inherit::Inherits;
-use org_rows::ReadFile;
 use org_text::{Text, Whole};
 use std::alloc::{AllocError, Global};
 use std::str;
 
-/// A text with a line of keywords behind it, where it has none of its own. Setting lines count wherever they stand, so every
+/// A text with a line of keywords after it, where it has none of its own. Setting lines count wherever they stand, so every
 /// place of the text stays what it was.
 pub fn with_keywords(alloc: Global, text: String, words: &str) -> Result<String, Fault> {
     if names_keywords(alloc, text.as_str())? {
@@ -41,7 +41,7 @@ fn names_keywords(alloc: Global, text: &str) -> Result<bool, Fault> {
 // A keyword that no file has.
 const PROBE: &str = "\u{1}";
 
-// Whether other keywords stand in a text before the one that was put behind it.
+// Whether other keywords stand in a text before the one that was put after it.
 fn are_before(alloc: Global, text: String) -> Result<bool, Fault> {
     let text = Whole::of_string(alloc, text)?;
     let file = ReadFile::new(alloc, String::new(alloc), String::new(alloc), text)?;
@@ -74,7 +74,7 @@ fn is_keyword_key(key: &str) -> bool {
         || key.eq_ignore_ascii_case("#+typ_todo")
 }
 
-// Whether a word is a keyword, with what may stand in parentheses behind it, and no bar.
+// Whether a word is a keyword, with what may stand in parentheses after it, and no bar.
 fn is_keyword(word: &str) -> bool {
     let name = match word.split_once('(') {
         Some((name, _)) if word.ends_with(')') => name,

@@ -2,7 +2,7 @@
 
 use crate::environment::Variable;
 use crate::exit::BAD_ARGUMENTS;
-use crate::say::{out_of_memory, say, seen};
+use crate::say::{out_of_memory, say, visible_text};
 use org_base::{Code, Fault};
 use std::alloc::AllocError;
 use unicode_width::UnicodeWidthStr;
@@ -82,7 +82,7 @@ fn why_code(code: Code) -> &'static str {
 }
 
 /// Says why nothing was answered, and gives the status; of an expression also where it is none, by a caret below it.
-pub fn stopped<R: Eprint + AllocGlobal>(rt: &R, problem: Problem, expression: &str) -> u8 {
+pub fn report_problem<R: Eprint + AllocGlobal>(rt: &R, problem: Problem, expression: &str) -> u8 {
     match problem {
         Problem::Fault(fault) if fault.code() == Code::Memory => out_of_memory(rt),
         Problem::Fault(Fault::MatchAt(at)) => point_at(rt, expression, at as usize),
@@ -93,13 +93,13 @@ pub fn stopped<R: Eprint + AllocGlobal>(rt: &R, problem: Problem, expression: &s
     }
 }
 
-// Shows an expression with a caret below the character behind the bytes that still begin one.
+// Shows an expression with a caret below the character after the bytes that still begin one.
 fn point_at<R: Eprint + AllocGlobal>(rt: &R, expression: &str, at: usize) -> u8 {
     let before = expression.get(..at).unwrap_or(expression);
-    let Some(before) = seen(rt.alloc(), before) else {
+    let Some(before) = visible_text(rt.alloc(), before) else {
         return out_of_memory(rt);
     };
-    let Some(whole) = seen(rt.alloc(), expression) else {
+    let Some(whole) = visible_text(rt.alloc(), expression) else {
         return out_of_memory(rt);
     };
     let width = before.as_str().width().saturating_add(13);

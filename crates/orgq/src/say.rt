@@ -1,15 +1,15 @@
 //! What standard error says: lines without control characters.
 ghost use Rattle.std.specs.Prelude.{◌≡◌, string_bytes, IfSome};
-ghost use Rattle.org_rows.specs.Clean.{IsClean};
-ghost use Rattle.org_rows.specs.Visible.{visible};
+ghost use Rattle.org_client.specs.Clean.{IsClean};
+ghost use Rattle.org_client.specs.Visible.{visible};
 
 use crate::exit::STOPPED;
-use org_rows::{Escape, push_visible};
+use org_client::{Escape, push_visible};
 use std::alloc::Global;
 
-/// Says a line behind the program's name.
+/// Says a line after the program's name.
 pub fn say<R: Eprint + AllocGlobal>(rt: &R, text: &str) {
-    let _ = match seen(rt.alloc(), text) {
+    let _ = match visible_text(rt.alloc(), text) {
         Some(line) => eprintln!(rt; "orgq: {line}"),
         None => eprintln!(rt; "orgq: out of memory"),
     };
@@ -37,14 +37,14 @@ pub fn say_lines<R: Eprint + AllocGlobal>(rt: &R, text: &str) {
 }
 
 fn say_line<R: Eprint + AllocGlobal>(rt: &R, line: &str) {
-    if let Some(line) = seen(rt.alloc(), line) {
+    if let Some(line) = visible_text(rt.alloc(), line) {
         let _ = eprintln!(rt; "{line}");
     }
 }
 
 /// A text without control characters; none where memory is refused.
-#[tactic(auto, using(org_rows::proofs::CleanLemmas::visible_is_clean))]
-pub fn seen(alloc: Global, text: &str) -> Option<String>
+#[tactic(auto, using(org_client::proofs::CleanLemmas::visible_is_clean))]
+pub fn visible_text(alloc: Global, text: &str) -> Option<String>
     ensures value { IfSome result (λ seen. string_bytes seen ≡ visible Escape.Caret text.now) }
     ensures clean { IfSome result (λ seen. IsClean (string_bytes seen)) }
 {

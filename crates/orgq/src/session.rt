@@ -1,6 +1,6 @@
 //! One question, from the arguments to the exit status.
 
-use crate::ask::{Asked, Question, answer, check, read_question};
+use crate::ask::{Query, Question, answer, check, read_question};
 use crate::check::check_files;
 use crate::clock::{moment, now};
 use crate::environment::{Variable, value_of};
@@ -8,13 +8,13 @@ use crate::exit::status_of;
 use crate::keywords::say_unknown;
 use crate::options::{form, is_colored, profile, texts};
 use crate::out::print_all;
-use crate::problem::{Problem, stopped};
-use crate::show::{Look, printed};
+use crate::problem::{Problem, report_problem};
+use crate::show::{PrintOptions, answer_bytes};
 use crate::sources::{load_all, paths};
 use clap::ArgMatches;
 use org_base::Fault;
 use org_cal::Moment;
-use org_rows::{FilesRead, Library};
+use org_client::{FileSet, LoadReport};
 use org_text::Whole;
 use std::mem::forget;
 use std::rt::{Env, Files};
@@ -26,24 +26,24 @@ pub fn run<R: AllocGlobal + Files + Env + Clock + Print + Eprint + Clone + Drop>
     matches: &ArgMatches<'_>,
     on_terminal: bool,
 ) -> u8 {
-    match answered(rt, matches, on_terminal) {
+    match answer_query(rt, matches, on_terminal) {
         Ok(status) => status,
-        Err(problem) => stopped(rt, problem, ""),
+        Err(problem) => report_problem(rt, problem, ""),
     }
 }
 
-fn answered<R: AllocGlobal + Files + Env + Clock + Print + Eprint + Clone + Drop>(
+fn answer_query<R: AllocGlobal + Files + Env + Clock + Print + Eprint + Clone + Drop>(
     rt: &R,
     matches: &ArgMatches<'_>,
     on_terminal: bool,
 ) -> Result<u8, Problem> {
-    let is_colored = colored(rt, matches, on_terminal)?;
+    let is_colored = wants_color(rt, matches, on_terminal)?;
     let moment = moment_of(rt, matches)?;
     if let Some(("check", own)) = matches.subcommand() {
         return check_files(rt, matches, own, &moment);
     }
     let asked = read_question(rt.alloc(), matches, &moment)?;
-    let look = Look {
+    let look = PrintOptions {
         form: form(matches),
         is_colored,
         is_seen: on_terminal || is_colored,
@@ -56,12 +56,12 @@ fn answered<R: AllocGlobal + Files + Env + Clock + Print + Eprint + Clone + Drop
     };
     match check(rt.alloc(), &question) {
         Ok(()) => over_files(rt, matches, &question, &look),
-        Err(fault) => Ok(stopped(rt, Problem::Fault(fault), asked.expression())),
+        Err(fault) => Ok(report_problem(rt, Problem::Fault(fault), asked.expression())),
     }
 }
 
 // Whether colours are wanted; by themselves neither where `NO_COLOR` is set nor on a terminal that is none.
-fn colored<R: AllocGlobal + Env>(
+fn wants_color<R: AllocGlobal + Env>(
     rt: &R,
     matches: &ArgMatches<'_>,
     on_terminal: bool,
@@ -98,14 +98,14 @@ fn over_files<R: AllocGlobal + Files + Env + Print + Eprint + Clone + Drop>(
     rt: &R,
     matches: &ArgMatches<'_>,
     question: &Question<'_, '_>,
-    look: &Look,
+    look: &PrintOptions,
 ) -> Result<u8, Problem> {
     let inherited = texts(rt.alloc(), matches.get_strs("inherit"))?;
-    let mut library: Library<Whole> = Library::new(rt.alloc(), inherited);
+    let mut file_set: FileSet<Whole> = FileSet::new(rt.alloc(), inherited);
     let paths = paths(rt, matches, &[])?;
     let keywords = matches.get_str("keywords");
-    let left_out = load_all(rt, &mut library, paths.as_slice(), keywords)?;
-    let status = match text_of(rt, &library, question, look) {
+    let left_out = load_all(rt, &mut file_set, paths.as_slice(), keywords)?;
+    let status = match text_of(rt, &file_set, question, look) {
         Ok((has_row, text)) => {
             let status = status_of(has_row, left_out);
             if matches.get_flag("quiet") {
@@ -114,30 +114,30 @@ fn over_files<R: AllocGlobal + Files + Env + Print + Eprint + Clone + Drop>(
                 print_all(rt, text.as_slice(), status)
             }
         }
-        Err(fault) => stopped(rt, Problem::Fault(fault), question.asked.expression()),
+        Err(fault) => report_problem(rt, Problem::Fault(fault), question.asked.expression()),
     };
     // The program ends here: the system takes all memory back at once, which piece by piece would be a tenth of the run.
-    forget(library);
+    forget(file_set);
     Ok(status)
 }
 
 // Whether there is a row, and what is printed.
 fn text_of<R: AllocGlobal + Eprint>(
     rt: &R,
-    library: &Library<Whole>,
+    file_set: &FileSet<Whole>,
     question: &Question<'_, '_>,
-    look: &Look,
+    look: &PrintOptions,
 ) -> Result<(bool, Vec<u8>), Fault> {
-    let inherits = library.inherits()?;
-    if let Asked::Todo(words) = question.asked {
+    let inherits = file_set.inherits()?;
+    if let Query::Todo(words) = question.asked {
         say_unknown(rt, &inherits, words);
     }
     let answer = answer(rt.alloc(), &inherits, question)?;
-    let files = FilesRead {
-        library,
+    let files = LoadReport {
+        file_set,
         inherits: &inherits,
     };
-    let text = printed(rt.alloc(), &files, &answer, look)?;
+    let text = answer_bytes(rt.alloc(), &files, &answer, look)?;
     let has_row = answer.has_row();
     // As the library: until the program ends nothing is needed but the text.
     forget(answer);

@@ -7,12 +7,12 @@ use crate::view::Answer;
 use org_agenda::RowKind;
 use org_base::Fault;
 use org_cal::Day;
-use org_clocktable::Of;
-use org_layout::Line;
-use org_rows::{
-    Escape, FilesRead, OneLine, ShownSum, csv_line, json_line, push_visible, table_fields,
+use org_client::{
+    Escape, LoadReport, OneLine, ShownSum, csv_line, json_line, push_visible, table_fields,
     table_line,
 };
+use org_clocktable::Of;
+use org_layout::Line;
 use org_text::Text;
 use std::alloc::{AllocError, Global};
 
@@ -32,7 +32,7 @@ pub enum Form {
 /// How an answer is printed: its form, whether late rows and warnings stand out, whether control characters are written so
 /// that they can be seen, and the kind of a list's rows.
 #[derive(Clone, Copy, Debug)]
-pub struct Look {
+pub struct PrintOptions {
     pub form: Form,
     pub is_colored: bool,
     pub is_seen: bool,
@@ -41,11 +41,11 @@ pub struct Look {
 
 /// The bytes of an answer, line by line.
 #[tactic(auto, using(crate::proofs::ShownLemmas::no_lines))]
-pub fn printed<T: Text>(
+pub fn answer_bytes<T: Text>(
     alloc: Global,
-    files: &FilesRead<'_, '_, T>,
+    files: &LoadReport<'_, '_, T>,
     answer: &Answer,
-    look: &Look,
+    look: &PrintOptions,
 ) -> Result<Vec<u8>, Fault>
     ensures clean { IsSafe look.now → IfOk result (λ out. AreCleanLines out.items) }
 {
@@ -58,7 +58,7 @@ pub fn printed<T: Text>(
         };
         lines = rest;
         let text = text.trim_end_matches('\n');
-        let shown = AnswerLine {
+        let shown = LineOfAnswer {
             line,
             days: days_at(line, days),
             text,
@@ -79,13 +79,13 @@ fn days_at(line: &Line, before: Option<(Day, Day)>) -> Option<(Day, Day)> {
 
 // A line of an answer: what it stands for, the days of its clock table, and its text.
 #[derive(Clone, Copy)]
-struct AnswerLine<'a> {
+struct LineOfAnswer<'a> {
     line: &'a Line,
     days: Option<(Day, Day)>,
     text: &'a str,
 }
 
-impl AnswerLine<'_> {
+impl LineOfAnswer<'_> {
     // A row of a clock table with its days, where it is one.
     fn sum(&self) -> Option<ShownSum> {
         match (self.line, self.days) {
@@ -103,9 +103,9 @@ impl AnswerLine<'_> {
 fn push_line<T: Text>(
     alloc: Global,
     out: &mut Vec<u8>,
-    files: &FilesRead<'_, '_, T>,
-    shown: &AnswerLine<'_>,
-    look: &Look,
+    files: &LoadReport<'_, '_, T>,
+    shown: &LineOfAnswer<'_>,
+    look: &PrintOptions,
 ) -> Result<(), Fault>
     ensures clean { IsSafe look.now → KeepsClean result out.old out.new }
 {
@@ -118,7 +118,11 @@ fn push_line<T: Text>(
 }
 
 // Appends the text of a line, in the colour of its kind where it has one.
-fn push_text(out: &mut Vec<u8>, shown: &AnswerLine<'_>, look: &Look) -> Result<(), AllocError>
+fn push_text(
+    out: &mut Vec<u8>,
+    shown: &LineOfAnswer<'_>,
+    look: &PrintOptions,
+) -> Result<(), AllocError>
     ensures { Adds result out.old out.new (shown_line (color look.now shown.now.line.now) look.now.is_seen shown.now.text.now) }
 {
     let color = if look.is_colored {
@@ -166,9 +170,9 @@ fn color_of(line: &Line) -> &'static str
 fn push_placed<T: Text>(
     alloc: Global,
     out: &mut Vec<u8>,
-    files: &FilesRead<'_, '_, T>,
-    shown: &AnswerLine<'_>,
-    look: &Look,
+    files: &LoadReport<'_, '_, T>,
+    shown: &LineOfAnswer<'_>,
+    look: &PrintOptions,
 ) -> Result<(), AllocError>
     ensures clean { look.now.is_seen ≡ true → KeepsClean result out.old out.new }
 {
@@ -182,7 +186,7 @@ fn push_placed<T: Text>(
 fn push_place<T: Text>(
     alloc: Global,
     out: &mut Vec<u8>,
-    files: &FilesRead<'_, '_, T>,
+    files: &LoadReport<'_, '_, T>,
     line: &Line,
     is_seen: bool,
 ) -> Result<(), AllocError>
@@ -191,14 +195,14 @@ fn push_place<T: Text>(
     let Some((file, heading)) = heading_of(line) else {
         return Ok(());
     };
-    let Some(place) = files.library.place(file, heading) else {
+    let Some(place) = files.file_set.place(file, heading) else {
         return Ok(());
     };
     let is_spaced = matches!(line, Line::Table(_));
-    if file >= files.library.count() {
+    if file >= files.file_set.count() {
         return push_number(alloc, out, place.line, is_spaced);
     }
-    push_seen(out, files.library.file(file).name(), is_seen)?;
+    push_seen(out, files.file_set.file(file).name(), is_seen)?;
     push_number(alloc, out, place.line, is_spaced)
 }
 
@@ -233,8 +237,8 @@ fn heading_of(line: &Line) -> Option<(usize, usize)> {
 fn push_json<T: Text>(
     alloc: Global,
     out: &mut Vec<u8>,
-    files: &FilesRead<'_, '_, T>,
-    shown: &AnswerLine<'_>,
+    files: &LoadReport<'_, '_, T>,
+    shown: &LineOfAnswer<'_>,
 ) -> Result<(), Fault>
     ensures clean { KeepsClean result out.old out.new }
 {
@@ -252,8 +256,8 @@ fn push_json<T: Text>(
 fn push_csv<T: Text>(
     alloc: Global,
     out: &mut Vec<u8>,
-    files: &FilesRead<'_, '_, T>,
-    shown: &AnswerLine<'_>,
+    files: &LoadReport<'_, '_, T>,
+    shown: &LineOfAnswer<'_>,
     list: &str,
 ) -> Result<(), Fault>
     ensures clean { KeepsClean result out.old out.new }

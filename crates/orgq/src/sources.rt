@@ -1,7 +1,7 @@
 //! Which files are asked, and what comes of loading them.
 
 use crate::environment::{Variable, value_of};
-use crate::files::{FileSet, LeftOut, Named, load, push_paths, read_whole, real_path};
+use crate::files::{FileSink, LeftOut, Named, load, push_paths, read_whole, real_path};
 use crate::options::is_path;
 use crate::problem::Problem;
 use crate::say::{say, say_of};
@@ -24,9 +24,9 @@ pub fn paths<R: AllocGlobal + Files + Env>(
     }
     let named = matches.get_strs("file").unwrap_or(&[]);
     let paths = if named.is_empty() && bare.is_empty() && own.is_empty() {
-        listed(rt)?
+        configured_paths(rt)?
     } else {
-        joined(rt.alloc(), named, bare, own)?
+        join_paths(rt.alloc(), named, bare, own)?
     };
     if paths.is_empty() {
         return Err(Problem::Files);
@@ -34,7 +34,7 @@ pub fn paths<R: AllocGlobal + Files + Env>(
     Ok(paths)
 }
 
-fn joined(
+fn join_paths(
     alloc: Global,
     named: &[&str],
     bare: &[&str],
@@ -55,7 +55,7 @@ fn push_each(alloc: Global, paths: &mut Vec<String>, part: &[&str]) -> Result<()
 }
 
 // The paths of `ORGQ_FILES`, else of the configuration folder's list.
-fn listed<R: AllocGlobal + Files + Env>(rt: &R) -> Result<Vec<String>, Problem> {
+fn configured_paths<R: AllocGlobal + Files + Env>(rt: &R) -> Result<Vec<String>, Problem> {
     match value_of(rt, Variable::Files)? {
         Some(paths) => Ok(split(rt.alloc(), paths.as_str(), ':', "")?),
         None => in_list(rt),
@@ -140,7 +140,7 @@ struct Missing {
 }
 
 /// Loads the files that paths stand for, each once; says which can't be loaded, and gives whether there are such.
-pub fn load_all<R: AllocGlobal + Files + Eprint + Clone + Drop, S: FileSet>(
+pub fn load_all<R: AllocGlobal + Files + Eprint + Clone + Drop, S: FileSink>(
     rt: &R,
     set: &mut S,
     paths: &[String],
@@ -162,7 +162,7 @@ pub fn load_all<R: AllocGlobal + Files + Eprint + Clone + Drop, S: FileSet>(
 }
 
 // Loads the files that a path stands for.
-fn load_path<R: AllocGlobal + Files + Eprint + Clone + Drop, S: FileSet>(
+fn load_path<R: AllocGlobal + Files + Eprint + Clone + Drop, S: FileSink>(
     rt: &R,
     set: &mut S,
     path: &str,
@@ -186,7 +186,7 @@ fn load_path<R: AllocGlobal + Files + Eprint + Clone + Drop, S: FileSet>(
 }
 
 // Loads a file, unless it is there.
-fn load_file<R: AllocGlobal + Files + Eprint, S: FileSet>(
+fn load_file<R: AllocGlobal + Files + Eprint, S: FileSink>(
     rt: &R,
     set: &mut S,
     name: &str,

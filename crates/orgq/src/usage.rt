@@ -2,7 +2,7 @@
 
 use crate::arguments::command;
 use crate::exit::{BAD_ARGUMENTS, STOPPED};
-use crate::say::{out_of_memory, say, say_lines, seen};
+use crate::say::{out_of_memory, say, say_lines, visible_text};
 use clap::Error;
 use clap::error::ErrorKind;
 use std::alloc::Global;
@@ -20,13 +20,13 @@ pub fn parser_said<R: AllocGlobal + Print + Eprint>(rt: &R, words: &[String], er
         };
     }
     match said_of(rt.alloc(), words) {
-        Some(text) => refused(rt, words, text.as_str()),
+        Some(text) => report_refusal(rt, words, text.as_str()),
         None => out_of_memory(rt),
     }
 }
 
 // Says why words are refused; a word with a minus in front may be meant as an expression.
-fn refused<R: AllocGlobal + Eprint>(rt: &R, words: &[String], text: &str) -> u8 {
+fn report_refusal<R: AllocGlobal + Eprint>(rt: &R, words: &[String], text: &str) -> u8 {
     say_lines(rt, text);
     if words.iter().any(|word| word.as_str() == "match") {
         say(rt, MINUS);
@@ -50,7 +50,7 @@ fn said_of(alloc: Global, words: &[String]) -> Option<String> {
 fn all_seen(alloc: Global, words: &[String]) -> Option<Vec<String>> {
     let mut all = Vec::new(alloc);
     for word in words {
-        all.push(seen(alloc, word.as_str())?).ok()?;
+        all.push(visible_text(alloc, word.as_str())?).ok()?;
     }
     Some(all)
 }

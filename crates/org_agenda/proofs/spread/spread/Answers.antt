@@ -7,6 +7,6 @@ loop-place-preserved c =
     let inv = c.loop-place.invariant in
     let e = c.in_ok-give.ensures in
     record {
-      spread = spread_more c.args.standpoint.now c.args.sources.now c.args.first c.loop-place.place _ _ (omega arith) e.count inv.spread e.ok;
+      spread = spread_more c.args.as_of.now c.args.sources.now c.args.first c.loop-place.place _ _ (omega arith) e.count inv.spread e.ok;
       count = e.count ∙ inv.count;
     }

@@ -1,4 +1,4 @@
--- One place more, and the next closing bracket from behind it on.
+-- One place more, and the next closing bracket from after it on.
 use Rattle.std.proofs.Common.{arith}
 use Rattle.org_stamp.proofs.LineLemmas.{close_later}
 use Rattle.org_check.specs.Said.{said}

@@ -1,4 +1,4 @@
--- Without a setting line nothing is put behind the texts.
+-- Without a setting line nothing is put after the texts.
 use Rattle.std.proofs.Common.{◌≡◌, ◌∙◌, ◌++◌, false, ap, sym, append-nil}
 use Rattle.std.specs.List.{list_any}
 use Rattle.org_lines.specs.Cuts.{lines}

@@ -6,14 +6,14 @@ use Rattle.org_class.specs.Sections.{sections}
 use Rattle.org_class.proofs.SettingLemmas.{one_counted}
 use Rattle.org_class.proofs.read.read_settings.Goals as goal
 
-pub returns-in_err-classes-clause-few : goal.returns-in_err-classes-clause-few
-returns-in_err-classes-clause-few g c =
+pub returns-in_err-classes-clause-partial : goal.returns-in_err-classes-clause-partial
+returns-in_err-classes-clause-partial g c =
     let t = g.T.Text.content c.args.text.now in
     let count = length-map c.in_ok-spans.spans (bytes_in t) in
     one_counted c.from_residual-in_err-classes.result (sections t) c.loop-span.span-index _ _ _ (omega (arith, ap length c.as_slice-span-items.ensures.value, ap length c.in_ok-spans.ensures.bytes, count)) c.classify.ensures.counts c.loop-span.invariant.counts
 
-pub returns-in_err-push_setting_lines-clause-few : goal.returns-in_err-push_setting_lines-clause-few
-returns-in_err-push_setting_lines-clause-few g c =
+pub returns-in_err-push_setting_lines-clause-partial : goal.returns-in_err-push_setting_lines-clause-partial
+returns-in_err-push_setting_lines-clause-partial g c =
     let t = g.T.Text.content c.args.text.now in
     let count = length-map c.in_ok-spans.spans (bytes_in t) in
     one_counted c.from_residual-in_err-push_setting_lines.result (sections t) c.loop-span.span-index _ _ _ (omega (arith, ap length c.as_slice-span-items.ensures.value, ap length c.in_ok-spans.ensures.bytes, count)) c.classify.ensures.counts c.loop-span.invariant.counts

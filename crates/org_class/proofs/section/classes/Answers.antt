@@ -12,7 +12,7 @@ overflow_add-rest g c =
     let step = rw c.in_ok-line.was at c.in-Some.ensures.steps in
     let known = c.loop-line.invariant in
     let p = passed (g.T.Text.content c.args.text.now) c.loop-line.rest _ _ step.0 c.in_ok-line.line.span.len (omega (arith, known.to_the_end, c.requires.within)) known.left step.1 step.2.len in
-    omega (arith, p.within, known.to_the_end, c.requires.within, c.len-len.ensures.small)
+    omega (arith, p.within, known.to_the_end, c.requires.within, c.len-len.ensures.fits)
 
 pub overflow_sub-rest : goal.overflow_sub-rest
 overflow_sub-rest g c =

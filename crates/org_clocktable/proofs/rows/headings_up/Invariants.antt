@@ -6,7 +6,7 @@ use Rattle.org_clocktable.proofs.rows.headings_up.Given as goal
 
 abbrev pub invariant-loop-place : goal.invariant-loop-place
 invariant-loop-place l = record {
-  rows : reverse l.rows.items ≡ rows_from l.marks.days l.most l.file.place l.file.counted.now l.below (drop l.below l.file.counted.now.entries);
+  rows : reverse l.rows.items ≡ rows_from l.running.days l.most l.file.place l.file.counted.now l.below (drop l.below l.file.counted.now.entries);
   stop : IsHeadingOrEnd l.file.counted.now.entries l.below;
 }
 

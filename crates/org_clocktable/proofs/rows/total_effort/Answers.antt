@@ -4,7 +4,7 @@ use Rattle.org_clocktable.proofs.TableLemmas.{total_more}
 use Rattle.org_clocktable.proofs.rows.total_effort.Goals as goal
 
 pub overflow_add-sum : goal.overflow_add-sum
-overflow_add-sum c = omega (arith, c.effort-effort.ensures.below, c.loop-file.invariant.small, c.loop-file-test.true, c.requires.few)
+overflow_add-sum c = omega (arith, c.effort-effort.ensures.below, c.loop-file.invariant.small, c.loop-file-test.true, c.requires.at_most)
 
 pub loop-file-preserved : goal.loop-file-preserved
 loop-file-preserved c = record {

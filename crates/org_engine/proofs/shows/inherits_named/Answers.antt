@@ -1,6 +1,6 @@
 use Rattle.std.proofs.Common.{◌≡◌, ◌∙◌, ◌<◌, ◌≤◌, ◌++◌, ◌∷◌, [], ap, arith, false, length, subst, sym, true}
 use Rattle.std.specs.Option.{option_map}
-use Rattle.org_kept.specs.Outline.{outline_of, scope_in, scope_of}
+use Rattle.org_store.specs.Outline.{outline_of, scope_in, scope_of}
 use Rattle.org_text.specs.Replace.{max_bytes}
 use Rattle.org_engine.specs.Views.{is_wanted}
 use Rattle.org_engine.specs.World.{FileView}
@@ -36,7 +36,7 @@ loop-place-preserved g c =
     let file : FileView = found.0 in
     let both = c.file.ensures.value file found.1 in
     let outline = made_of (λ (f : FileView). outline_of f.text) files c.args.outlines.now place file c.index-outlines-place.result c.requires.read found.1 c.index-outlines-place.is in
-    let is : c.in_ok-inherit.inherit ≡ scope file = c.in_ok-inherit.ensures.value ∙ (λ i. scope_in (outline i) (both.0 i) (c.inherited.ensures.value i)) in
+    let is : c.in_ok-inherit.inherit ≡ scope file = c.in_ok-inherit.ensures.value ∙ (λ i. scope_in (outline i) (both.0 i) (c.inherited_names.ensures.value i)) in
     let wanted = option_map (λ name. name.now) c.args.file in
     let wants : is_wanted wanted file.name ≡ true = ap (is_wanted wanted) (sym both.0) ∙ sym c.is_wanted.ensures.value ∙ c.if-not-is_wanted.false in
     record {
@@ -58,5 +58,5 @@ returns-clause-read g c =
     let all : length files ≤ c.loop-place.place = omega (arith, c.loop-place-test.false, c.count-place-end.ensures.value) in
     named_read (option_map (λ name. name.now) c.args.file) world c.loop-place.inherits
     (λ i file there. c.loop-place.invariant.short i file (omega (arith, there_within files i file there, all)) there)
-    (omega (arith, c.count-place-end.ensures.few, c.count-place-end.ensures.value))
+    (omega (arith, c.count-place-end.ensures.at_most, c.count-place-end.ensures.value))
     (returns-clause-value g c)

@@ -2,7 +2,7 @@
 use Rattle.std.proofs.Common.{◌≡◌, ◌++◌, ◌<◌, ◌≤◌, ℕ, drop, length, map}
 use Rattle.std.specs.Prelude.{Some, slice_get}
 use Rattle.std.specs.Option.{option_map}
-use Rattle.org_kept.specs.Outline.{scope_of}
+use Rattle.org_store.specs.Outline.{scope_of}
 use Rattle.org_text.specs.Replace.{max_bytes}
 use Rattle.org_engine.specs.Outlines.{scopes_of}
 use Rattle.org_engine.specs.Views.{scopes_named}

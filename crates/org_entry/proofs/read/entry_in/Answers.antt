@@ -1,6 +1,6 @@
 -- At first all lines are left, and at the end none.
 use Rattle.std.proofs.Common.{◌≡◌, ◌∙◌, ◌+◌, length, drop, ap, sym, subst, arith}
-use Rattle.org_entry.specs.Draft.{ended}
+use Rattle.org_entry.specs.Draft.{into_entry}
 use Rattle.std.specs.Prelude.{IfOk}
 use Rattle.org_base.specs.Spans.{bytes_in}
 use Rattle.org_entry.specs.Entry.{placed, entry_of_lines}
@@ -31,12 +31,12 @@ returns-clause-value g c =
     let settings = c.args.settings.now in
     let every = placed 0 (lines part) c.args.classes.now in
     let known = c.loop-line.invariant in
-    let read : ended c.loop-line.draft ≡ entry_of_lines settings every = elim c.match-next.branch [
+    let read : into_entry c.loop-line.draft ≡ entry_of_lines settings every = elim c.match-next.branch [
       | in-None w ↦ none_left settings c.loop-line.draft c.loop-line.at c.loop-line.line-iterator _ every w.in-None.ensures.steps.0 known.all
       | in-Some+then-place-spoken+then-not-may_close w ↦ quiet_left settings c.loop-line.draft c.loop-line.at c.loop-line.line-iterator c.args.classes.now c.loop-line.place c.quiet_lines.result part every c.quiet_lines.ensures.value w.if-place-spoken.true (w.may_close.ensures.none w.if-not-may_close.true) known.left known.all
     ] in
     let all = c.requires.belongs in
-    subst (λ e. IfOk c.ended.result (λ entry. entry ≡ e)) (read ∙ ap (λ cs. entry_of_lines settings (placed 0 (lines part) cs)) all) c.ended.ensures.value
+    subst (λ e. IfOk c.into_entry.result (λ entry. entry ≡ e)) (read ∙ ap (λ cs. entry_of_lines settings (placed 0 (lines part) cs)) all) c.into_entry.ensures.value
 
 pub loop-line-preserved-in_ok-add : goal.loop-line-preserved-in_ok-add
 loop-line-preserved-in_ok-add g c =

@@ -15,7 +15,7 @@ overflow_add-n c =
 pub loop-place-preserved : goal.loop-place-preserved
 loop-place-preserved c =
     let inv = c.loop-place.invariant in
-    let small = rw c.front_value.ensures.value at c.front_value.ensures.small in
+    let small = rw c.front_value.ensures.value at c.front_value.ensures.fits in
     let s = decimal_step c.loop-place.n (9 - (c.loop-place.place + 1)) (9 - c.loop-place.place) c.loop-place.rest.now _ (10 ^ 27) (omega arith) small inv.bound inv.told in
     record {
       bound = rw c.front_value.ensures.value s.0;

@@ -4,7 +4,7 @@ use Rattle.org_expression.proofs.Digits.{whole_step, now_fits, room}
 use Rattle.org_expression.proofs.decimal.read_whole.Goals as goal
 
 pub loop-digit-init : goal.loop-digit-init
-loop-digit-init c = record { digits = c.requires.digits; bound = room _ c.requires.room; told = refl }
+loop-digit-init c = record { digits = c.requires.digits; bound = room _ c.requires.has_room; told = refl }
 
 pub overflow_mul-n : goal.overflow_mul-n
 overflow_mul-n c =

@@ -6,7 +6,7 @@ use Rattle.org_expression.proofs.times.day_moved.Goals as goal
 
 pub returns-then-is_back : goal.returns-then-is_back
 returns-then-is_back c =
-    let few : c.args.n < 10 ^ 18 = c.requires.few in
+    let few : c.args.n < 10 ^ 18 = c.requires.at_most in
     let same : to_z w64 c.args.n ≡ pos c.args.n = omega (arith, signed_casts) in
     let fits : FitsSigned w64 (pos 0 -ℤ to_z w64 c.args.n) = omega (arith, signed_casts) in
     let less : to_z w64 (of_z w64 (pos 0 -ℤ to_z w64 c.args.n)) ≡ pos 0 -ℤ to_z w64 c.args.n = to_z-of_z w64 _ fits in
@@ -15,6 +15,6 @@ returns-then-is_back c =
 
 pub returns : goal.returns
 returns c =
-    let few : c.args.n < 10 ^ 18 = c.requires.few in
+    let few : c.args.n < 10 ^ 18 = c.requires.at_most in
     let same : to_z w64 c.args.n ≡ pos c.args.n = omega (arith, signed_casts) in
     record { value = rw c.if-is_back.false (moved_is false c.args.n c.args.unit c.args.day _ c.add_units-2.result (omega (arith, c.number-number.ensures), omega (arith, c.number-number.ensures)) same c.add_units-2.ensures.some c.add_units-2.ensures.only) }

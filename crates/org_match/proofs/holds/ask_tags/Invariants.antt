@@ -1,5 +1,5 @@
 use Rattle.std.proofs.Common.{◌≡◌, drop, map}
-use Rattle.org_match.specs.Verdicts.{ask_tags}
+use Rattle.org_match.specs.TagMatches.{ask_tags}
 use Rattle.org_match.specs.Built.{built_item_of}
 use Rattle.org_match.proofs.holds.ask_tags.Given as goal
 

@@ -1,4 +1,4 @@
--- The first bar is here, or behind this word.
+-- The first bar is here, or after this word.
 use Rattle.std.proofs.Common.{get_or, drop, ◌+◌, ap, sym, ◌∙◌, []}
 use Rattle.std.specs.Borrow.{Bor}
 use Rattle.org_settings.specs.Keywords.{bar_place}

@@ -11,7 +11,7 @@ overflow_add-sum c =
     let i = c.loop-clock.clock-index in
     let item = c.clock-item.result in
     let same : c.minutes_in-sum.result ≡ f (get_or clocks i item) = c.minutes_in-sum.ensures.value ∙ ap f c.clock-item.is in
-    omega (arith, same, c.loop-clock.invariant, sum_by_more f clocks i item c.loop-clock-test.true, sum_by-take-le f clocks (i + 1), c.requires.small)
+    omega (arith, same, c.loop-clock.invariant, sum_by_more f clocks i item c.loop-clock-test.true, sum_by-take-le f clocks (i + 1), c.requires.fits)
 
 pub loop-clock-preserved : goal.loop-clock-preserved
 loop-clock-preserved c =

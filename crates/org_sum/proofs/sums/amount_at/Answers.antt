@@ -8,7 +8,7 @@ own_amount-requires c =
     let f = amount c.args.measure.now in
     let most = entry_total f c.args.outline.now c.args.place c.entry.result.now c.requires.within in
     let same : f c.entry.result.now ≡ f (get_or c.args.outline.now c.args.place c.entry.result.now) = ap f c.entry.ensures.value in
-    omega (arith, most, same, c.requires.small)
+    omega (arith, most, same, c.requires.fits)
 
 pub returns : goal.returns
 returns c =

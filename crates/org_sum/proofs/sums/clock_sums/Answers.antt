@@ -3,5 +3,5 @@ use Rattle.org_sum.proofs.TextLemmas.{text_small}
 use Rattle.org_sum.specs.declared.measure.Measure.TheVariants.{Clocks}
 use Rattle.org_sum.proofs.sums.clock_sums.Goals as goal
 
-pub subtree_sums-requires-clause-small : goal.subtree_sums-requires-clause-small
-subtree_sums-requires-clause-small c = omega (arith, text_small (Clocks c.args.period) c.args.outline.now c.is_of_calendar.ensures.within c.requires.text)
+pub subtree_sums-requires-clause-fits : goal.subtree_sums-requires-clause-fits
+subtree_sums-requires-clause-fits c = omega (arith, text_small (Clocks c.args.period) c.args.outline.now c.is_of_calendar.ensures.within c.requires.text)

@@ -8,7 +8,7 @@ use Rattle.org_sum.proofs.sums.sums_before.Goals as goal
 pub overflow_add-sum : goal.overflow_add-sum
 overflow_add-sum c =
     let t = own_total (amount c.args.measure.now) c.args.outline.now c.args.counted.now (suc c.loop-i.i) in
-    omega (arith, c.amount_at-sum.ensures.value, t, c.loop-i.invariant.sum, c.requires.small)
+    omega (arith, c.amount_at-sum.ensures.value, t, c.loop-i.invariant.sum, c.requires.fits)
 
 pub loop-i-preserved : goal.loop-i-preserved
 loop-i-preserved c =

@@ -1,4 +1,4 @@
-use Rattle.org_wire.proofs.ToldLemmas.{framed_streams}
+use Rattle.org_wire.proofs.SerialReplyLemmas.{framed_streams}
 use Rattle.org_wire.proofs.laws.streams_are_framed.Goals as goal
 
 pub returns : goal.returns

@@ -7,14 +7,14 @@ use Rattle.org_wire.proofs.serve.serve.Goals as goal
 
 pub returns-in-Add : goal.returns-in-Add
 returns-in-Add g c = record {
-  value = rw (c.in-Add.is, c.told.ensures.value) (tells _ _ _ _ _ (λ r. refl) (ap (λ name. step.AddFile name c.in-Add.text) c.as_str.ensures.value) _ c.add_bytes.ensures.ok c.add_bytes.ensures.err tt);
-  counts = rw c.in-Add.is (classifies_added c.in-Add.text _ _ c.add_bytes.result c.add_bytes.ensures.marks c.add_bytes.ensures.few);
+  value = rw (c.in-Add.is, c.serial_reply.ensures.value) (tells _ _ _ _ _ (λ r. refl) (ap (λ name. step.AddFile name c.in-Add.text) c.as_str.ensures.value) _ c.add_bytes.ensures.ok c.add_bytes.ensures.err tt);
+  counts = rw c.in-Add.is (classifies_added c.in-Add.text _ _ c.add_bytes.result c.add_bytes.ensures.marks c.add_bytes.ensures.partial);
 }
 
 pub returns-in-Drop : goal.returns-in-Drop
 returns-in-Drop g c = record {
-  value = rw (c.in-Drop.is, c.told-in-Drop.ensures.value) (tells_surely _ _ _ _ _ (λ r. refl) (ap step.DropFile c.as_str-in-Drop.ensures.value) _ c.drop_file.ensures.ok c.drop_file.ensures.err tt);
-  counts = rw c.in-Drop.is (counts_none _ c.args.engine.now c.drop_file.new.self c.drop_file.result c.drop_file.ensures.marks c.drop_file.ensures.quiet);
+  value = rw (c.in-Drop.is, c.serial_reply-in-Drop.ensures.value) (tells_surely _ _ _ _ _ (λ r. refl) (ap step.DropFile c.as_str-in-Drop.ensures.value) _ c.drop_file.ensures.ok c.drop_file.ensures.err tt);
+  counts = rw c.in-Drop.is (counts_none _ c.args.engine.now c.drop_file.new.self c.drop_file.result c.drop_file.ensures.marks c.drop_file.ensures.uncounted);
 }
 
 pub returns-in-Edit : goal.returns-in-Edit
@@ -32,7 +32,7 @@ returns-in-Complete g c = record {
 pub returns-in-Inherit : goal.returns-in-Inherit
 returns-in-Inherit g c = record {
   value = rw c.in-Inherit.is (serves _ _ _ _ _ (step.Serial c.set_inherit.result) _ refl refl (λ e. cc) c.set_inherit.ensures.value);
-  counts = rw c.in-Inherit.is c.set_inherit.ensures.quiet.1;
+  counts = rw c.in-Inherit.is c.set_inherit.ensures.uncounted.1;
 }
 
 pub returns-in-At : goal.returns-in-At
@@ -43,20 +43,20 @@ returns-in-At g c = record {
 
 pub returns-in-Profile : goal.returns-in-Profile
 returns-in-Profile g c = record {
-  value = rw (c.in-Profile.is, c.told-in-Profile.ensures.value) (tells_always _ _ _ _ _ (λ r. refl) refl _ c.set_profile.ensures.ok c.set_profile.ensures.err (profile_never c.in-Profile.profile _));
-  counts = rw c.in-Profile.is c.set_profile.ensures.quiet.1;
+  value = rw (c.in-Profile.is, c.serial_reply-in-Profile.ensures.value) (tells_always _ _ _ _ _ (λ r. refl) refl _ c.set_profile.ensures.ok c.set_profile.ensures.err (profile_never c.in-Profile.profile _));
+  counts = rw c.in-Profile.is c.set_profile.ensures.uncounted.1;
 }
 
 pub returns-in-Pin : goal.returns-in-Pin
 returns-in-Pin g c = record {
-  value = rw (c.in-Pin.is, c.told-in-Pin.ensures.value) (tells _ _ _ _ _ (λ r. refl) refl _ c.pin.ensures.ok c.pin.ensures.err tt);
-  counts = rw c.in-Pin.is (counts_none _ c.args.engine.now c.pin.new.self c.pin.result c.pin.ensures.marks c.pin.ensures.quiet);
+  value = rw (c.in-Pin.is, c.serial_reply-in-Pin.ensures.value) (tells _ _ _ _ _ (λ r. refl) refl _ c.pin.ensures.ok c.pin.ensures.err tt);
+  counts = rw c.in-Pin.is (counts_none _ c.args.engine.now c.pin.new.self c.pin.result c.pin.ensures.marks c.pin.ensures.uncounted);
 }
 
 pub returns-in-Unpin : goal.returns-in-Unpin
 returns-in-Unpin g c = record {
-  value = rw (c.in-Unpin.is, c.told-in-Unpin.ensures.value) (tells_always _ _ _ _ _ (λ r. refl) refl _ c.unpin.ensures.ok c.unpin.ensures.err (unpin_never c.in-Unpin.session _));
-  counts = rw c.in-Unpin.is (counts_none _ c.args.engine.now c.unpin.new.self c.unpin.result c.unpin.ensures.marks c.unpin.ensures.quiet);
+  value = rw (c.in-Unpin.is, c.serial_reply-in-Unpin.ensures.value) (tells_always _ _ _ _ _ (λ r. refl) refl _ c.unpin.ensures.ok c.unpin.ensures.err (unpin_never c.in-Unpin.session _));
+  counts = rw c.in-Unpin.is (counts_none _ c.args.engine.now c.unpin.new.self c.unpin.result c.unpin.ensures.marks c.unpin.ensures.uncounted);
 }
 
 pub returns-in-Text : goal.returns-in-Text

@@ -1,6 +1,6 @@
--- A line without control characters and its feed stand behind clean lines.
+-- A line without control characters and its feed stand after clean lines.
 use Rattle.std.proofs.Common.{◌≡◌, ◌++◌, ◌∷◌, ◌∙◌, [], List, ℕ, ap, append_assoc, rules, subst}
-use Rattle.org_rows.specs.Clean.{IsClean}
+use Rattle.org_client.specs.Clean.{IsClean}
 use Rattle.orgq.proofs.ShownLemmas.{keeps_row}
 use Rattle.orgq.proofs.show.push_whole.Goals as goal
 

@@ -1,7 +1,7 @@
 use Rattle.std.proofs.Common.{◌≡◌, refl}
 use Rattle.std.specs.Prelude.{Ok}
-use Rattle.org_file.specs.Parts.{Part}
-use Rattle.org_file.specs.Written.{part_of}
+use Rattle.org_complete.specs.Parts.{Part}
+use Rattle.org_complete.specs.Written.{part_of}
 use Rattle.org_engine.specs.Step.{text_seen}
 use Rattle.org_engine.proofs.CompletedLemmas.{completed_few, completed_marks, completed_none, completed_quiet, none_completed}
 use Rattle.org_engine.proofs.MarkLemmas.{on_err, refused_so}
@@ -9,45 +9,45 @@ use Rattle.org_engine.proofs.PassedLemmas.{quiet_passed}
 use Rattle.org_engine.proofs.SureLemmas.{sure_fine, sure_passed}
 use Rattle.org_engine.proofs.engine.Engine.complete_and_tell.Goals as goal
 
-pub returns-in_err-text_seen-clause-few : goal.returns-in_err-text_seen-clause-few
-returns-in_err-text_seen-clause-few g c = on_err c.from_residual.result (none_completed c.args.name.now c.args.line c.args.keyword.now c.args.self.now)
+pub returns-in_err-text_seen-clause-partial : goal.returns-in_err-text_seen-clause-partial
+returns-in_err-text_seen-clause-partial g c = on_err c.from_residual.result (none_completed c.args.name.now c.args.line c.args.keyword.now c.args.self.now)
 
-pub returns-in_err-text-clause-few : goal.returns-in_err-text-clause-few
-returns-in_err-text-clause-few g c =
+pub returns-in_err-text-clause-partial : goal.returns-in_err-text-clause-partial
+returns-in_err-text-clause-partial g c =
     let now = c.self.inside in
-    on_err c.from_residual-in_err-text.result (rw (← c.self.view_is) (completed_none c.args.name.now c.args.line c.args.keyword.now now.world c.completed.new.self now.pins now.serial now.meter c.completed.new.meter c.in_err-text.ensures.read))
+    on_err c.from_residual-in_err-text.result (rw (← c.self.view_is) (completed_none c.args.name.now c.args.line c.args.keyword.now now.world c.complete_heading.new.self now.pins now.serial now.meter c.complete_heading.new.meter c.in_err-text.ensures.read))
 
-pub returns-in_err-text-clause-quiet : goal.returns-in_err-text-clause-quiet
-returns-in_err-text-clause-quiet g c =
+pub returns-in_err-text-clause-uncounted : goal.returns-in_err-text-clause-uncounted
+returns-in_err-text-clause-uncounted g c =
     let now = c.self.inside in
-    refused_so _ c.from_residual-in_err-text.result (rw (← c.self.view_is) (completed_quiet c.args.name.now c.args.line c.args.keyword.now now.world c.completed.new.self now.pins now.serial now.meter c.completed.new.meter c.in_err-text.ensures.read _ (refl, refl)))
+    refused_so _ c.from_residual-in_err-text.result (rw (← c.self.view_is) (completed_quiet c.args.name.now c.args.line c.args.keyword.now now.world c.complete_heading.new.self now.pins now.serial now.meter c.complete_heading.new.meter c.in_err-text.ensures.read _ (refl, refl)))
 
 pub returns-clause-marks : goal.returns-clause-marks
 returns-clause-marks g c =
     let now = c.self.inside in
     let made : ◌≡◌ {A = Part} (record { at = c.in_ok-text.field-0.at; del = c.in_ok-text.field-0.del; ins = c.as_str-part.result.now }) (part_of c.in_ok-text.field-0) = λ i. record { at = c.in_ok-text.field-0.at; del = c.in_ok-text.field-0.del; ins = c.as_str-part.ensures.value i } in
-    rw (← c.self.view_is) (completed_marks c.args.name.now c.args.line c.args.keyword.now now.world c.completed.new.self now.pins now.serial now.meter c.completed.new.meter c.in_ok-text.ensures.read g.T.Text.content c.in_ok-text.field-0 c.in_ok-text.ensures.change (record { at = c.in_ok-text.field-0.at; del = c.in_ok-text.field-0.del; ins = c.as_str-part.result }) made c.put.new.self c.in_ok-serial.ensures.marks)
+    rw (← c.self.view_is) (completed_marks c.args.name.now c.args.line c.args.keyword.now now.world c.complete_heading.new.self now.pins now.serial now.meter c.complete_heading.new.meter c.in_ok-text.ensures.read g.T.Text.content c.in_ok-text.field-0 c.in_ok-text.ensures.change (record { at = c.in_ok-text.field-0.at; del = c.in_ok-text.field-0.del; ins = c.as_str-part.result }) made c.put.new.self c.in_ok-serial.ensures.marks)
 
-pub returns-in_err-serial-clause-few : goal.returns-in_err-serial-clause-few
-returns-in_err-serial-clause-few g c =
+pub returns-in_err-serial-clause-partial : goal.returns-in_err-serial-clause-partial
+returns-in_err-serial-clause-partial g c =
     let now = c.self.inside in
     let made : ◌≡◌ {A = Part} (record { at = c.in_ok-text.field-0.at; del = c.in_ok-text.field-0.del; ins = c.as_str-part.result.now }) (part_of c.in_ok-text.field-0) = λ i. record { at = c.in_ok-text.field-0.at; del = c.in_ok-text.field-0.del; ins = c.as_str-part.ensures.value i } in
-    on_err c.from_residual-in_err-serial.result (rw (← c.self.view_is) (completed_few c.args.name.now c.args.line c.args.keyword.now now.world c.completed.new.self now.pins now.serial now.meter c.completed.new.meter c.in_ok-text.ensures.read g.T.Text.content c.in_ok-text.field-0 c.in_ok-text.ensures.change (record { at = c.in_ok-text.field-0.at; del = c.in_ok-text.field-0.del; ins = c.as_str-part.result }) made c.put.new.self c.in_err-serial.ensures.few))
+    on_err c.from_residual-in_err-serial.result (rw (← c.self.view_is) (completed_few c.args.name.now c.args.line c.args.keyword.now now.world c.complete_heading.new.self now.pins now.serial now.meter c.complete_heading.new.meter c.in_ok-text.ensures.read g.T.Text.content c.in_ok-text.field-0 c.in_ok-text.ensures.change (record { at = c.in_ok-text.field-0.at; del = c.in_ok-text.field-0.del; ins = c.as_str-part.result }) made c.put.new.self c.in_err-serial.ensures.partial))
 
-pub returns-in_err-serial-clause-sure : goal.returns-in_err-serial-clause-sure
-returns-in_err-serial-clause-sure g c =
+pub returns-in_err-serial-clause-definite : goal.returns-in_err-serial-clause-definite
+returns-in_err-serial-clause-definite g c =
     let h : text_seen c.args.session c.args.name.now c.args.serial c.self.inside.world.world.files ≡ Ok (g.T.Text.content c.in_ok-text_seen.field-0.now) = c.in_ok-text_seen.ensures.ok in
     rw (← c.self.view_is) (sure_fine c.from_residual-in_err-serial.result _ _ h)
 
-pub returns-in_err-text_seen-clause-sure : goal.returns-in_err-text_seen-clause-sure
-returns-in_err-text_seen-clause-sure g c = sure_passed c.from_residual.result _ c.in_err-text_seen.field-0.0 c.from_residual.ensures.1 (rw (← c.self.view_is) c.in_err-text_seen.ensures.err)
+pub returns-in_err-text_seen-clause-definite : goal.returns-in_err-text_seen-clause-definite
+returns-in_err-text_seen-clause-definite g c = sure_passed c.from_residual.result _ c.in_err-text_seen.field-0.0 c.from_residual.ensures.1 (rw (← c.self.view_is) c.in_err-text_seen.ensures.err)
 
-pub returns-in_err-text-clause-sure : goal.returns-in_err-text-clause-sure
-returns-in_err-text-clause-sure g c =
+pub returns-in_err-text-clause-definite : goal.returns-in_err-text-clause-definite
+returns-in_err-text-clause-definite g c =
     let h : text_seen c.args.session c.args.name.now c.args.serial c.self.inside.world.world.files ≡ Ok (g.T.Text.content c.in_ok-text_seen.field-0.now) = c.in_ok-text_seen.ensures.ok in
     rw (← c.self.view_is) (sure_fine c.from_residual-in_err-text.result _ _ h)
 
-pub returns-in_err-serial-clause-quiet : goal.returns-in_err-serial-clause-quiet
-returns-in_err-serial-clause-quiet g c =
+pub returns-in_err-serial-clause-uncounted : goal.returns-in_err-serial-clause-uncounted
+returns-in_err-serial-clause-uncounted g c =
     let now = c.self.inside in
-    rw (← c.self.view_is) (quiet_passed _ _ c.from_residual-in_err-serial.result c.in_err-serial.field-0.0 c.from_residual-in_err-serial.ensures.1 c.in_err-serial.ensures.quiet (λ quiet. completed_quiet c.args.name.now c.args.line c.args.keyword.now now.world c.completed.new.self now.pins now.serial now.meter c.completed.new.meter c.in_ok-text.ensures.read c.put.new.self quiet))
+    rw (← c.self.view_is) (quiet_passed _ _ c.from_residual-in_err-serial.result c.in_err-serial.field-0.0 c.from_residual-in_err-serial.ensures.1 c.in_err-serial.ensures.uncounted (λ quiet. completed_quiet c.args.name.now c.args.line c.args.keyword.now now.world c.complete_heading.new.self now.pins now.serial now.meter c.complete_heading.new.meter c.in_ok-text.ensures.read c.put.new.self quiet))

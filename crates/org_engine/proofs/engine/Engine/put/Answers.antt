@@ -1,7 +1,7 @@
 use Rattle.std.proofs.Common.{◌≡◌, ◌∙◌, ◌+◌, List, ℕ, ap, false, sym}
 use Rattle.std.specs.Prelude.{nat_le}
-use Rattle.org_kept.specs.Change.{edited}
-use Rattle.org_kept.specs.File.{FileView as KeptFile}
+use Rattle.org_store.specs.Change.{edited}
+use Rattle.org_store.specs.File.{FileView as KeptFile}
 use Rattle.org_engine.specs.Calls.{IsChangeIn}
 use Rattle.org_engine.specs.Step.{last_serial, Serial, with_text}
 use Rattle.org_engine.specs.World.{KeptWorld}

@@ -1,7 +1,7 @@
 use Rattle.std.proofs.Common.{◌∙◌, ap, arith, subst, sym, true≢false}
 use Rattle.std.specs.Prelude.{Some, is_some}
 use Rattle.indexmap.specs.Layout.{length-set_value_at}
-use Rattle.org_kept.specs.Change.{LiesIn, edited}
+use Rattle.org_store.specs.Change.{LiesIn, edited}
 use Rattle.org_engine.specs.Calls.{IsChangeIn}
 use Rattle.org_engine.specs.Files.{files_of, marks_of}
 use Rattle.org_engine.proofs.FilesLemmas.{files_of-set, is_some-file_named, kept_at, kept_text, made_new, marks_of-set, placed}
@@ -75,8 +75,8 @@ returns-clause-counts g c =
     let own = made_new name change (files_of entries) (marks_of entries) _ is.file kept is.found in
     where_ok c.set_text.result (λ counts. rw (← c.self.view_is, own) counts) c.set_text.ensures.counts
 
-pub returns-clause-few : goal.returns-clause-few
-returns-clause-few g c =
+pub returns-clause-partial : goal.returns-clause-partial
+returns-clause-partial g c =
     let entries = c.self.inside.files.entries in
     let name = c.args.name.now in
     let change = c.args.change in
@@ -84,4 +84,4 @@ returns-clause-few g c =
     let key = placed _ _ _ (sym c.in-Some.ensures.index) in
     let kept = kept_at name entries c.in-Some.place _ key c.in-Some.ensures.within c.index_mut-file.ensures.value in
     let own = made_new name change (files_of entries) (marks_of entries) _ is.file kept is.found in
-    where_err c.set_text.result (λ few. rw (← c.self.view_is, own) few) c.set_text.ensures.few
+    where_err c.set_text.result (λ few. rw (← c.self.view_is, own) few) c.set_text.ensures.partial

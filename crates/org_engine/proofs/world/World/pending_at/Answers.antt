@@ -1,5 +1,5 @@
 use Rattle.std.proofs.Common.{◌<◌, ◌∙◌, ap, arith, length}
-use Rattle.org_kept.specs.File.{unread}
+use Rattle.org_store.specs.File.{unread}
 use Rattle.org_engine.specs.Files.{files_of}
 use Rattle.org_engine.proofs.FilesLemmas.{length-files_of}
 use Rattle.org_engine.proofs.MarkLemmas.{marks_there}

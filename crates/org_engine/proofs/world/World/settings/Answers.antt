@@ -1,7 +1,7 @@
 use Rattle.std.proofs.Common.{sym, ap, ◌∙◌}
 use Rattle.std.specs.Option.{option_map}
-use Rattle.org_kept.specs.File.{FileView as KeptFile}
-use Rattle.org_kept.specs.Outline.{file_settings}
+use Rattle.org_store.specs.File.{FileView as KeptFile}
+use Rattle.org_store.specs.Outline.{file_settings}
 use Rattle.org_engine.proofs.KeywordLemmas.{settings-file_named}
 use Rattle.org_engine.proofs.world.World.settings.Goals as goal
 

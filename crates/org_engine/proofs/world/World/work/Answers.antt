@@ -3,7 +3,7 @@ use Rattle.std.specs.Prelude.{Some, nat_lt}
 use Rattle.std.proofs.lemmas.Bool.{lt-ltb}
 use Rattle.indexmap.specs.Layout.{length-set_value_at}
 use Rattle.org_base.specs.Results.{Gives}
-use Rattle.org_kept.specs.File.{FileView as KeptFile, unread}
+use Rattle.org_store.specs.File.{FileView as KeptFile, unread}
 use Rattle.org_engine.specs.Files.{files_of, marks_of}
 use Rattle.org_engine.specs.Marks.{IsFirstPending, pending_at, pending_in}
 use Rattle.org_engine.proofs.FilesLemmas.{length-marks_of}
@@ -68,4 +68,4 @@ returns-clause-err g c =
     rw (← c.self.view_is) (λ i. record {
       world = record { files = files_of (same i); moment = c.self.inside.moment; inherited = c.self.inside.inherited; profile = c.self.inside.profile };
       marks = marks_of (same i);
-    })) c.work.ensures.err) c.work.ensures.few
+    })) c.work.ensures.err) c.work.ensures.partial

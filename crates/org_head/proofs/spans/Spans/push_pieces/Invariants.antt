@@ -1,4 +1,4 @@
--- The parts so far, and those that are left behind the open one, are all.
+-- The parts so far, and those that are left after the open one, are all.
 use Rattle.std.proofs.Common.{◌≡◌, ◌≤◌, ◌++◌}
 use Rattle.org_head.specs.Tags.{spans_from}
 use Rattle.org_head.proofs.SpanLemmas.{spans_left}

@@ -1,5 +1,5 @@
 use Rattle.std.proofs.Common.{◌≡◌, ap, false, sym}
-use Rattle.org_match.specs.Verdicts.{asks_tags, item_asks_tags}
+use Rattle.org_match.specs.TagMatches.{asks_tags, item_asks_tags}
 use Rattle.org_match.specs.Built.{built_item_of, built_term_of}
 use Rattle.org_match.specs.declared.built.BuiltTerm.{BuiltTerm}
 use Rattle.org_match.proofs.Untagged.{unmet}

@@ -8,5 +8,5 @@ use Rattle.org_near.proofs.stamps.DatedStampsStamps.near.Given as goal
 abbrev pub invariant-loop-file : goal.invariant-loop-file
 invariant-loop-file l = record {
   found : l.near.found.items ++ asked_of l.asked (sources_of l.file (drop l.file l.self.inherits.now)) ≡ asked_of l.asked (sources_of 0 l.self.inherits.now);
-  counts : l.meter ≡ examined (near_in_all l.standpoint l.fn.from l.fn.to (take l.file l.self.files.now)) l.fn.meter;
+  counts : l.meter ≡ examined (near_in_all l.as_of l.fn.from l.fn.to (take l.file l.self.files.now)) l.fn.meter;
 }

@@ -4,4 +4,4 @@ use Rattle.org_settings.proofs.keywords.Keywords.count.Goals as goal
 
 pub returns : goal.returns
 returns c =
-    record { value = c.count.ensures.value ∙ sym (as_many_shown c.self.inside.words c.self.inside.standings.items c.self.invariant) ∙ ap length c.self.view_is }
+    record { value = c.count.ensures.value ∙ sym (as_many_shown c.self.inside.words c.self.inside.kinds.items c.self.invariant) ∙ ap length c.self.view_is }

@@ -10,7 +10,7 @@ returns-then-place-count c =
     let i = c.args.place in
     record {
       value = sym (get_or_from_slice_get ws i c.get.result.now [] c.get.ensures.value)
-          ∙ word_shown ws c.self.inside.standings.items i c.self.invariant
+          ∙ word_shown ws c.self.inside.kinds.items i c.self.invariant
           ∙ ap (λ ks. keyword_word ks i) c.self.view_is;
     }
 
@@ -20,6 +20,6 @@ returns-else-place-count c =
     let i = c.args.place in
     record {
       value = no_word ws i (omega (arith, c.if-place-count.false, c.count.ensures.value))
-          ∙ word_shown ws c.self.inside.standings.items i c.self.invariant
+          ∙ word_shown ws c.self.inside.kinds.items i c.self.invariant
           ∙ ap (λ ks. keyword_word ks i) c.self.view_is;
     }

@@ -1,7 +1,7 @@
--- One line more; behind the last, what was said is what all lines say.
+-- One line more; after the last, what was said is what all lines say.
 use Rattle.std.proofs.Common.{◌∙◌, ◌≤◌, ap, sym, arith, length}
 use Rattle.std.proofs.lemmas.List.{drop_all}
-use Rattle.org_settings.specs.Draft.{with_lines, ended}
+use Rattle.org_settings.specs.Draft.{with_lines, into_settings}
 use Rattle.org_settings.proofs.DraftLemmas.{line_more, lines_settle}
 use Rattle.org_settings.proofs.settings.Settings.of_lines.Goals as goal
 
@@ -13,4 +13,4 @@ returns-clause-value c =
     let lines = c.args.lines.now in
     let past : length lines ≤ c.loop-place.place = omega arith in
     let all = ap (with_lines c.loop-place.said) (sym (drop_all c.loop-place.place lines past)) ∙ c.loop-place.invariant in
-    c.in_ok-ended.ensures.value ∙ ap ended all ∙ lines_settle lines
+    c.in_ok-into_settings.ensures.value ∙ ap into_settings all ∙ lines_settle lines

@@ -1,0 +1,217 @@
+//! Rows as fields between commas, those of Org's own batch agendas.
+
+use crate::one_line::OneLine;
+use crate::rows::{LoadReport, ShownSum};
+use org_agenda::{Row, RowKind};
+use org_base::Fault;
+use org_cal::{Day, Unit, push_date, push_time};
+use org_clocktable::Of;
+use org_inherit::{Heading, tags_text};
+use org_layout::ShownRow;
+use org_text::Text;
+use std::alloc::{AllocError, Global};
+
+/// The fields of a row (Org manual 9.6, "Extracting Agenda Information"): category, title, kind, keyword, tags, date,
+/// time, what stands before the heading, priority, its number, and the day; the kind of a list's rows is named by the
+/// caller.
+pub fn csv_line<T: Text>(
+    alloc: Global,
+    files: &LoadReport<'_, '_, T>,
+    shown: &ShownRow,
+    list: &str,
+) -> Result<OneLine, Fault> {
+    let mut line = OneLine::new(alloc);
+    let row = &shown.row;
+    let Some(heading) = Heading::find(files.inherits, row.file, row.heading) else {
+        return Ok(line);
+    };
+    line.field(heading.category())?;
+    next(&mut line, heading.title())?;
+    next(&mut line, kind_name(row.kind, list).as_bytes())?;
+    next(&mut line, heading.keyword().unwrap_or(&[]))?;
+    push_tags(alloc, &mut line, &heading)?;
+    push_when(alloc, &mut line, shown)?;
+    push_label(alloc, &mut line, row)?;
+    push_priority(alloc, &mut line, &heading)?;
+    push_parts(alloc, &mut line, shown.day)?;
+    Ok(line)
+}
+
+/// The fields of a row of a clock table: the first and the last day of the table, the file, and the line, the level,
+/// the title and the tags of its heading, each of which is empty where it doesn't apply; then the sums of clocks and of
+/// efforts in minutes.
+pub fn table_fields<T: Text>(
+    alloc: Global,
+    files: &LoadReport<'_, '_, T>,
+    shown: &ShownSum,
+) -> Result<OneLine, Fault> {
+    let mut line = OneLine::new(alloc);
+    push_iso(alloc, &mut line, shown.first)?;
+    line.push(b',')?;
+    push_iso(alloc, &mut line, shown.last)?;
+    push_of(alloc, &mut line, files, shown.row.of)?;
+    push_number(alloc, &mut line, shown.row.clock)?;
+    push_number(alloc, &mut line, shown.row.effort)?;
+    Ok(line)
+}
+
+// Appends a date as the calendar's standard has it, as the first field or after a comma.
+fn push_iso(alloc: Global, line: &mut OneLine, day: Day) -> Result<(), AllocError> {
+    let mut date = String::new(alloc);
+    push_date(&mut date, day)?;
+    line.field(date.as_bytes())
+}
+
+fn push_number(alloc: Global, line: &mut OneLine, number: u64) -> Result<(), AllocError> {
+    let text = format!(in alloc; "{number}")?;
+    next(line, text.as_bytes())
+}
+
+// Appends what a row of a clock table is of: the file, and the line, the level, the title and the tags of its heading.
+fn push_of<T: Text>(
+    alloc: Global,
+    line: &mut OneLine,
+    files: &LoadReport<'_, '_, T>,
+    of: Of,
+) -> Result<(), Fault> {
+    match of {
+        Of::All => Ok(push_empty(line, 5)?),
+        Of::File(file) => {
+            push_name(line, files, file)?;
+            Ok(push_empty(line, 4)?)
+        }
+        Of::Heading(file, place, _) => {
+            push_name(line, files, file)?;
+            push_place(alloc, line, files, file, place)
+        }
+    }
+}
+
+fn push_empty(line: &mut OneLine, count: u32) -> Result<(), AllocError> {
+    for _ in 0..count {
+        next(line, &[])?;
+    }
+    Ok(())
+}
+
+fn push_name<T: Text>(
+    line: &mut OneLine,
+    files: &LoadReport<'_, '_, T>,
+    file: usize,
+) -> Result<(), AllocError> {
+    if file >= files.file_set.count() {
+        return next(line, &[]);
+    }
+    next(line, files.file_set.file(file).name().as_bytes())
+}
+
+fn push_place<T: Text>(
+    alloc: Global,
+    line: &mut OneLine,
+    files: &LoadReport<'_, '_, T>,
+    file: usize,
+    place: usize,
+) -> Result<(), Fault> {
+    let Some(at) = files.file_set.place(file, place) else {
+        return Ok(push_empty(line, 4)?);
+    };
+    let Some(heading) = Heading::find(files.inherits, file, place) else {
+        return Ok(push_empty(line, 4)?);
+    };
+    push_number(alloc, line, u64::from(at.line))?;
+    push_number(alloc, line, u64::from(heading.level()))?;
+    next(line, heading.title())?;
+    push_tags(alloc, line, &heading)
+}
+
+// Appends one field more.
+fn next(line: &mut OneLine, text: &[u8]) -> Result<(), AllocError> {
+    line.push(b',')?;
+    line.field(text)
+}
+
+fn kind_name(kind: RowKind, list: &str) -> &str {
+    match kind {
+        RowKind::Listed => list,
+        RowKind::OnDay => "timestamp",
+        RowKind::InRange => "block",
+        RowKind::OnSchedule => "scheduled",
+        RowKind::LateSchedule => "past-scheduled",
+        RowKind::OnDeadline | RowKind::LateDeadline => "deadline",
+        RowKind::Warning => "upcoming-deadline",
+    }
+}
+
+// All tags, with colons between them.
+fn push_tags(alloc: Global, line: &mut OneLine, heading: &Heading<'_, '_>) -> Result<(), Fault> {
+    let tags = heading.tags()?;
+    let text = tags_text(alloc, &tags)?;
+    let inner = match text.as_slice() {
+        [b':', inner @ .., b':'] => inner,
+        all => all,
+    };
+    next(line, inner)?;
+    Ok(())
+}
+
+// The date that a row speaks of, and its times.
+fn push_when(alloc: Global, line: &mut OneLine, shown: &ShownRow) -> Result<(), AllocError> {
+    push_parts(alloc, line, spoken_of(shown))?;
+    let mut times = String::new(alloc);
+    if let Some(start) = shown.row.start {
+        push_time(&mut times, start)?;
+    }
+    if let Some(end) = shown.row.end {
+        times.push_str("-")?;
+        push_time(&mut times, end)?;
+    }
+    next(line, times.as_bytes())
+}
+
+// The day of a row, or the one of which it warns or for which it is late.
+fn spoken_of(shown: &ShownRow) -> Option<Day> {
+    let day = shown.day?;
+    let days = i64::from(shown.row.number);
+    match shown.row.kind {
+        RowKind::Warning => day.add_units(days, Unit::Day),
+        RowKind::LateSchedule | RowKind::LateDeadline => day.add_units(-days, Unit::Day),
+        _ => Some(day),
+    }
+}
+
+fn push_parts(alloc: Global, line: &mut OneLine, day: Option<Day>) -> Result<(), AllocError> {
+    let Some(day) = day else {
+        return next(line, &[]);
+    };
+    let (year, month, of_month) = day.parts();
+    let text = format!(in alloc; "{year}-{month}-{of_month}")?;
+    next(line, text.as_bytes())
+}
+
+// What an agenda shows before the heading.
+fn push_label(alloc: Global, line: &mut OneLine, row: &Row) -> Result<(), AllocError> {
+    let number = row.number;
+    let of = row.of;
+    let text = match row.kind {
+        RowKind::Listed | RowKind::OnDay => String::new(alloc),
+        RowKind::InRange => format!(in alloc; "({number}/{of}):")?,
+        RowKind::OnSchedule => String::from_str(alloc, "Scheduled:")?,
+        RowKind::LateSchedule => format!(in alloc; "Sched. {number} d.:")?,
+        RowKind::OnDeadline => String::from_str(alloc, "Deadline:")?,
+        RowKind::Warning => format!(in alloc; "In {number} d.:")?,
+        RowKind::LateDeadline => format!(in alloc; "{number} d. ago:")?,
+    };
+    next(line, text.as_bytes())
+}
+
+// The priority, and a thousand for each step above C.
+fn push_priority(
+    alloc: Global,
+    line: &mut OneLine,
+    heading: &Heading<'_, '_>,
+) -> Result<(), AllocError> {
+    next(line, heading.priority().unwrap_or(&[]))?;
+    let number = u32::from(b'C'.saturating_sub(heading.priority_number())) * 1000;
+    let text = format!(in alloc; "{number}")?;
+    next(line, text.as_bytes())
+}

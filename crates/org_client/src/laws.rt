@@ -1,0 +1,50 @@
+//! Laws of the definitions. Each is a function without parameters whose contract is the law.
+ghost use Rattle.org_client.specs.Examples.{ExamplesHold};
+ghost use Rattle.org_client.specs.Laws.{AgendasShowNext, CleanStands, NextIsFirst, NextLiesAhead, NoStampIsMissed, StampsComeOnce, VisibleIsClean};
+
+/// No row that comes next lies before the moment.
+#[tactic(auto, using(crate::proofs::LawLemmas::next_lies_ahead))]
+pub fn next_lies_ahead()
+    ensures { NextLiesAhead }
+{}
+
+/// Of each stamp comes at most one row.
+#[tactic(auto, using(crate::proofs::LawLemmas::stamps_come_once))]
+pub fn stamps_come_once()
+    ensures { StampsComeOnce }
+{}
+
+/// The agenda shows each row that comes next on its day.
+#[tactic(auto, using(crate::proofs::LawLemmas::agendas_show_next))]
+pub fn agendas_show_next()
+    ensures { AgendasShowNext }
+{}
+
+/// Where a day of the agenda has a row that isn't before the moment, a row of its stamp comes.
+#[tactic(auto, using(crate::proofs::MissedLemmas::no_stamp_is_missed))]
+pub fn no_stamp_is_missed()
+    ensures { NoStampIsMissed }
+{}
+
+/// The row that comes of a stamp is that of the first day that has one.
+#[tactic(auto, using(crate::proofs::FirstLemmas::next_is_first))]
+pub fn next_is_first()
+    ensures { NextIsFirst }
+{}
+
+/// What is shown of a text has no control character.
+#[tactic(auto, using(crate::proofs::CleanLemmas::visible_is_clean))]
+pub fn visible_is_clean()
+    ensures { VisibleIsClean }
+{}
+
+/// A text without control characters is shown to a person as it is.
+#[tactic(auto, using(crate::proofs::CleanLemmas::clean_stands))]
+pub fn clean_stands()
+    ensures { CleanStands }
+{}
+
+/// Of each control character of one byte and of two: how JSON, a person and a field have it.
+pub fn examples_hold()
+    ensures { ExamplesHold }
+{}

@@ -1,0 +1,172 @@
+//! Bytes of one line.
+ghost use Rattle.std.specs.Prelude.{◌≡◌, ◌<◌, ◌≤◌, [], ◌∷◌, ◌++◌, IfOk, OnOk};
+ghost use Rattle.org_base.specs.Results.{GivesItems};
+ghost use Rattle.org_client.specs.Clean.{IsClean};
+ghost use Rattle.org_client.specs.Json.{begins_quoted, field_text, flag_member, named, number_member, quoted, text_member};
+ghost use Rattle.org_client.specs.Visible.{visible};
+
+use crate::visible::{Escape, push_visible};
+use org_base::Texts;
+use std::alloc::{AllocError, Global};
+use std::marker::Model;
+
+/// Bytes of a line, seen as their list, without control characters.
+#[derive(Debug, Drop)]
+pub struct OneLine {
+    alloc: Global,
+    bytes: Vec<u8>,
+}
+
+impl Model for OneLine {
+    ghost use Rattle.std.specs.Prelude.{ℕ, List};
+    ghost use Rattle.org_client.specs.Clean.{IsClean};
+
+    ghost Value = { List ℕ };
+
+    ghost view = { λ l. l.bytes.items };
+
+    ghost invariant = { λ l. IsClean l.bytes.items };
+}
+
+impl OneLine {
+    /// No bytes.
+    pub fn new(alloc: Global) -> OneLine
+        ensures value { result ≡ [] }
+    {
+        OneLine {
+            alloc,
+            bytes: Vec::new(alloc),
+        }
+    }
+
+    /// The bytes, lent.
+    pub fn as_slice(&self) -> &[u8]
+        ensures value { result.now ≡ self.now }
+        ensures line { IsClean result.now }
+    {
+        self.bytes.as_slice()
+    }
+
+    /// Appends a byte of ASCII that prints.
+    #[tactic(auto, using(crate::proofs::CleanLemmas::clean_byte, crate::proofs::CleanLemmas::clean_append))]
+    pub fn push(&mut self, byte: u8) -> Result<(), AllocError>
+        requires low { 32 ≤ byte }
+        requires high { byte < 127 }
+        ensures ok { OnOk result (self.new ≡ self.old ++ byte ∷ []) }
+    {
+        self.bytes.push(byte)?;
+        Ok(())
+    }
+
+    // Appends bytes without control characters. Where memory is refused the line is as before.
+    #[tactic(auto, using(crate::proofs::CleanLemmas::clean_append))]
+    fn push_all(&mut self, bytes: &[u8]) -> Result<(), AllocError>
+        requires { IsClean bytes.now }
+        ensures ok { OnOk result (self.new ≡ self.old ++ bytes.now) }
+    {
+        self.bytes.extend_from_slice(bytes)?;
+        Ok(())
+    }
+
+    /// Appends a text as a string of JSON.
+    pub fn push_quoted(&mut self, text: &[u8]) -> Result<(), AllocError>
+        ensures ok { OnOk result (self.new ≡ self.old ++ quoted text.now) }
+    {
+        let bytes = quote(self.alloc, text)?;
+        self.push_all(bytes.as_slice())
+    }
+
+    // Appends a comma, a name and a colon.
+    fn push_name(&mut self, name: &str) -> Result<(), AllocError>
+        ensures ok { OnOk result (self.new ≡ self.old ++ named name.now) }
+    {
+        self.push(b',')?;
+        self.push_quoted(name.as_bytes())?;
+        self.push(b':')
+    }
+
+    /// Appends a member of an object whose value is a text.
+    pub fn text(&mut self, name: &str, text: &[u8]) -> Result<(), AllocError>
+        ensures ok { OnOk result (self.new ≡ self.old ++ text_member name.now text.now) }
+    {
+        self.push_name(name)?;
+        self.push_quoted(text)
+    }
+
+    /// Appends a member whose value is a number.
+    pub fn number(&mut self, name: &str, number: u64) -> Result<(), AllocError>
+        ensures ok { OnOk result (self.new ≡ self.old ++ number_member name.now number) }
+    {
+        self.push_name(name)?;
+        let digits = format!(in self.alloc; "{number}")?;
+        self.push_all(digits.as_bytes())
+    }
+
+    /// Appends a member whose value is true or false.
+    pub fn flag(&mut self, name: &str, flag: bool) -> Result<(), AllocError>
+        ensures ok { OnOk result (self.new ≡ self.old ++ flag_member name.now flag) }
+    {
+        self.push_name(name)?;
+        let word: &[u8] = if flag { b"true" } else { b"false" };
+        self.push_all(word)
+    }
+
+    /// Appends a member whose value is a list of texts.
+    pub fn texts(&mut self, name: &str, texts: &Texts) -> Result<(), AllocError> {
+        self.push_name(name)?;
+        self.push(b'[')?;
+        for place in 0..texts.count() {
+            if place > 0 {
+                self.push(b',')?;
+            }
+            self.push_quoted(texts.get(place))?;
+        }
+        self.push(b']')
+    }
+
+    /// Appends a text as a field between commas: in it a comma is a semicolon, a control character a space, and a quotation
+    /// mark at its front an apostrophe, since fields aren't quoted.
+    pub fn field(&mut self, text: &[u8]) -> Result<(), AllocError>
+        ensures ok { OnOk result (self.new ≡ self.old ++ field_text text.now) }
+    {
+        let bytes = field_bytes(self.alloc, text)?;
+        self.push_all(bytes.as_slice())
+    }
+}
+
+fn quote(alloc: Global, text: &[u8]) -> Result<Vec<u8>, AllocError>
+    ensures value { GivesItems result (quoted text.now) }
+    ensures line { IfOk result (λ bytes. IsClean bytes.items) }
+{
+    let mut bytes = Vec::new(alloc);
+    bytes.push(b'"')?;
+    push_visible(&mut bytes, text, Escape::Json)?;
+    bytes.push(b'"')?;
+    Ok(bytes)
+}
+
+fn field_bytes(alloc: Global, text: &[u8]) -> Result<Vec<u8>, AllocError>
+    ensures value { GivesItems result (field_text text.now) }
+{
+    if begins_quoted(text) {
+        return behind_apostrophe(alloc, &text[1..]);
+    }
+    let mut bytes = Vec::new(alloc);
+    push_visible(&mut bytes, text, Escape::Field)?;
+    Ok(bytes)
+}
+
+fn behind_apostrophe(alloc: Global, text: &[u8]) -> Result<Vec<u8>, AllocError>
+    ensures value { GivesItems result (39 ∷ visible Escape.Field text.now) }
+{
+    let mut bytes = Vec::new(alloc);
+    bytes.push(b'\'')?;
+    push_visible(&mut bytes, text, Escape::Field)?;
+    Ok(bytes)
+}
+
+fn begins_quoted(text: &[u8]) -> bool
+    ensures { result ≡ begins_quoted text.now }
+{
+    !text.is_empty() && text[0] == b'"'
+}

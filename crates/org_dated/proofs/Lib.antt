@@ -1,8 +1,0 @@
-pub mod SumLemmas
-pub mod PutLemmas
-pub mod ReplaceLemmas
-pub mod TakeLemmas
-pub mod HouseLemmas
-pub mod IndexLemmas
-pub mod NearLemmas
-pub mod PlaceLemmas

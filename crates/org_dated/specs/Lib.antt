@@ -1,4 +1,0 @@
-pub mod Asked
-pub mod Held
-pub mod Index
-pub mod Near

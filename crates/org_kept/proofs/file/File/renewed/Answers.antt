@@ -1,7 +1,0 @@
--- The setting lines are the same.
-use Rattle.std.proofs.Common.{ap}
-use Rattle.org_settings.specs.Settings.{settings_of}
-use Rattle.org_kept.proofs.file.File.renewed.Goals as goal
-
-pub returns-then-branch-clause-value : goal.returns-then-branch-clause-value
-returns-then-branch-clause-value g c = rw (← c.self.view_is) (ap settings_of (c.in_ok-leaves_lines.ensures.same c.if-branch.true))

@@ -1,7 +1,0 @@
-use Rattle.std.proofs.Common.{◌≡◌}
-use Rattle.std.specs.List.{between}
-use Rattle.org_kept.specs.Sections.{entries_in}
-use Rattle.org_kept.proofs.outline.entries_between.Given as goal
-
-abbrev pub invariant-loop-place : goal.invariant-loop-place
-invariant-loop-place l = l.entries ≡ entries_in (between l.start l.place l.list)

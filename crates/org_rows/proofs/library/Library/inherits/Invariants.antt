@@ -1,6 +1,0 @@
--- Those of the files so far, each one text's.
-use Rattle.org_rows.specs.Files.{AreFirst, scope_of}
-use Rattle.org_rows.proofs.library.Library.inherits.Given as goal
-
-abbrev pub invariant-loop-place : goal.invariant-loop-place
-invariant-loop-place g l = AreFirst (scope_of l.self.inherited) l.self.files l.place l.inherits

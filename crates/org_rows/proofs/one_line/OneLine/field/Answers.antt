@@ -1,7 +1,0 @@
-use Rattle.std.proofs.Common.{◌∙◌, subst, sym}
-use Rattle.org_rows.specs.Clean.{IsClean}
-use Rattle.org_rows.proofs.JsonLemmas.{field_clean}
-use Rattle.org_rows.proofs.one_line.OneLine.field.Goals as goal
-
-pub push_all-requires : goal.push_all-requires
-push_all-requires c = subst IsClean (sym (c.as_slice.ensures.value ∙ c.in_ok-bytes.ensures.value)) (field_clean c.args.text.now)

@@ -1,0 +1,4 @@
+pub mod NearQuery
+pub mod Held
+pub mod Index
+pub mod Near

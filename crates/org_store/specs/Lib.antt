@@ -1,0 +1,11 @@
+pub mod Begun
+pub mod Change
+pub mod Counts
+pub mod File
+pub mod Held
+pub mod Laws
+pub mod Outline
+pub mod Places
+pub mod ChangedSettings
+pub mod Sections
+pub mod CachedOutline
