@@ -19,7 +19,7 @@ rules='
 30_000_000	crates/org_index/src/delays.rt	.
 '
 # Files in which laws say numbers in words of their own.
-laws='specs/(Laws|Limits|Examples|Refusals|Rest|Told|Spelled|Rules)\.antt$'
+laws='specs/(Laws|Limits|Examples|Refusals|Rest|SerialReplies|Spelled|Rules)\.antt$'
 
 code() {
     find crates -name out -prune -o -type f \( -path '*/src/*.rt' -o -path '*/specs/*.antt' \) -print |
@@ -51,9 +51,9 @@ while IFS='	' read -r number home words; do
 done < "${TMPDIR:-/tmp}/rules.$$"
 
 # Functions that may have more: their parameters are the words of a command, or those of a trait.
-wide='org_engine::edit org_engine::complete org_engine::complete_and_tell org_engine::add org_engine::change org_engine::completed
+wide='org_engine::edit org_engine::complete org_engine::complete_and_tell org_engine::add org_engine::change org_engine::complete_heading
 org_engine::dated_text org_engine::days_text org_engine::todo_text org_engine::match_text org_engine::matching_text
-org_engine::view_text org_engine::view_over org_agenda::near org_near::near org_complete::complete org_complete::complete_entry
+org_engine::view_text org_engine::render_over org_agenda::near org_near::near org_complete::complete org_complete::complete_entry
 org_store::set_text'
 for file in $(find crates -name out -prune -o -type f -path '*/src/*.rt' -print | sort); do
     crate=${file#crates/}

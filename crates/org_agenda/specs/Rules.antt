@@ -1,11 +1,12 @@
--- The rows of a day in the rule's own words: which kinds there are on a day, the days of a delay, who is open, and what a
--- range's rows show (Org manual 9.6, "Timestamps"; "Deadlines and Scheduling"; "Repeated tasks"; profile).
+-- The rows of a day in the rule's own words: which kinds there are on a day, the days of a delay, who is open, what a
+-- range's rows show, and which stamps are near (Org manual 9.6, "Timestamps"; "Deadlines and Scheduling"; "Repeated tasks"; profile).
 use Rattle.std.specs.Prelude.{◌≡◌, ◌≢◌, ◌⊎◌, ◌↔◌, ◌<◌, ◌≤◌, ℕ, ◌+◌, ◌*◌, Bool, true, false, List, Option, None, Some, IsTrue}
 use Rattle.org_base.specs.declared.profile.Profile.{Profile}
 use Rattle.org_base.specs.declared.profile.Profile.TheVariants.{One, Two}
 use Rattle.org_cal.specs.Days.{IsDay}
 use Rattle.org_cal.specs.declared.unit.Unit.{Unit as TimeUnit}
 use Rattle.org_cal.specs.declared.unit.Unit.TheVariants.{Hour, Day, Week, Month, Year}
+use Rattle.org_entry.specs.declared.active.Role.TheVariants.{Deadline, Scheduled}
 use Rattle.org_entry.specs.declared.entry.Entry.{Entry}
 use Rattle.org_head.specs.declared.head.Head.{Head}
 use Rattle.org_inherit.specs.Scope.{Scope}
@@ -15,8 +16,10 @@ use Rattle.org_settings.specs.Keywords.{keyword_place, keyword_done}
 use Rattle.org_stamp.specs.declared.mark.Delay.{Delay}
 use Rattle.org_stamp.specs.declared.stamp.Stamp.{Stamp}
 use Rattle.org_agenda.specs.Days.{is_shown, numbers, times}
-use Rattle.org_index.specs.Delays.{days_in}
+use Rattle.org_index.specs.Delays.{days_in, delay_or}
+use Rattle.org_index.specs.Laws.{RangeMeets, Repeats}
 use Rattle.org_agenda.specs.Headings.{keyword_in}
+use Rattle.org_agenda.specs.Near.{is_near}
 use Rattle.org_agenda.specs.Sources.{owner_of}
 use Rattle.org_agenda.specs.declared.source.HeadingStamp.{HeadingStamp}
 use Rattle.org_agenda.specs.declared.row.RowKind.{RowKind}
@@ -116,3 +119,25 @@ RangesShowTheirEnds = (p : Profile) (s : Stamp) (last : ℕ × Option ℕ) (begi
 abbrev pub RangesAreNumbered : Type 0
 RangesAreNumbered = (p : Profile) (s : Stamp) (last : ℕ × Option ℕ) (begins day : ℕ) → IsDay s.day → s.last ≡ Some last →
     IsRangeStart p s day begins → ((numbers p InRange s day).0 + begins ≡ day + 1) × ((numbers p InRange s day).1 + s.day ≡ last.0 + 1)
+
+-- the stamp touches the days: it repeats, and its day is no later than the last of them; or a day of its written range is one of
+-- them; or its day is; or its day plus its delay
+abbrev pub TouchesDays : Profile → ℕ → ℕ → Stamp → Type 0
+TouchesDays p from to s =
+    (Repeats p s × (s.day ≤ to))
+    ⊎ (RangeMeets s.day s.last from to
+    ⊎ (((from ≤ s.day) × (s.day ≤ to))
+    ⊎ ((from ≤ s.day + delay_or 0 s.delay) × (s.day + delay_or 0 s.delay ≤ to))))
+
+-- the stamp reminds of a heading that isn't done: it is scheduled or a deadline, today is one of the days, and its day less its
+-- warning time is no later than today
+pub record Reminds (from to today : ℕ) (s : HeadingStamp) : Type 0 where
+  pub planned : (s.role ≡ Scheduled) ⊎ (s.role ≡ Deadline)
+  pub undone : s.owner.is_open ≡ true
+  pub first : from ≤ today
+  pub last : today ≤ to
+  pub soon : s.stamp.day ≤ today + delay_or 14 s.stamp.delay
+
+-- the stamps that are near are those that touch the days or remind
+abbrev pub NearIsMeant : Type 0
+NearIsMeant = (p : Profile) (from to today : ℕ) (s : HeadingStamp) → from ≤ to → IsTrue (is_near p from to today s) ↔ (TouchesDays p from to s.stamp ⊎ Reminds from to today s)

@@ -41,6 +41,9 @@ unfolding first_line
 first_headed [] = refl
 first_headed (l ∷ ls) = sym (headed_is l)
 
+pub first_line_headed : (t : List ℕ) → is_headed (lines t) ≡ begins_heading t
+first_line_headed t = first_headed (lines t) ∙ heading_in_line t ∙ headed_is t
+
 concat-line : (c : Bool) (b : ℕ) (rs : List (List (List ℕ))) → map concat (put_before c (b ∷ []) rs) ≡ put_before c b (map concat rs)
 concat-line true b rs = refl
 concat-line false b [] = refl
@@ -58,7 +61,7 @@ inside_line b (l ∷ ls) = concat-longer (is_headed ls) b l (runs ls)
 are_runs : (t : List ℕ) → sections t ≡ map concat (runs (lines t))
 are_runs [] = refl
 are_runs (b ∷ t) = elim (cases_Bool (b == 10)) [
-  | inl e ↦ rw (e, are_runs t) (sym (ap (λ c. map concat (put_before c (b ∷ []) (runs (lines t)))) (first_headed (lines t) ∙ heading_in_line t ∙ headed_is t) ∙ concat-line (begins_heading t) b (runs (lines t))))
+  | inl e ↦ rw (e, are_runs t) (sym (ap (λ c. map concat (put_before c (b ∷ []) (runs (lines t)))) (first_line_headed t) ∙ concat-line (begins_heading t) b (runs (lines t))))
   | inr e ↦ rw (e, are_runs t) (sym (inside_line b (lines t)))
 ]
 

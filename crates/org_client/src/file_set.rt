@@ -82,7 +82,7 @@ impl<T: Text> FileSet<T> {
     }
 
     /// Puts a text under a name after the others, of the file that is told from others by a path. `Taken` where a file
-    /// of that path is there, `Files` where there are as many as there may be; else
+    /// of that path is there, `Files` where there are as many as there may be.
     pub fn add(&mut self, name: String, path: String, text: T) -> Result<(), Fault>
         ensures names { self.new.inherited ≡ self.old.inherited }
         ensures err { OnErr result (self.new ≡ self.old) }

@@ -2,7 +2,7 @@
 use Rattle.std.specs.Prelude.{◌≡◌, ◌<◌, ◌≤◌, ℕ, Option, None, Some, IfSome, length, get_or, true, false}
 use Rattle.org_base.specs.Counts.{Counts}
 use Rattle.org_class.specs.Sections.{sections}
-use Rattle.org_store.specs.Begun.{IsBegunBy}
+use Rattle.org_store.specs.Begun.{IsBegunBy, has_heading}
 use Rattle.org_store.specs.Counts.{have_read}
 use Rattle.org_store.specs.File.{FileView, marked, unread_at}
 
@@ -35,3 +35,8 @@ pub record HasReadLine (line : ℕ) (old new : FileView) (before after : Counts)
   pub begun : IsBegunBy old.text line place
   pub file : new ≡ record old { marks = marked place old.marks }
   pub counts : after ≡ have_read (unread_at old.marks place) before
+
+-- that section was read where the line is a heading's; else nothing was
+pub data ReadsOwn (line : ℕ) (old new : FileView) (before after : Counts) : Type 0 where
+  NoHeading : has_heading old.text line ≡ false → new ≡ old → after ≡ before → ReadsOwn line old new before after
+  Own : HasReadLine line old new before after → ReadsOwn line old new before after

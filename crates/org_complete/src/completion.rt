@@ -3,11 +3,11 @@ ghost use Rattle.std.specs.Prelude.{◌≡◌, ◌+◌, ◌-◌, ◌++◌, ◌<�
 ghost use Rattle.std.specs.List.{prefix_len};
 ghost use Rattle.std.specs.Str.{IsUtf8, IsCharBoundary};
 ghost use Rattle.org_base.specs.Codes.{memory_fault};
-ghost use Rattle.org_base.specs.Results.{Gives, Writes};
+ghost use Rattle.org_base.specs.Results.{Gives, IfRefused, Writes};
 ghost use Rattle.org_base.specs.Words.{is_space};
 ghost use Rattle.org_entry.specs.Entry.{heading_line};
 ghost use Rattle.org_complete.specs.Completion.{completed, completed_at, completion_part, gap_behind, keyword_span, part_at, plan_part, plan_written, replaced, sized};
-ghost use Rattle.org_complete.specs.Reading.{HasReadLine, HasReadOne, IsPlaceIn, WasReadAt};
+ghost use Rattle.org_complete.specs.Reading.{HasReadOne, IsPlaceIn, ReadsOwn, WasReadAt};
 ghost use Rattle.org_complete.specs.Written.{AnswersAs, CanWrite, IsBehind, IsRevision, Revises, part_of, plan_end, plan_text, shift_end, shift_text};
 ghost use Rattle.org_store.specs.Begun.{entry_there};
 ghost use Rattle.org_text.specs.Replace.{max_bytes, replace};
@@ -17,7 +17,7 @@ use crate::plan::{Plan, Shift, plan_of};
 use crate::revision::Revision;
 use org_base::{Code, Fault, Meter, Span};
 use org_cal::Moment;
-use org_class::leading_stars;
+use org_class::{has_heading_at, leading_stars};
 use org_entry::Entry;
 use org_stamp::print_stamp;
 use org_store::File;
@@ -35,7 +35,7 @@ use std::alloc::{AllocError, Global};
 /// Refusals, in this order: `Heading` where no heading stands on the line; `Keyword` where the keyword is none of the
 /// file's; `Hours` where a stamp that would shift has a repeater of hours and no time, or a time range; `Date` where one
 /// would leave the years 1 to 9999; `Size` where the new text would be longer than a text may be. Out of memory may come
-/// at any time. No section is classified. The section that begins with the line is read, if it is still to be read, and
+/// at any time. No section is classified. Where the line is a heading's, its section is read, if it is still to be read, and
 /// stays read, after a refusal too; the meter counts it then, and nothing else.
 pub fn complete<T: Text>(
     alloc: Global,
@@ -49,11 +49,15 @@ pub fn complete<T: Text>(
     ensures change { IfOk result (IsRevision T.content file.old.text) }
     ensures part { IfOk result (λ r. completion_part file.old.text line keyword.now moment ≡ Ok (part_of r)) }
     ensures read { HasReadOne file.old file.new meter.old meter.new }
-    ensures exact { OnOk result (HasReadLine line file.old file.new meter.old meter.new) }
+    ensures exact { OnOk result (ReadsOwn line file.old file.new meter.old meter.new) }
+    ensures refused { IfRefused result (λ _. ReadsOwn line file.old file.new meter.old meter.new) }
 {
     let Some(place) = file.begun_by(line) else {
         return Err(Fault::Plain(Code::Heading));
     };
+    if !has_heading_at(file.text(), file.start(place) as usize) {
+        return Err(Fault::Plain(Code::Heading));
+    }
     file.read(alloc, meter, place)?;
     complete_section(alloc, file, place, keyword, moment)
 }

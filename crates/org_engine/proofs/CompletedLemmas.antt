@@ -1,22 +1,29 @@
 -- Which sections were read when a heading was completed.
 use Rattle.std.proofs.Common.{◌≡◌, ◌∙◌, ◌<◌, ℕ, Bool, true, false, cond, List, [], ◌∷◌, ap, arith, length, refl, subst, sym}
-use Rattle.std.specs.Prelude.{Err, IfSome, None, Ok, OnErr, OnOk, Option, Result, Some, bytes_eq}
+use Rattle.std.specs.Prelude.{Err, IfSome, None, Ok, OnErr, OnOk, Option, Result, Some, String, bytes_eq, slice_get}
+use Rattle.std.specs.List.{position_or_len}
+use Rattle.std.specs.Result.{IsErrAnd}
+use Rattle.std.specs.Map.{keys_of, values_of}
+use Rattle.indexmap.specs.IndexMap.{set_value_at}
 use Rattle.org_base.specs.Counts.{Counts}
 use Rattle.org_base.specs.declared.fault.Fault.{Fault}
 use Rattle.org_class.specs.Changes.{new_sections}
 use Rattle.org_class.specs.Ticks.{classified}
-use Rattle.org_complete.specs.Completion.{completion_part}
+use Rattle.org_complete.specs.Completion.{completed, completion_part}
 use Rattle.org_complete.specs.Parts.{Part}
-use Rattle.org_complete.specs.Reading.{with_one_read}
+use Rattle.org_complete.specs.Reading.{HasReadOne, ReadsOwn, with_one_read}
 use Rattle.org_complete.specs.Written.{part_of}
 use Rattle.org_complete.specs.declared.revision.Revision.{Revision}
 use Rattle.org_store.specs.File.{FileView as KeptFile, IsChanged, marked}
 use Rattle.org_store.specs.declared.change.Change.{Change}
-use Rattle.org_engine.specs.Calls.{IsCompletionIn}
-use Rattle.org_engine.specs.Marks.{Completes, CompletesMarks, CompletesNone, IsQuiet, KeepsOthers, PutsMarks, PutsNoMarks, ReadsAtMostOne, ReadsOne, completed_count, kept_named, marks_named, new_count, part_count, with_marks, with_section_read}
-use Rattle.org_engine.specs.Step.{file_named}
+use Rattle.org_engine.specs.Calls.{Completed, IsCompletionIn, Refuses}
+use Rattle.org_engine.specs.Marks.{Completes, CompletesMarks, CompletesNone, IsQuiet, KeepsOthers, PutsMarks, PutsNoMarks, ReadsOne, ReadsOwnIn, ReadsOwnOnly, Seen, completed_count, kept_named, marks_named, new_count, part_count, with_marks, with_section_read}
+use Rattle.org_engine.specs.Files.{files_of, marks_of}
+use Rattle.org_engine.specs.Step.{Complete, file_named, text_seen}
 use Rattle.org_engine.specs.World.{EngineView, FileView, KeptPins, KeptWorld, WorldView}
-use Rattle.org_engine.proofs.FilesLemmas.{kept_text}
+use Rattle.org_engine.proofs.FilesLemmas.{is_key, kept_at, kept_text, marks_of-set}
+use Rattle.org_engine.proofs.ChangeLemmas.{complete_refused, seen_file}
+use Rattle.org_engine.proofs.MarkLemmas.{files_of-same, one_same}
 
 same_kept : (a b : KeptFile) → Some a ≡ Some b → a ≡ b
 same_kept a b h = cc
@@ -61,6 +68,37 @@ kept_with name new (f ∷ files) (own ∷ marks) kept is =
       | false ↦ λ e k. rw e (kept_with name new files marks kept k)
     ] refl is
 
+-- the file at a place was read so
+pub reads_one : {Y : Type 0} (name : List ℕ) (world : WorldView) (es : List (String Y × KeptFile)) (place : ℕ) (old new : KeptFile) (before after : Counts) → position_or_len (is_key name) (keys_of es) ≡ place → place < length es → slice_get (values_of es) place ≡ Some old → HasReadOne old new before after →
+    ReadsOne name (record { world = record world { files = files_of es }; marks = marks_of es }) (record { world = record world { files = files_of (set_value_at es place new) }; marks = marks_of (set_value_at es place new) }) before after
+reads_one name world es place old new before after key within at one =
+    let same = one_same old new before after one in
+    record {
+      file = old;
+      read = new;
+      found = kept_at name es place old key within at;
+      one = one;
+      world = λ i. record world { files = files_of-same es place old new at same.0 same.1 i };
+      marks = marks_of-set name es place new key within;
+    }
+
+-- and what was read is the section that begins with a line
+pub reads_own : {Y : Type 0} (name : List ℕ) (line : ℕ) (world : WorldView) (es : List (String Y × KeptFile)) (place : ℕ) (old new : KeptFile) (before after : Counts) → position_or_len (is_key name) (keys_of es) ≡ place → place < length es → slice_get (values_of es) place ≡ Some old → HasReadOne old new before after → ReadsOwn line old new before after →
+    ReadsOwnIn name line (record { world = record world { files = files_of es }; marks = marks_of es }) (record { world = record world { files = files_of (set_value_at es place new) }; marks = marks_of (set_value_at es place new) }) before after
+reads_own name line world es place old new before after key within at one own =
+    let same = one_same old new before after one in
+    record {
+      one = record {
+        file = old;
+        read = new;
+        found = kept_at name es place old key within at;
+        one = one;
+        world = λ i. record world { files = files_of-same es place old new at same.0 same.1 i };
+        marks = marks_of-set name es place new key within;
+      };
+      own = own;
+    }
+
 -- nothing was read
 pub none_completed : (name : List ℕ) (line : ℕ) (keyword : List ℕ) (e : EngineView) → CompletesNone name line keyword e e
 none_completed name line keyword e = (record { place = None; within = tt; marks = refl }, record { reads = 0; count = 0; one = omega arith; few = omega arith; counts = refl })
@@ -96,8 +134,20 @@ module _ (name : List ℕ) (line : ℕ) (keyword : List ℕ) (world new : KeptWo
   pub completed_none : CompletesNone name line keyword old mid
   completed_none = (others mid refl, record { reads = read.one.reads; count = 0; one = read.one.few; few = omega arith; counts = read.one.counts })
 
-  pub completed_quiet : (final : EngineView) → IsQuiet mid final → ReadsAtMostOne name old final
-  completed_quiet final quiet = (others final quiet.0, record { reads = read.one.reads; count = 0; one = read.one.few; few = omega arith; counts = quiet.1 ∙ read.one.counts })
+  pub completed_err : {T A : Type 0} (content : T → List ℕ) (session asked : ℕ) (seen : List ℕ) (fault : Fault) (out : Result A Fault) → text_seen session name asked files ≡ Ok seen → Completed {T} content name line keyword world (Err fault) → IsErrAnd out (λ why. why ≡ fault) →
+      Refuses (Complete session name asked line keyword) old out mid
+  completed_err content session asked seen fault (Ok x) is refused passed = tt
+  completed_err content session asked seen fault (Err why) is refused passed =
+      let found = seen_file session name asked files seen is in
+      let own : completed seen line keyword world.world.moment ≡ completed found.0.text line keyword world.world.moment = ap (λ t. completed t line keyword world.world.moment) (sym found.2) in (
+        λ i. record { world = read.world i; pins = pins.pins; serial = serial },
+        λ other. complete_refused session name asked line keyword old.state seen why is (own ∙ refused found.0 found.1 (λ memory. other (passed ∙ memory)) ∙ ap Err (sym passed)),
+      )
+
+  pub completed_own : (session asked : ℕ) (text : List ℕ) (final : EngineView) → text_seen session name asked files ≡ Ok text → ReadsOwn line read.file read.read before after → IsQuiet mid final → ReadsOwnOnly session name asked line old final
+  completed_own session asked text final seen own quiet =
+      Seen text seen read.file read.read read.found (subst (λ counts. ReadsOwn line read.file read.read before counts) (sym quiet.1) own)
+      (quiet.0 ∙ (λ i. record { world = read.marks i; pins = pins.marks }))
 
   module _ {T : Type 0} (content : T → List ℕ) (r : Revision T) (is : IsCompletionIn content name line keyword world r) (change : Change) (made : ◌≡◌ {A = Part} (record { at = change.at; del = change.del; ins = change.ins.now }) (part_of r)) where
     abbrev pub part : Part
@@ -115,8 +165,8 @@ module _ (name : List ℕ) (line : ℕ) (keyword : List ℕ) (world new : KeptWo
     pub completed_few : (final : EngineView) → PutsNoMarks name change mid final → CompletesNone name line keyword old final
     completed_few final kept = (others final kept.0, record { reads = read.one.reads; count = kept.1.0; one = read.one.few; few = rw (← most) kept.1.1; counts = kept.1.2 ∙ ap (classified kept.1.0) read.one.counts })
 
-    pub completed_marks : (final : EngineView) → PutsMarks name change mid final → CompletesMarks name line keyword old final
-    completed_marks final edits =
+    pub completed_marks : (final : EngineView) → ReadsOwn line read.file read.read before after → PutsMarks name change mid final → CompletesMarks name line keyword old final
+    completed_marks final own edits =
         let here : kept_named name files new.marks ≡ Some edits.before = ap (λ (w : WorldView). kept_named name w.files new.marks) (sym read.world) ∙ edits.found in
         let there : kept_named name files new.marks ≡ Some (record read.file { marks = read.read.marks }) = ap (kept_named name files) read.marks ∙ kept_with name read.read.marks files world.marks read.file read.found in
         let same_text = (by read.one.place read.one.file).0 in
@@ -134,6 +184,7 @@ module _ (name : List ℕ) (line : ℕ) (keyword : List ℕ) (world new : KeptWo
           completion = record { file = is.file; found = is.found; is = own_part };
           found = read.found;
           one = read.one;
+          own = own;
           changed = subst (λ (f : KeptFile). IsChanged f change.at change.del change.ins.now final.state.serial edits.after) one edits.changed;
           marks = edits.marks ∙ (λ i. record {
             world = (ap (λ (w : WorldView). with_marks name edits.after.marks w.files new.marks) read.world

@@ -90,6 +90,10 @@ pub where_ok : {A E P Q : Type 0} (r : Result A E) → (P → Q) → OnOk r P �
 where_ok (Ok x) f h = f h
 where_ok (Err e) f h = tt
 
+pub where_refused : {A P Q : Type 0} (r : Result A Fault) → (P → Q) → IfRefused r (λ _. P) → IfRefused r (λ _. Q)
+where_refused (Ok x) f h = tt
+where_refused (Err e) f h = λ other. f (h other)
+
 pub where_err : {A E P Q : Type 0} (r : Result A E) → (P → Q) → OnErr r P → OnErr r Q
 where_err (Ok x) f h = tt
 where_err (Err e) f h = f h

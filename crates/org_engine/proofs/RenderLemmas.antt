@@ -20,7 +20,7 @@ use Rattle.org_layout.specs.declared.shown.Line.TheVariants as line
 use Rattle.org_engine.specs.PlaceLaws.{AreOfOneList, TextAndPlacesAreOfOneList, files_for, has_efforts, lines_for, scopes_for}
 use Rattle.org_agenda.specs.Lists.{Listing}
 use Rattle.org_engine.specs.Places.{agenda_places, days_shown, files_named, line_places, list_places, list_shown, steps_shown, table_places, table_shown}
-use Rattle.org_engine.specs.Step.{ClockTable, DayAgenda, MatchList, Question, Refused, Shown, TodoList, Unread, is_missing, render_view}
+use Rattle.org_engine.specs.Step.{ClockTable, DayAgenda, MatchList, Query, Refused, Shown, TodoList, Unread, is_missing, render_view}
 use Rattle.org_engine.specs.Views.{agenda_view, list_view, scopes_named, step_text, steps_in, steps_text, table_view}
 use Rattle.org_engine.specs.Outlines.{scopes_of}
 use Rattle.org_engine.specs.World.{FileView, WorldView}
@@ -123,7 +123,7 @@ refused_is : (b : Bool) (f fault : Fault) (x y : List ℕ) → cond b (Refused f
 refused_is true f fault x y e = e
 refused_is false f fault x y e = absurd cc
 
-one_list : (question : Question) (world : WorldView) (b : Bool) (f : Fault) (text places : List ℕ) →
+one_list : (question : Query) (world : WorldView) (b : Bool) (f : Fault) (text places : List ℕ) →
     render_view Text question world ≡ cond b (Refused f) (Shown text) → render_view Places question world ≡ cond b (Refused f) (Shown places) →
     text ≡ flat_map (line_text (has_efforts question) (scopes_for question world)) (lines_for question world) →
     places ≡ line_places (files_for question world) (lines_for question world) → AreOfOneList question world
@@ -138,7 +138,7 @@ one_list question world b f text places t p is at = record {
 no_shown : (f : Fault) (shown : List ℕ) → Refused f ≡ Shown shown → ⊥
 no_shown f shown e = cc
 
-no_list : (question : Question) (world : WorldView) (f : Fault) → render_view Text question world ≡ Refused f → render_view Places question world ≡ Refused f → AreOfOneList question world
+no_list : (question : Query) (world : WorldView) (f : Fault) → render_view Text question world ≡ Refused f → render_view Places question world ≡ Refused f → AreOfOneList question world
 no_list question world f t p = record {
   text = λ shown e. absurd (no_shown f shown (sym t ∙ e));
   places = λ shown e. absurd (no_shown f shown (sym p ∙ e));

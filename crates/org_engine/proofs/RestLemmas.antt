@@ -19,7 +19,7 @@ use Rattle.org_engine.specs.Places.{files_named, table_in, table_places}
 use Rattle.org_engine.specs.declared.question.Form.TheVariants.{Places, Text}
 use Rattle.org_engine.specs.declared.question.Form.{Form}
 use Rattle.org_engine.specs.World.{WorldView, FileView, State, PinView}
-use Rattle.org_engine.specs.Step.{Question, Shown, last_serial, Command, AddFile, DropFile, EditFile, Complete, At, Inherit, SetProfile, PinWorld, Unpin, TextOf, KeywordsOf, Version, Ask, Serial, Refused, Outcome, step, changes, profiled, is_unused, refused, pinned_by, unpinned_by, world_of, is_session, answer, kept_world, added, dropped, put, edited, completed_at, text_seen, with_file, with_text, without, file_named, is_missing}
+use Rattle.org_engine.specs.Step.{Query, Shown, last_serial, Command, AddFile, DropFile, EditFile, Complete, At, Inherit, SetProfile, PinWorld, Unpin, TextOf, KeywordsOf, Version, Ask, Serial, Refused, Outcome, step, changes, profiled, is_unused, refused, pinned_by, unpinned_by, world_of, is_session, answer, kept_world, added, dropped, put, edited, completed_at, text_seen, with_file, with_text, without, file_named, is_missing}
 use Rattle.org_engine.specs.Views.{scopes_named, step_text, table_view}
 use Rattle.org_engine.specs.Rest.{LimitsAreNamed, PinsKeepTheWorld, CommandsLeaveTheRest, IsNoName, KeepsOrder, KeepsRest, TablesAreOverTheirFiles, TakesOut, changed_by, names_in, names_of, over_all}
 use Rattle.org_engine.proofs.LawLemmas.{next_state}
@@ -49,10 +49,10 @@ pin_there session (p ∷ pins) world h =
       | false ↦ λ k. pin_there session pins world k
     ] h
 
-abbrev IsAsked : Form → ℕ → Question → State → Bool → Outcome → Type 0
+abbrev IsAsked : Form → ℕ → Query → State → Bool → Outcome → Type 0
 IsAsked form session question s b o = answer form question (cond b (kept_world (world_of session o.after.pins)) (Err (fault.Plain code.Session))) ≡ answer form question (Ok s.world)
 
-pinned : (form : Form) (session serial : ℕ) (question : Question) (s : State) (b : Bool) (o : Option WorldView) → world_of session s.pins ≡ o →
+pinned : (form : Form) (session serial : ℕ) (question : Query) (s : State) (b : Bool) (o : Option WorldView) → world_of session s.pins ≡ o →
     (cond b (pinned_by session s o) (refused (fault.Plain code.Session) s)).reply ≡ Serial serial → IsAsked form session question s b (cond b (pinned_by session s o) (refused (fault.Plain code.Session) s))
 pinned form session serial question s false o h k = absurd cc
 pinned form session serial question s true (Some w) h k = absurd cc

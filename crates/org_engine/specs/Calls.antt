@@ -7,7 +7,8 @@ use Rattle.org_base.specs.FileName.{is_file_name}
 use Rattle.org_base.specs.declared.code.Code.TheVariants as code
 use Rattle.org_base.specs.declared.fault.Fault.{Fault}
 use Rattle.org_base.specs.declared.fault.Fault.TheVariants as fault
-use Rattle.org_engine.specs.Step.{AddFile, Answers, Command, Refused, Reply, Serial, Shown, changes, file_named, most_files, put}
+use Rattle.org_engine.specs.Computed.{FailsSurely}
+use Rattle.org_engine.specs.Step.{AddFile, Answers, Command, Complete, KeywordsOf, Refused, Reply, Serial, Shown, changes, file_named, most_files, put, text_named, text_seen}
 use Rattle.org_engine.specs.declared.changes.Completion.{Completion}
 use Rattle.org_engine.specs.World.{EngineView, FileView, KeptWorld, State}
 use Rattle.org_complete.specs.Completion.{completed, completion_part}
@@ -59,8 +60,8 @@ abbrev pub Tells : Command → EngineView → Result ℕ Fault → EngineView �
 Tells command old result new = IfOk result (λ serial. Answers command old.state (Serial serial) new.state)
 
 -- the same of a text that is given
-abbrev pub Render : {Y : Type 0} → Command → EngineView → Result (String Y) Fault → EngineView → Type 0
-Render command old result new = IfOk result (λ text. Answers command old.state (Shown (string_bytes text)) new.state)
+abbrev pub Shows : {Y : Type 0} → Command → EngineView → Result (String Y) Fault → EngineView → Type 0
+Shows command old result new = IfOk result (λ text. Answers command old.state (Shown (string_bytes text)) new.state)
 
 -- after a refusal the state is as before, and the fault is the step's
 abbrev pub RefusesSurely : {T : Type 0} → Command → EngineView → Result T Fault → EngineView → Type 0
@@ -101,6 +102,26 @@ pub record Replaces (name : List ℕ) (line : ℕ) (keyword : List ℕ) (s : Sta
   pub file : FileView
   pub found : file_named name s.world.files ≡ Some file
   pub part : completion_part file.text line keyword s.world.moment ≡ Ok (part_told done)
+
+-- a completion answers the step's serial, and the state after it is the step's
+abbrev pub IsCompleted : ℕ → List ℕ → ℕ → ℕ → List ℕ → EngineView → EngineView → Completion → Type 0
+IsCompleted session name serial line keyword old new done = Answers (Complete session name serial line keyword) old.state (Serial done.serial) new.state
+
+-- a text isn't put, and that is the step's fault
+abbrev pub PutsNone : List ℕ → List ℕ → EngineView → EngineView → Fault → Type 0
+PutsNone name text old new fault = Puts name text old (Refused fault) new
+
+-- the session, the name or the serial is refused whatever memory does
+abbrev pub FailsUnseen : {T : Type 0} → ℕ → List ℕ → ℕ → EngineView → Result T Fault → Type 0
+FailsUnseen session name serial old result = FailsSurely result (text_seen session name serial old.state.world.files)
+
+-- so is a name that no file has
+abbrev pub FailsUnknown : {T : Type 0} → List ℕ → EngineView → Result T Fault → Type 0
+FailsUnknown name e result = text_named name e.state.world.files ≡ None → result ≡ Err (fault.Plain code.Unknown)
+
+-- lines are those of the keywords of the file of that name
+abbrev pub ShowsKeywords : List ℕ → EngineView → List ℕ → Type 0
+ShowsKeywords name e lines = Answers (KeywordsOf name) e.state (Shown lines) e.state
 
 -- why no file of this name can be added, whatever its text
 abbrev pub name_fault : List ℕ → List FileView → Option Fault

@@ -1,5 +1,5 @@
 -- How many stamps views examine (profile).
-use Rattle.std.specs.Prelude.{◌≡◌, ℕ, ◌+◌, ◌-◌, List, Result, Ok, Err}
+use Rattle.std.specs.Prelude.{◌≡◌, ℕ, ◌+◌, ◌-◌, List, Option, Result, Ok, Err}
 use Rattle.org_agenda.specs.Bound.{near_count}
 use Rattle.org_agenda.specs.declared.as_of.AsOf.{AsOf}
 use Rattle.org_base.specs.Counts.{Counts}
@@ -7,10 +7,10 @@ use Rattle.org_base.specs.declared.fault.Fault.{Fault}
 use Rattle.org_index.specs.Ticks.{examined}
 use Rattle.org_inherit.specs.Scope.{Scope}
 use Rattle.org_engine.specs.Outlines.{scopes_of}
-use Rattle.org_engine.specs.Marks.{AnyStamps, NoStamps}
+use Rattle.org_engine.specs.Marks.{AnyStamps, NoStamps, ReadsAll, ReadsAllAsked, ReadsSome}
 use Rattle.org_engine.specs.Questions.{asked_agenda}
-use Rattle.org_engine.specs.Step.{ClockTable, DayAgenda, MatchList, Question, TodoList, Unread}
-use Rattle.org_engine.specs.World.{WorldView}
+use Rattle.org_engine.specs.Step.{ClockTable, DayAgenda, MatchList, Query, TodoList, Unread, world_for}
+use Rattle.org_engine.specs.World.{EngineView, KeptWorld, WorldView}
 use Rattle.org_engine.specs.declared.question.View.{View}
 use Rattle.org_engine.specs.declared.question.View.TheVariants.{Agenda, Match, Todo, Clock}
 
@@ -23,7 +23,7 @@ abbrev pub ExaminesNear : AsOf → List Scope → ℕ → ℕ → Counts → Cou
 ExaminesNear seen scopes first count old new = new ≡ examined (near_count seen.profile first (first + count - 1) seen.today scopes) old
 
 -- an agenda examines those that are near its days, and no other question any
-abbrev pub examined_for : Question → WorldView → ℕ
+abbrev pub examined_for : Query → WorldView → ℕ
 examined_for (DayAgenda first count) world = near_in_world first count world
 examined_for (TodoList file words) world = 0
 examined_for (MatchList file read) world = 0
@@ -42,9 +42,28 @@ abbrev pub examined_in : View → Result WorldView Fault → ℕ
 examined_in view (Ok world) = examined_by view world
 examined_in view (Err fault) = 0
 
+-- all sections of a world were read, and the stamps examined that are near so many days from a first one on; those that an
+-- agenda asks for by a date; those that a view asks for
+abbrev pub ReadsDays : ℕ → ℕ → KeptWorld → KeptWorld → Counts → Counts → Type 0
+ReadsDays first count old new before after = ReadsAll (near_in_world first count old.world) old new before after
+
+abbrev pub ReadsAgenda : List ℕ → ℕ → KeptWorld → KeptWorld → Counts → Counts → Type 0
+ReadsAgenda date days old new before after = ReadsAll (examined_for (asked_agenda date days) old.world) old new before after
+
+abbrev pub ReadsView : View → KeptWorld → KeptWorld → Counts → Counts → Type 0
+ReadsView view old new before after = ReadsAll (examined_by view old.world) old new before after
+
+-- the same of the world that a session asks
+abbrev pub ReadsAsked : View → Option ℕ → EngineView → EngineView → Type 0
+ReadsAsked view session old new = ReadsAllAsked (examined_in view (world_for session old.state)) session old new
+
 -- a view that is refused may have examined stamps where it is an agenda
 abbrev pub MayExamine : View → Type 0
 MayExamine (Agenda date days) = AnyStamps
 MayExamine (Todo file words) = NoStamps
 MayExamine (Match file text) = NoStamps
 MayExamine (Clock text) = NoStamps
+
+-- where memory was refused for a view, some sections may have been read, and of an agenda some stamps examined
+abbrev pub MayRead : View → KeptWorld → KeptWorld → Counts → Counts → Type 0
+MayRead view old new before after = ReadsSome (MayExamine view) old new before after

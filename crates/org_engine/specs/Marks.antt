@@ -10,14 +10,14 @@ use Rattle.org_class.specs.Ticks.{classified}
 use Rattle.org_cal.specs.declared.moment.Moment.{Moment}
 use Rattle.org_complete.specs.Completion.{completion_part}
 use Rattle.org_complete.specs.Parts.{Part}
-use Rattle.org_complete.specs.Reading.{HasReadOne}
+use Rattle.org_complete.specs.Reading.{HasReadOne, ReadsOwn}
 use Rattle.org_index.specs.Ticks.{examined}
 use Rattle.org_store.specs.Change.{IsChangedBy}
 use Rattle.org_store.specs.Counts.{have_read}
 use Rattle.org_store.specs.File.{FileView as KeptFile, IsChanged, all_marked, first_unread, marked, unread}
 use Rattle.org_store.specs.Outline.{OutlineView, outline_of}
 use Rattle.org_store.specs.declared.change.Change.{Change}
-use Rattle.org_engine.specs.Step.{file_named, with_file, with_text, without, world_for}
+use Rattle.org_engine.specs.Step.{file_named, text_seen, with_file, with_text, without, world_for}
 use Rattle.org_engine.specs.World.{EngineView, FileView, KeptWorld, Marks, PinView}
 
 -- how many sections of a world's files are still to be read
@@ -161,8 +161,8 @@ abbrev pub ClassifiesNew : List ℕ → Change → KeptWorld → Counts → Coun
 ClassifiesNew name change kept before after = after ≡ classified (new_in name change kept) before
 
 -- some of them were, none twice
-abbrev pub ClassifiesSomeNew : List ℕ → Change → KeptWorld → Counts → Counts → Type 0
-ClassifiesSomeNew name change kept before after = (n : ℕ) × (n ≤ new_in name change kept) × (after ≡ classified n before)
+abbrev pub ClassifiesSome : List ℕ → Change → KeptWorld → Counts → Counts → Type 0
+ClassifiesSome name change kept before after = (n : ℕ) × (n ≤ new_in name change kept) × (after ≡ classified n before)
 
 -- nothing was read
 abbrev pub ReadsNone : KeptWorld → KeptWorld → Counts → Counts → Type 0
@@ -297,14 +297,23 @@ pub record ReadsOne (name : List ℕ) (old new : KeptWorld) (before after : Coun
   pub world : new.world ≡ old.world
   pub marks : new.marks ≡ with_marks name read.marks old.world.files old.marks
 
+-- it was the section that begins with a line, if the line is a heading's
+pub record ReadsOwnIn (name : List ℕ) (line : ℕ) (old new : KeptWorld) (before after : Counts) : Type 0 where
+  pub one : ReadsOne name old new before after
+  pub own : ReadsOwn line one.file one.read before after
+
+-- the same of a refusal, whichever it is
+abbrev pub OwnRead : List ℕ → ℕ → KeptWorld → KeptWorld → Counts → Counts → Fault → Type 0
+OwnRead name line old new before after fault = ReadsOwnIn name line old new before after
+
 -- completing a heading replaces this in the text of the file of that name
 pub record IsCompletion (name : List ℕ) (line : ℕ) (keyword : List ℕ) (old : EngineView) (part : Part) : Type 0 where
   pub file : FileView
   pub found : file_named name old.state.world.files ≡ Some file
   pub is : completion_part file.text line keyword old.state.world.moment ≡ Ok part
 
--- a heading of the file of that name was completed: at most one section was read, and then the change is as any other, from
--- the first byte that it replaces to the last
+-- a heading of the file of that name was completed: its own section was read, if it was still to be read, and no other; then
+-- the change is as any other, from the first byte that it replaces to the last
 pub record CompletesMarks (name : List ℕ) (line : ℕ) (keyword : List ℕ) (old new : EngineView) : Type 0 where
   pub part : Part
   pub before : KeptFile
@@ -314,6 +323,7 @@ pub record CompletesMarks (name : List ℕ) (line : ℕ) (keyword : List ℕ) (o
   pub completion : IsCompletion name line keyword old part
   pub found : kept_named name old.state.world.files old.marks.world ≡ Some before
   pub one : HasReadOne before read old.counts between
+  pub own : ReadsOwn line before read old.counts between
   pub changed : IsChanged read part.at part.del part.ins new.state.serial after
   pub marks : new.marks ≡ record old.marks { world = with_marks name after.marks old.state.world.files old.marks.world }
   pub counts : new.counts ≡ classified (length (new_sections before.text part.at part.del part.ins)) between
@@ -354,9 +364,17 @@ pub record KeepsOthers (name : List ℕ) (old new : EngineView) : Type 0 where
 abbrev pub CompletesNone : List ℕ → ℕ → List ℕ → EngineView → EngineView → Type 0
 CompletesNone name line keyword old new = KeepsOthers name old new × Completes name line keyword old new
 
--- and none was classified
-abbrev pub ReadsAtMostOne : List ℕ → EngineView → EngineView → Type 0
-ReadsAtMostOne name old new = KeepsOthers name old new × CountsOne 0 old.counts new.counts
+-- a completion was refused, and memory wasn't: where the session, the name or the serial is refused nothing was read; else the
+-- heading's own section was, if it was still to be read, and no other
+pub data ReadsOwnOnly (session : ℕ) (name : List ℕ) (serial line : ℕ) (old new : EngineView) : Type 0 where
+  Unseen : (fault : Fault) → text_seen session name serial old.state.world.files ≡ Err fault → IsQuiet old new → ReadsOwnOnly session name serial line old new
+  Seen : (text : List ℕ) → text_seen session name serial old.state.world.files ≡ Ok text → (before read : KeptFile) →
+      kept_named name old.state.world.files old.marks.world ≡ Some before → ReadsOwn line before read old.counts new.counts →
+      new.marks ≡ record old.marks { world = with_marks name read.marks old.state.world.files old.marks.world } → ReadsOwnOnly session name serial line old new
+
+-- the same of a refusal, whichever it is
+abbrev pub KeepsRest : ℕ → List ℕ → ℕ → ℕ → EngineView → EngineView → Fault → Type 0
+KeepsRest session name serial line old new fault = ReadsOwnOnly session name serial line old new
 
 -- a session keeps the marks as they are
 abbrev pub PinsMarks : EngineView → EngineView → Type 0

@@ -19,13 +19,13 @@ use Rattle.org_layout.specs.declared.shown.Line.TheVariants as line
 use Rattle.org_engine.specs.Laws.{IsIn, after_all}
 use Rattle.org_engine.specs.Outlines.{scopes_of}
 use Rattle.org_engine.specs.Places.{days_shown, files_named, line_places, list_shown, table_shown}
-use Rattle.org_engine.specs.Step.{ClockTable, Command, Complete, DayAgenda, EditFile, MatchList, Question, Refused, Serial, Shown, TodoList, Unread, edited, file_named, is_session, place_in, step, render_view, world_for}
+use Rattle.org_engine.specs.Step.{ClockTable, Command, Complete, DayAgenda, EditFile, MatchList, Query, Refused, Serial, Shown, TodoList, Unread, edited, file_named, is_session, place_in, step, render_view, world_for}
 use Rattle.org_engine.specs.Views.{scopes_named}
 use Rattle.org_engine.specs.World.{FileView, State, WorldView}
 use Rattle.org_engine.specs.declared.question.Form.TheVariants.{Places, Text}
 
 -- the file that a question names for its rows: a clock table alone counts files by those that it is over
-abbrev pub named_by : Question → Option (List ℕ)
+abbrev pub named_by : Query → Option (List ℕ)
 named_by (ClockTable table) = table.file
 named_by (TodoList file words) = None
 named_by (MatchList file read) = None
@@ -33,15 +33,15 @@ named_by (DayAgenda first count) = None
 named_by (Unread fault) = None
 
 -- the files that the rows of a question are of, by the places that rows name
-abbrev pub files_for : Question → WorldView → List FileView
+abbrev pub files_for : Query → WorldView → List FileView
 files_for question world = files_named (named_by question) world.files
 
 -- and what inheritance looks at in each of them
-abbrev pub scopes_for : Question → WorldView → List Scope
+abbrev pub scopes_for : Query → WorldView → List Scope
 scopes_for question world = scopes_named (named_by question) (scopes_of world)
 
 -- whether the rows of a question show efforts
-abbrev pub has_efforts : Question → Bool
+abbrev pub has_efforts : Query → Bool
 has_efforts (ClockTable table) = table.with_effort
 has_efforts (TodoList file words) = false
 has_efforts (MatchList file read) = false
@@ -49,7 +49,7 @@ has_efforts (DayAgenda first count) = false
 has_efforts (Unread fault) = false
 
 -- what the lines of a question's view stand for
-abbrev pub lines_for : Question → WorldView → List Line
+abbrev pub lines_for : Query → WorldView → List Line
 lines_for (TodoList file words) world = list_shown (todo_listing words) (place_in file world.files) (scopes_of world)
 lines_for (MatchList file (Ok expr)) world = list_shown (Matching expr world.moment) (place_in file world.files) (scopes_of world)
 lines_for (MatchList file (Err fault)) world = []
@@ -58,14 +58,14 @@ lines_for (ClockTable table) world = table_shown table world.moment (scopes_name
 lines_for (Unread fault) world = []
 
 -- text and places are two renderings of one list of lines, and are refused alike
-pub record AreOfOneList (question : Question) (world : WorldView) : Type 0 where
+pub record AreOfOneList (question : Query) (world : WorldView) : Type 0 where
   pub text : (shown : List ℕ) → render_view Text question world ≡ Shown shown → shown ≡ flat_map (line_text (has_efforts question) (scopes_for question world)) (lines_for question world)
   pub places : (shown : List ℕ) → render_view Places question world ≡ Shown shown → shown ≡ line_places (files_for question world) (lines_for question world)
   pub answered : (shown : List ℕ) → render_view Text question world ≡ Shown shown → (places : List ℕ) × (render_view Places question world ≡ Shown places)
   pub refused : (fault : Fault) → render_view Text question world ≡ Refused fault → render_view Places question world ≡ Refused fault
 
 abbrev pub TextAndPlacesAreOfOneList : Type 0
-TextAndPlacesAreOfOneList = (question : Question) (world : WorldView) → AreOfOneList question world
+TextAndPlacesAreOfOneList = (question : Query) (world : WorldView) → AreOfOneList question world
 
 -- a row of a clock table leads to the section at a place of a file, where it is a heading's
 abbrev pub LeadsToOf : List FileView → Of → FileView → ℕ → Type 0
@@ -104,7 +104,7 @@ VersionsLeadBack = (before between : List Command) (start : State) (asked : Opti
 -- so a completion or an edit that is made from a place in an answer works on the heading that the row shows, or is refused:
 -- at the place stands the heading line of the row, in the text of the version that it names, and that version leads back
 abbrev pub PlacesLeadBack : Type 0
-PlacesLeadBack = (before between : List Command) (start : State) (asked : Option ℕ) (question : Question) (world : WorldView) (k heading : ℕ) (line : Line) (file : FileView) (place : Place) →
+PlacesLeadBack = (before between : List Command) (start : State) (asked : Option ℕ) (question : Query) (world : WorldView) (k heading : ℕ) (line : Line) (file : FileView) (place : Place) →
     start.world.files ≡ [] → start.pins ≡ [] → world_for asked (after_all before start) ≡ Ok world →
     slice_get (lines_for question world) k ≡ Some line → LeadsTo (files_for question world) line file heading →
     place_at file.text heading ≡ Some place → IsSome (entry_there file.text heading).head →

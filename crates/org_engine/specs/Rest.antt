@@ -6,7 +6,7 @@ use Rattle.org_base.specs.declared.profile.Profile.{Profile}
 use Rattle.org_cal.specs.declared.moment.Moment.{Moment}
 use Rattle.org_clocktable.specs.Request.{TableRequest}
 use Rattle.org_expression.specs.Grammar.{Expr}
-use Rattle.org_engine.specs.Step.{Command, AddFile, DropFile, EditFile, Complete, At, Inherit, SetProfile, PinWorld, Unpin, TextOf, KeywordsOf, Version, Ask, Question, ClockTable, Serial, Refused, file_named, step}
+use Rattle.org_engine.specs.Step.{Command, AddFile, DropFile, EditFile, Complete, At, Inherit, SetProfile, PinWorld, Unpin, TextOf, KeywordsOf, Version, Ask, Query, ClockTable, Serial, Refused, file_named, step}
 use Rattle.org_engine.specs.World.{FileView, State}
 use Rattle.org_engine.specs.declared.question.Form.{Form}
 use Rattle.org_engine.specs.declared.limits.TheConstants.{LAST_SERIAL, MOST_SESSIONS}
@@ -48,7 +48,7 @@ pub record LeavesTheRest (s : State) : Type 0 where
   pub moment : (moment : Moment) → (step (At moment) s).after ≡ record s { world = record s.world { moment = moment } }
   pub names : (names : List (List ℕ)) → (step (Inherit names) s).after ≡ record s { world = record s.world { inherited = names } }
   pub profile : (p : Profile) (serial : ℕ) → (step (SetProfile p) s).reply ≡ Serial serial → (step (SetProfile p) s).after ≡ record s { world = record s.world { profile = p } }
-  pub asked : (question : Question) (form : Form) (session : Option ℕ) → (step (Ask question form session) s).after ≡ s
+  pub asked : (question : Query) (form : Form) (session : Option ℕ) → (step (Ask question form session) s).after ≡ s
   pub text : (name : List ℕ) → (step (TextOf name) s).after ≡ s
   pub keywords : (name : List ℕ) → (step (KeywordsOf name) s).after ≡ s
   pub version : (step Version s).after ≡ s
@@ -71,7 +71,7 @@ CommandsLeaveTheRest = (s : State) → LeavesTheRest s × KeepsOrder s
 
 -- right after a pin, its session is answered as the current world is
 abbrev pub PinsKeepTheWorld : Type 0
-PinsKeepTheWorld = (session serial : ℕ) (question : Question) (form : Form) (s : State) → (step (PinWorld session) s).reply ≡ Serial serial →
+PinsKeepTheWorld = (session serial : ℕ) (question : Query) (form : Form) (s : State) → (step (PinWorld session) s).reply ≡ Serial serial →
     (step (Ask question form (Some session)) (step (PinWorld session) s).after).reply ≡ (step (Ask question form None) s).reply
 
 -- the state with these files alone

@@ -1,14 +1,14 @@
 //! Agendas over the files of a world.
-ghost use Rattle.std.specs.Prelude.{◌≡◌, ◌+◌, ◌-◌, ◌≤◌, None, string_bytes, IfErr, IfOk, OnOk, OnErr, IsOkUnless};
+ghost use Rattle.std.specs.Prelude.{◌≡◌, ◌+◌, ◌-◌, ◌≤◌, None, IfErr, IfOk, OnOk, OnErr, IsOkUnless};
 ghost use Rattle.org_base.specs.Codes.{memory_fault};
 ghost use Rattle.org_base.specs.Results.{GivesText, IfRefused};
 ghost use Rattle.org_agenda.specs.Bound.{near_count};
 ghost use Rattle.org_near.specs.Stamps.{AreDated};
 ghost use Rattle.org_index.specs.Ticks.{Examines};
 ghost use Rattle.org_cal.specs.declared.day.TheConstants.{LAST_DAY};
-ghost use Rattle.org_engine.specs.Questions.{IsAgendaText, asked_agenda};
-ghost use Rattle.org_engine.specs.Examined.{ExaminesNear, examined_for, near_in_world};
-ghost use Rattle.org_engine.specs.Marks.{AnyStamps, ReadsAll, ReadsNone, ReadsSome};
+ghost use Rattle.org_engine.specs.Questions.{ShowsAgenda, asked_agenda};
+ghost use Rattle.org_engine.specs.Examined.{ExaminesNear, ReadsAgenda, ReadsDays};
+ghost use Rattle.org_engine.specs.Marks.{AnyStamps, ReadsNone, ReadsSome};
 ghost use Rattle.org_engine.specs.Step.{DayAgenda, Unread};
 ghost use Rattle.org_engine.specs.Places.{IsDays, agenda_in, days_shown};
 ghost use Rattle.org_engine.specs.Views.{days_over};
@@ -38,9 +38,9 @@ pub(crate) fn dated_text<T: Text>(
     days: u64,
     form: Form,
 ) -> Result<String, Fault>
-    ensures value { IfOk result (λ text. IsAgendaText form date.now days world.old.world (string_bytes text)) }
+    ensures value { IfOk result (ShowsAgenda form date.now days world.old.world) }
     ensures refused { IfRefused result (λ fault. asked_agenda date.now days ≡ Unread fault) }
-    ensures read { OnOk result (ReadsAll (examined_for (asked_agenda date.now days) world.old.world) world.old world.new meter.old meter.new) }
+    ensures read { OnOk result (ReadsAgenda date.now days world.old world.new meter.old meter.new) }
     ensures partial { OnErr result (ReadsSome AnyStamps world.old world.new meter.old meter.new) }
     ensures uncounted { IfRefused result (λ _. ReadsNone world.old world.new meter.old meter.new) }
 {
@@ -130,7 +130,7 @@ fn days_text<T: Text>(
 ) -> Result<String, Fault>
     requires within { (1 ≤ count) × (first + count ≤ LAST_DAY + 1) }
     ensures value { GivesText result (agenda_in form first count world.old.world) }
-    ensures read { OnOk result (ReadsAll (near_in_world first count world.old.world) world.old world.new meter.old meter.new) }
+    ensures read { OnOk result (ReadsDays first count world.old world.new meter.old meter.new) }
     ensures partial { OnErr result (ReadsSome AnyStamps world.old world.new meter.old meter.new) }
     ensures memory { IsOkUnless result memory_fault }
 {

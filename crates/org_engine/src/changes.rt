@@ -2,9 +2,9 @@
 ghost use Rattle.std.specs.Prelude.{◌≡◌, IfOk, IfErr, IfSome, OnOk, OnErr, None, Some, false, string_bytes, nat_le};
 ghost use Rattle.std.specs.Str.{is_utf8};
 ghost use Rattle.org_base.specs.Results.{Gives, IfRefused};
-ghost use Rattle.org_engine.specs.Calls.{IsChangeIn, IsNewFile, Puts, Refuses, RefusesSurely, RefusesSurelyBy, RefusesName, Replaces, Tells, name_fault};
+ghost use Rattle.org_engine.specs.Calls.{FailsUnseen, IsChangeIn, IsCompleted, IsNewFile, Puts, PutsNone, Refuses, RefusesSurely, RefusesSurelyBy, RefusesName, Replaces, Tells, name_fault};
 ghost use Rattle.org_engine.specs.Computed.{FailsSurely};
-ghost use Rattle.org_engine.specs.Marks.{AddsMarks, AddsNoMarks, CompletesMarks, CompletesNone, DropsMarks, EditsMarks, EditsNoMarks, IsQuiet, PutsMarks, PutsNoMarks, ReadsAtMostOne};
+ghost use Rattle.org_engine.specs.Marks.{AddsMarks, AddsNoMarks, CompletesMarks, CompletesNone, DropsMarks, EditsMarks, EditsNoMarks, IsQuiet, PutsMarks, PutsNoMarks, KeepsRest};
 ghost use Rattle.org_engine.specs.Step.{last_serial, AddFile, Answers, Complete, DropFile, EditFile, Refused, Serial, text_seen};
 
 use crate::engine::Engine;
@@ -79,7 +79,7 @@ impl<T: Text> Engine<T> {
         ensures ok { OnOk result (IsNewFile name.now self.now.state.world.files) }
         ensures err { IfErr result (RefusesName name.now self.now.state) }
         ensures none { OnOk result (name_fault name.now self.now.state.world.files ≡ None) }
-        ensures fault { IfErr result (λ fault. name_fault name.now self.now.state.world.files ≡ Some fault) }
+        ensures fault { IfErr result (λ f. name_fault name.now self.now.state.world.files ≡ Some f) }
     {
         if !is_file_name(name.as_bytes()) {
             return Err(Fault::Plain(Code::Command));
@@ -148,7 +148,7 @@ impl<T: Text> Engine<T> {
     ) -> Result<u64, Fault>
         ensures ok { Tells (EditFile session name.now serial at del ins.now) self.old result self.new }
         ensures err { Refuses (EditFile session name.now serial at del ins.now) self.old result self.new }
-        ensures definite { FailsSurely result (text_seen session name.now serial self.old.state.world.files) }
+        ensures definite { FailsUnseen session name.now serial self.old result }
         ensures marks { OnOk result (EditsMarks name.now at del ins.now self.old self.new) }
         ensures partial { OnErr result (EditsNoMarks name.now at del ins.now self.old self.new) }
         ensures uncounted { IfRefused result (λ _. IsQuiet self.old self.new) }
@@ -176,10 +176,10 @@ impl<T: Text> Engine<T> {
     ) -> Result<u64, Fault>
         ensures ok { Tells (Complete session name.now serial line keyword.now) self.old result self.new }
         ensures err { Refuses (Complete session name.now serial line keyword.now) self.old result self.new }
-        ensures definite { FailsSurely result (text_seen session name.now serial self.old.state.world.files) }
+        ensures definite { FailsUnseen session name.now serial self.old result }
         ensures marks { OnOk result (CompletesMarks name.now line keyword.now self.old self.new) }
         ensures partial { OnErr result (CompletesNone name.now line keyword.now self.old self.new) }
-        ensures uncounted { IfRefused result (λ _. ReadsAtMostOne name.now self.old self.new) }
+        ensures refused { IfRefused result (KeepsRest session name.now serial line self.old self.new) }
     {
         let done = self.complete_and_tell(session, name, serial, line, keyword)?;
         Ok(done.serial)
@@ -195,13 +195,13 @@ impl<T: Text> Engine<T> {
         line: u64,
         keyword: &str,
     ) -> Result<Completion, Fault>
-        ensures ok { IfOk result (λ done. Answers (Complete session name.now serial line keyword.now) self.old.state (Serial done.serial) self.new.state) }
+        ensures ok { IfOk result (IsCompleted session name.now serial line keyword.now self.old self.new) }
         ensures part { IfOk result (Replaces name.now line keyword.now self.old.state) }
         ensures err { Refuses (Complete session name.now serial line keyword.now) self.old result self.new }
-        ensures definite { FailsSurely result (text_seen session name.now serial self.old.state.world.files) }
+        ensures definite { FailsUnseen session name.now serial self.old result }
         ensures marks { OnOk result (CompletesMarks name.now line keyword.now self.old self.new) }
         ensures partial { OnErr result (CompletesNone name.now line keyword.now self.old self.new) }
-        ensures uncounted { IfRefused result (λ _. ReadsAtMostOne name.now self.old self.new) }
+        ensures refused { IfRefused result (KeepsRest session name.now serial line self.old self.new) }
     {
         text_seen(&self.world, session, name, serial)?;
         let world = &mut self.world;
@@ -222,13 +222,13 @@ impl<T: Text> Engine<T> {
         })
     }
 
-    // Gives the file of a name this text, which is its own with a change, and the next serial, and answers it. `Spent`; want
+    // Gives the file of a name this text, which is its own with a change, and the next serial, and answers it. `Spent`; out
     // of memory may come at any time. After a refusal the engine is as before, but for what was counted.
     fn put(&mut self, name: &str, text: T, change: Change<'_>) -> Result<u64, Fault>
         requires is { IsChangeIn name.now change (T.content text) self.old.state.world.files }
         ensures ok { IfOk result (λ next. Puts name.now (T.content text) self.old (Serial next) self.new) }
         ensures err { OnErr result (self.new.state ≡ self.old.state) }
-        ensures refused { IfRefused result (λ f. Puts name.now (T.content text) self.old (Refused f) self.new) }
+        ensures refused { IfRefused result (PutsNone name.now (T.content text) self.old self.new) }
         ensures marks { OnOk result (PutsMarks name.now change.entry self.old self.new) }
         ensures partial { OnErr result (PutsNoMarks name.now change.entry self.old self.new) }
         ensures uncounted { IfRefused result (λ _. IsQuiet self.old self.new) }

@@ -16,7 +16,7 @@ use std::alloc::{AllocError, Global};
 impl Expression {
     /// Reads an expression (Org manual 9.6, "Matching tags and properties"). `MatchAt` exactly where the text is none,
     /// with the bytes of its longest front of whole characters that begins some expression, and then no memory is
-    /// taken. After that
+    /// taken.
     pub fn read(alloc: Global, text: &str) -> Result<Expression, Fault>
         requires { length text.now < 2 ^ 32 }
         ensures value { IfOk result (λ found. Reads (chars text.now) found) }

@@ -11,21 +11,21 @@ use Rattle.org_index.specs.Reaches.{last_day, repeats}
 use Rattle.org_index.specs.Laws.{IsNear, NearIsMeant, RangeMeets, Repeats}
 use Rattle.org_index.specs.Near.{is_near, lies_in}
 
-le_of : (a b : ℕ) → nat_le a b ≡ true → a ≤ b
+pub le_of : (a b : ℕ) → nat_le a b ≡ true → a ≤ b
 le_of a b h = grind (arith, nat_tests)
 
-le_is : (a b : ℕ) → a ≤ b → nat_le a b ≡ true
+pub le_is : (a b : ℕ) → a ≤ b → nat_le a b ≡ true
 le_is a b h = grind (arith, nat_tests)
 
-both : (a b : Bool) → a ≡ true → b ≡ true → (a && b) ≡ true
+pub both : (a b : Bool) → a ≡ true → b ≡ true → (a && b) ≡ true
 both true b h k = k
 both false b h k = absurd (true≢false (sym h))
 
-left : (a b : Bool) → a ≡ true → (a || b) ≡ true
+pub left : (a b : Bool) → a ≡ true → (a || b) ≡ true
 left true b h = refl
 left false b h = absurd (true≢false (sym h))
 
-right : (a b : Bool) → b ≡ true → (a || b) ≡ true
+pub right : (a b : Bool) → b ≡ true → (a || b) ≡ true
 right true b h = refl
 right false b h = h
 

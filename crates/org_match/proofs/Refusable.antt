@@ -9,7 +9,7 @@ use Rattle.std.proofs.lemmas.List.Elements.{All-cons, All-nil, Contains-append_r
 use Rattle.std.proofs.lemmas.Str.{IsCharBoundary-start, chars-encodes}
 use lib.Utf8.{scalar, scalars}
 use Rattle.regex_syntax.specs.Grammar.{read}
-use Rattle.regex_syntax.specs.TermMatch.{Refuses}
+use Rattle.regex_syntax.specs.Verdict.{Refuses}
 use Rattle.regex_syntax.specs.declared.error.Error as parser
 use Rattle.regex_syntax.specs.declared.error.ErrorKind.TheVariants as kind
 use Rattle.regex.specs.Patterns.{default_config}

@@ -1,5 +1,5 @@
 -- What the indexes of a file's stamps hold (profile).
-use Rattle.std.specs.Prelude.{◌≡◌, ◌<◌, ◌≤◌, ◌^◌, ℕ, ◌+◌, ◌-◌, Bool, min, nat_lt, not, if◌then◌else◌, List, [], ◌∷◌, ◌++◌, Some, length, replicate, slice_get}
+use Rattle.std.specs.Prelude.{◌≡◌, ◌<◌, ◌≤◌, ◌^◌, ℕ, ◌+◌, ◌-◌, Bool, min, nat_lt, not, if◌then◌else◌, List, [], ◌∷◌, ◌++◌, Some, Vec, length, replicate, slice_get, slice_set}
 use Rattle.std.specs.List.{between, splice, sum_by}
 use Rattle.org_base.specs.declared.profile.Profile.{Profile}
 use Rattle.org_entry.specs.declared.entry.Entry.{Entry}
@@ -113,6 +113,14 @@ pub record AreTaken (by : FileSettings) (es : List Entry) (ids : List ℕ) (old 
 -- the stamps of the entries in a range were put in, and these are the first ids
 abbrev pub HavePut : List Entry → ℕ → ℕ → List ℕ → StampIndex → StampIndex → Type 0
 HavePut es start end ids old new = ArePut old.settings.value start (between start end es) ids old new
+
+-- the same of the ids of a vector
+abbrev pub PutsIds : {Y : Type 0} → List Entry → ℕ → ℕ → StampIndex → StampIndex → Vec ℕ Y → Type 0
+PutsIds es start end old new ids = HavePut es start end ids.items old new
+
+-- the index has the stamps of entries one of which is another
+abbrev pub HasSet : List Entry → ℕ → Entry → StampIndex → StampIndex → Type 0
+HasSet es place entry old new = IsIndexOf old.settings.value (slice_set es place entry) new
 
 -- the stamps of the entries in a range were taken out
 abbrev pub HaveTaken : List Entry → ℕ → ℕ → StampIndex → StampIndex → Type 0

@@ -1,8 +1,8 @@
 //! The stamps of a file's headings, found by days.
-ghost use Rattle.std.specs.Prelude.{◌≡◌, ◌≤◌, ◌<◌, ◌+◌, ◌^◌, ◌∷◌, [], true, get_or, length, slice_set, IfOk, OnErr, OnOk, IsOkUnless};
+ghost use Rattle.std.specs.Prelude.{◌≡◌, ◌≤◌, ◌<◌, ◌+◌, ◌^◌, ◌∷◌, [], true, get_or, length, IfOk, OnErr, OnOk, IsOkUnless};
 ghost use Rattle.org_base.specs.Codes.{memory_fault};
 ghost use Rattle.org_index.specs.Ticks.{Examines};
-ghost use Rattle.org_stamp_index.specs.Index.{AreFresh, HasPut, HasTaken, HavePut, HaveTaken, IsCopy, IsIndexOf, IsReplaced};
+ghost use Rattle.org_stamp_index.specs.Index.{AreFresh, HasPut, HasSet, HasTaken, HaveTaken, IsCopy, IsIndexOf, IsReplaced, PutsIds};
 ghost use Rattle.org_stamp_index.specs.Near.{CountsNearOf, HoldNearOf};
 
 use crate::heading_ids::{add_headings, renumber_headings, splice_ids};
@@ -78,7 +78,7 @@ impl StampIndex {
     ) -> Result<(), Fault>
         requires is { IsIndexOf self.old.settings.value outline.now self.old }
         requires within { place < length outline.now }
-        ensures ok { OnOk result (IsIndexOf self.old.settings.value (slice_set outline.now place entry.now) self.new) }
+        ensures ok { OnOk result (HasSet outline.now place entry.now self.old self.new) }
         ensures settings { OnOk result (self.new.settings.value ≡ self.old.settings.value) }
         ensures memory { IsOkUnless result memory_fault }
     {
@@ -156,7 +156,7 @@ impl StampIndex {
         requires unused_ids { AreFresh self.old }
         requires order { range.now.start ≤ range.now.end }
         requires within { range.now.end ≤ length outline.now }
-        ensures ok { IfOk result (λ first_id_of. HavePut outline.now range.now.start range.now.end first_id_of.items self.old self.new) }
+        ensures ok { IfOk result (PutsIds outline.now range.now.start range.now.end self.old self.new) }
         ensures memory { IsOkUnless result memory_fault }
     {
         let settings = self.settings.clone()?;

@@ -1,5 +1,6 @@
 pub mod Begun
 pub mod Change
+pub mod Context
 pub mod Counts
 pub mod File
 pub mod Held

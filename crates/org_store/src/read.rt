@@ -4,12 +4,11 @@ ghost use Rattle.std.specs.List.{count_by};
 ghost use Rattle.org_base.specs.Codes.{memory_fault};
 ghost use Rattle.org_base.specs.Counts.{ticked};
 ghost use Rattle.org_base.specs.Results.{Gives, GivesItems};
-ghost use Rattle.org_base.specs.Spans.{bytes_in};
 ghost use Rattle.org_base.specs.declared.meter.Tick.TheVariants.{Read};
 ghost use Rattle.org_class.specs.Classes.{section_classes};
-ghost use Rattle.org_store.specs.Begun.{section_of};
+ghost use Rattle.org_store.specs.Context.{HasReadAt, SaysPart, all_sections, kept_with, part_of, read_of, read_there};
 ghost use Rattle.org_store.specs.Counts.{SomeRead, have_read};
-ghost use Rattle.org_store.specs.File.{AllSay, AreOf, Says, with_read, pending_one, read_section, read_sections, read_part};
+ghost use Rattle.org_store.specs.File.{AllSay, AreOf, pending_one};
 ghost use Rattle.org_store.specs.Sections.{is_pending};
 
 use crate::section::Section;
@@ -33,8 +32,8 @@ fn read_one<T: Text>(
     section: &Section,
 ) -> Result<Section, Fault>
     requires within { span.at + span.len ≤ length (T.content context.now.text.now) }
-    requires belongs { section.now.classes ≡ section_classes (bytes_in (T.content context.now.text.now) span) }
-    ensures value { Gives result (read_part context.now.settings.now (T.content context.now.text.now) span section.now) }
+    requires belongs { section.now.classes ≡ section_classes (part_of T.content context.now span) }
+    ensures value { Gives result (kept_with T.content context.now span section.now) }
     ensures counts { meter.new ≡ ticked Read meter.old }
     ensures memory { IsOkUnless result memory_fault }
 {
@@ -52,7 +51,7 @@ fn read_at<T: Text>(
 ) -> Result<Section, Fault>
     requires sections_of_text { AreOf (T.content context.now.text.now) list.now }
     requires within { place < length list.now }
-    ensures value { Gives result (read_section context.now.settings.now (section_of (T.content context.now.text.now) place)) }
+    ensures value { Gives result (read_there T.content context.now place) }
     ensures counts { meter.new ≡ ticked Read meter.old }
     ensures memory { IsOkUnless result memory_fault }
 {
@@ -71,7 +70,7 @@ pub(crate) fn read_in<T: Text>(
 ) -> Result<(), Fault>
     requires sections_of_text { AreOf (T.content context.now.text.now) sections.old }
     requires within { place < length sections.old }
-    ensures ok { OnOk result (sections.new ≡ with_read context.now.settings.now (T.content context.now.text.now) place sections.old) }
+    ensures ok { OnOk result (HasReadAt T.content context.now place sections.old sections.new) }
     ensures err { OnErr result (sections.new ≡ sections.old) }
     ensures counts { meter.new ≡ ticked Read meter.old }
     ensures memory { IsOkUnless result memory_fault }
@@ -92,7 +91,7 @@ pub(crate) fn all_read<T: Text>(
 ) -> Result<Sections, Fault>
     requires sections_of_text { AreOf (T.content context.now.text.now) sections }
     requires says { AllSay context.now.settings.now (T.content context.now.text.now) sections }
-    ensures value { Gives result (read_sections context.now.settings.now (T.content context.now.text.now)) }
+    ensures value { Gives result (all_sections T.content context.now) }
     ensures counts { OnOk result (meter.new ≡ have_read (count_by is_pending sections) meter.old) }
     ensures partial { OnErr result (SomeRead (count_by is_pending sections) meter.old meter.new) }
     ensures memory { IsOkUnless result memory_fault }
@@ -115,7 +114,7 @@ fn read_singly<T: Text>(
 ) -> Result<Sections, Fault>
     requires sections_of_text { AreOf (T.content context.now.text.now) sections }
     requires says { AllSay context.now.settings.now (T.content context.now.text.now) sections }
-    ensures value { Gives result (read_sections context.now.settings.now (T.content context.now.text.now)) }
+    ensures value { Gives result (all_sections T.content context.now) }
     ensures counts { OnOk result (meter.new ≡ have_read (count_by is_pending sections) meter.old) }
     ensures partial { OnErr result (SomeRead (count_by is_pending sections) meter.old meter.new) }
     ensures memory { IsOkUnless result memory_fault }
@@ -138,7 +137,7 @@ fn read_in_order<T: Text>(
 ) -> Result<Vec<Section>, Fault>
     requires sections_of_text { AreOf (T.content context.now.text.now) list.now }
     requires says { AllSay context.now.settings.now (T.content context.now.text.now) list.now }
-    ensures value { GivesItems result (read_sections context.now.settings.now (T.content context.now.text.now)) }
+    ensures value { GivesItems result (all_sections T.content context.now) }
     ensures counts { OnOk result (meter.new ≡ have_read (count_by is_pending list.now) meter.old) }
     ensures partial { OnErr result (SomeRead (count_by is_pending list.now) meter.old meter.new) }
     ensures memory { IsOkUnless result memory_fault }
@@ -168,10 +167,10 @@ fn read_or_shared<T: Text>(
     section: &Section,
 ) -> Result<Section, Fault>
     requires within { span.at + span.len ≤ length (T.content context.now.text.now) }
-    requires len { section.now.len ≡ length (bytes_in (T.content context.now.text.now) span) }
-    requires belongs { section.now.classes ≡ section_classes (bytes_in (T.content context.now.text.now) span) }
-    requires says { Says context.now.settings.now (bytes_in (T.content context.now.text.now) span) section.now }
-    ensures value { Gives result (read_section context.now.settings.now (bytes_in (T.content context.now.text.now) span)) }
+    requires len { section.now.len ≡ length (part_of T.content context.now span) }
+    requires belongs { section.now.classes ≡ section_classes (part_of T.content context.now span) }
+    requires says { SaysPart T.content context.now span section.now }
+    ensures value { Gives result (read_of T.content context.now span) }
     ensures counts { meter.new ≡ have_read (pending_one section.now) meter.old }
     ensures memory { IsOkUnless result memory_fault }
 {

@@ -9,7 +9,7 @@ use Rattle.org_base.specs.declared.fault.Fault.{Fault}
 use Rattle.org_base.specs.declared.fault.Fault.TheVariants.{Plain}
 use Rattle.org_engine.specs.Questions.{AsksOf}
 use Rattle.org_engine.specs.declared.question.Form.{Form}
-use Rattle.org_engine.specs.Step.{Question, answer, render_view, world_for}
+use Rattle.org_engine.specs.Step.{Query, answer, render_view, world_for}
 use Rattle.org_engine.specs.Step as step
 use Rattle.org_engine.proofs.AnswerLemmas.{same_clock, same_match}
 use Rattle.org_engine.specs.World.{State, WorldView}
@@ -25,7 +25,7 @@ use Rattle.org_wire.specs.declared.reply.Reply.{Reply}
 use Rattle.org_wire.specs.declared.run.End.{End}
 
 -- the answer to a question, as it is written
-abbrev send : Form → Question → WorldView → Reply
+abbrev send : Form → Query → WorldView → Reply
 send form question world = shown (render_view form question world)
 
 -- no pattern was refused
@@ -33,10 +33,10 @@ built : (r : step.Reply) → IsSettled (shown r) → r ≢ step.Refused (Plain c
 built r settled is = settled.1 (ap shown is)
 
 -- views: what is asked has one answer, whether or not its world can be asked
-abbrev IsOneAnswer : Form → (ℕ → Question → Type 0) → Type 0
-IsOneAnswer form asks = (day : ℕ) (p q : Question) (world : WorldView) → asks day p → asks day q → IsSettled (send form p world) → IsSettled (send form q world) → render_view form p world ≡ render_view form q world
+abbrev IsOneAnswer : Form → (ℕ → Query → Type 0) → Type 0
+IsOneAnswer form asks = (day : ℕ) (p q : Query) (world : WorldView) → asks day p → asks day q → IsSettled (send form p world) → IsSettled (send form q world) → render_view form p world ≡ render_view form q world
 
-one_answer : (form : Form) (asks : ℕ → Question → Type 0) → IsOneAnswer form asks → (w : Result WorldView Fault) (p q : Question) → AsksOf asks w p → AsksOf asks w q → IsSettled (shown (answer form p w)) → IsSettled (shown (answer form q w)) →
+one_answer : (form : Form) (asks : ℕ → Query → Type 0) → IsOneAnswer form asks → (w : Result WorldView Fault) (p q : Query) → AsksOf asks w p → AsksOf asks w q → IsSettled (shown (answer form p w)) → IsSettled (shown (answer form q w)) →
     answer form p w ≡ answer form q w
 one_answer form asks one (Err f) p q a b s t = refl
 one_answer form asks one (Ok world) p q a b s t = one world.moment.day p q world a b s t
@@ -57,7 +57,7 @@ module _ (second : Bool) where
           state = after ∙ ap (λ c. (step.step c old).after) same ∙ sym behind;
         }
 
-    by_view : (asks : ℕ → Question → Type 0) (request : Request) → IsOneAnswer request.form asks → (said other : step.Command) → MeansView asks request old said → MeansView asks request old other →
+    by_view : (asks : ℕ → Query → Type 0) (request : Request) → IsOneAnswer request.form asks → (said other : step.Command) → MeansView asks request old said → MeansView asks request old other →
         a ≡ shown (step.step said old).reply → mid ≡ (step.step said old).after → b ≡ shown (step.step other old).reply → mid' ≡ (step.step other old).after → Same a b mid mid'
     by_view asks request one said other (p, asked, is) (q, also, that) am after bm behind =
         let w : Result WorldView Fault = world_for request.session old in

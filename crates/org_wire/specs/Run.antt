@@ -33,9 +33,9 @@ moment_command None = step.Ask (step.Unread date_fault) form.Text None
 moment_command (Some moment) = step.At moment
 
 -- the question for which a view stands, asked of the current world or of the one that a session keeps, on that one's day
-abbrev pub MeansView : (ℕ → step.Question → Type 0) → Request → State → step.Command → Type 0
+abbrev pub MeansView : (ℕ → step.Query → Type 0) → Request → State → step.Command → Type 0
 MeansView asks request s said =
-    (question : step.Question) × AsksOf asks (step.world_for request.session s) question × (said ≡ step.Ask question request.form request.session)
+    (question : step.Query) × AsksOf asks (step.world_for request.session s) question × (said ≡ step.Ask question request.form request.session)
 
 -- the engine's command
 abbrev pub Means : Command → State → step.Command → Type 0
@@ -156,6 +156,10 @@ broken = Stopped Device
 -- the end where there was no memory to begin with
 abbrev pub unbegun : End
 unbegun = Stopped Memory
+
+-- a run that hasn't begun leaves its reader, its writer and its engine as they were
+abbrev pub AreUntouched : {R W : Type 0} → R → R → W → W → EngineView → EngineView → Type 0
+AreUntouched reader left writer written old new = (left ≡ reader) × (written ≡ writer) × (new ≡ old)
 
 -- a run over a stream: the whole of it, or up to the first failed call
 pub record IsRun (second : Bool) (says : List ℕ → Line) (bytes : List ℕ) (old : State) (end : End) (new : State) (had has : Option (List ℕ)) : Type 0 where

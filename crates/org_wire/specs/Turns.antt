@@ -77,7 +77,7 @@ told_text (Err fault) = reply.Refused fault
 
 -- the answer to a view, or out of memory with nothing changed
 pub record IsViewServed (view : View) (request : Request) (old : State) (answer : Reply) (new : State) : Type 0 where
-  pub done : (answer ≡ out_of_memory → ⊥) → (question : step.Question) × AsksOf (Asks view) (step.world_for request.session old) question
+  pub done : (answer ≡ out_of_memory → ⊥) → (question : step.Query) × AsksOf (Asks view) (step.world_for request.session old) question
       × (answer ≡ shown (step.step (step.Ask question request.form request.session) old).reply) × (new ≡ (step.step (step.Ask question request.form request.session) old).after)
   pub memory : answer ≡ out_of_memory → new ≡ old
 

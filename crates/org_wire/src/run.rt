@@ -5,7 +5,7 @@ ghost use Rattle.org_wire.specs.Counting.{CountsAlong};
 ghost use Rattle.org_wire.specs.Devices.{most_reads, StaysBounded, IsAnyBroken};
 ghost use Rattle.org_wire.specs.Input.{left, held};
 ghost use Rattle.org_wire.specs.Replies.{CountsWrite, fault_bytes, reply_bytes, BreaksOff, WritesTo, device_fault};
-ghost use Rattle.org_wire.specs.Run.{AnswersAllSpelled, IsSpelledRun, broken, unbegun};
+ghost use Rattle.org_wire.specs.Run.{AnswersAllSpelled, AreUntouched, IsSpelledRun, broken, unbegun};
 ghost use Rattle.org_wire.specs.Stream.{is_second};
 ghost use Rattle.org_wire.specs.Turns.{AnswersAllRead, EndsAt, IsReadRun};
 
@@ -65,7 +65,7 @@ pub fn run<R: Read, W: Write, T: Text>(
     ensures taken { result ≡ broken → writer.new.failed ≡ 0 →
         AnswersAllSpelled (is_second options.protocol) W.contents (R.remaining reader.old.inner) writer.old engine.old
         (R.remaining reader.new.inner) writer.new engine.new }
-    ensures memory { result ≡ unbegun → (reader.new ≡ reader.old) × (writer.new ≡ writer.old) × (engine.new ≡ engine.old) }
+    ensures memory { result ≡ unbegun → AreUntouched reader.old reader.new writer.old writer.new engine.old engine.new }
     ensures device { result ≡ broken → IsAnyBroken reader.new writer.new }
     ensures fine { result ≢ broken → (reader.new.failed ≡ 0) × (writer.new.failed ≡ 0) }
     ensures flushed { result ≢ broken → writer.old.is_flushed ≡ true → writer.new.is_flushed ≡ true }
@@ -92,7 +92,7 @@ pub fn run_counted<R: Read, W: Write, T: Text>(
         (R.remaining reader.new.inner) writer.new engine.new }
     ensures counts { result ≢ unbegun →
         CountsAlong options.idle (is_second options.protocol) (R.remaining reader.old.inner) engine.old engine.new }
-    ensures memory { result ≡ unbegun → (reader.new ≡ reader.old) × (writer.new ≡ writer.old) × (engine.new ≡ engine.old) }
+    ensures memory { result ≡ unbegun → AreUntouched reader.old reader.new writer.old writer.new engine.old engine.new }
     ensures device { result ≡ broken → IsAnyBroken reader.new writer.new }
     ensures fine { result ≢ broken → (reader.new.failed ≡ 0) × (writer.new.failed ≡ 0) }
     ensures flushed { result ≢ broken → writer.old.is_flushed ≡ true → writer.new.is_flushed ≡ true }

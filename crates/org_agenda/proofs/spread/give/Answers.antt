@@ -16,7 +16,7 @@ loop-turn-preserved c =
     record {
       given = given_more c.args.as_of.now c.args.sources.now c.args.first c.args.place c.args.places.now c.loop-turn.places c.loop-turn.next c.next_shown-day.result inv.given
           (omega (arith, c.number-next.ensures.value, c.number-next.ensures.first)) c.requires.days c.requires.place c.index-sources-place.result c.index-sources-place.is day.none
-          c.add.new.self _ (omega (arith, c.number.ensures.value, day.late, inv.late)) day.late (omega (arith, c.if-ahead-count.false, c.count.ensures)) c.in_ok-add.ensures;
-      late = omega (arith, day.late, inv.late);
+          c.add.new.self _ (omega (arith, c.number.ensures.value, day.not_before, inv.late)) day.not_before (omega (arith, c.if-ahead-count.false, c.count.ensures)) c.in_ok-add.ensures;
+      late = omega (arith, day.not_before, inv.late);
       most = omega (arith, c.if-ahead-count.false, c.count.ensures, c.number.ensures.value, inv.given.count, c.requires.days);
     }

@@ -2,7 +2,8 @@
 use Rattle.std.proofs.Common.{◌∙◌, ap, sym, refl}
 use Rattle.org_complete.specs.Completion.{completed, completed_at, completion_part, part_at}
 use Rattle.org_complete.proofs.CompleteLemmas.{completed_there, no_heading, part_same, part_there, revises_same}
-use Rattle.org_complete.proofs.ReadingLemmas.{none_read, one_read}
+use Rattle.org_complete.proofs.ReadingLemmas.{none_own, none_read, ok_own, one_read, refused_own}
+use Rattle.org_complete.proofs.StartLemmas.{none_at_start, start_in}
 use Rattle.org_store.specs.File.{FileView}
 use Rattle.org_complete.proofs.completion.complete.Goals as goal
 
@@ -11,6 +12,28 @@ returns-in_default-clause-value g c = λ _. no_heading c.args.file.now.text c.ar
 
 pub returns-in_default-clause-read : goal.returns-in_default-clause-read
 returns-in_default-clause-read g c = none_read c.args.file.now c.args.meter.now
+
+pub returns-in_default-clause-refused : goal.returns-in_default-clause-refused
+returns-in_default-clause-refused g c = λ _. none_own c.args.line c.args.file.now c.args.meter.now (c.in_default.ensures.none refl)
+
+pub has_heading_at-requires : goal.has_heading_at-requires
+has_heading_at-requires g c = record { within = start_in c.args.file.now.text (g.T.Text.content c.text.result.now) c.in-Some.place c.start.result c.text.ensures.value c.start.ensures.value }
+
+pub returns-then-not-has_heading_at-clause-value : goal.returns-then-not-has_heading_at-clause-value
+returns-then-not-has_heading_at-clause-value g c = λ _. no_heading c.args.file.now.text c.args.line c.args.keyword.now c.args.moment
+    (none_at_start c.args.file.now.text (g.T.Text.content c.text.result.now) c.args.line c.in-Some.place c.start.result c.has_heading_at.result c.in-Some.ensures.some c.text.ensures.value c.start.ensures.value c.has_heading_at.ensures.value c.if-not-has_heading_at.true)
+
+pub returns-then-not-has_heading_at-clause-refused : goal.returns-then-not-has_heading_at-clause-refused
+returns-then-not-has_heading_at-clause-refused g c = λ _. none_own c.args.line c.args.file.now c.args.meter.now
+    (none_at_start c.args.file.now.text (g.T.Text.content c.text.result.now) c.args.line c.in-Some.place c.start.result c.has_heading_at.result c.in-Some.ensures.some c.text.ensures.value c.start.ensures.value c.has_heading_at.ensures.value c.if-not-has_heading_at.true)
+
+pub returns-clause-exact : goal.returns-clause-exact
+returns-clause-exact g c =
+    ok_own c.args.line c.args.file.now c.read.new.self c.in-Some.place c.args.meter.now c.read.new.meter c.complete_section.result c.in-Some.ensures.some c.in_ok-read.ensures.ok c.in_ok-read.ensures.counts
+
+pub returns-clause-refused : goal.returns-clause-refused
+returns-clause-refused g c =
+    refused_own c.args.line c.args.file.now c.read.new.self c.in-Some.place c.args.meter.now c.read.new.meter c.complete_section.result c.in-Some.ensures.some c.in_ok-read.ensures.ok c.in_ok-read.ensures.counts
 
 pub returns-clause-value : goal.returns-clause-value
 returns-clause-value g c =

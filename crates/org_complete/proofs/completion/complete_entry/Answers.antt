@@ -18,7 +18,7 @@ pub keyword_span-span-requires : goal.keyword_span-span-requires
 keyword_span-span-requires g c =
     let t = c.args.file.now.text in
     let settings = file_settings t in
-    let own : IsEntryOf t c.args.place settings c.args.entry.now = record { utf8 = c.text_of-text.ensures.utf8; fits = c.text_of-text.ensures.fits; within = c.requires.there.section; is = c.requires.entry; headed = c.requires.headed } in
+    let own : IsEntryOf t c.args.place settings c.args.entry.now = record { utf8 = c.text_of-text.ensures.utf8; small = c.text_of-text.ensures.fits; within = c.requires.there.section; is = c.requires.entry; headed = c.requires.headed } in
     let change = change_is t c.args.place settings c.args.entry.now c.args.old c.args.plan own c.requires.plan in
     let fits = change.line_fits in
     record { fits = omega (arith, ap length c.line.ensures.value, fits) }
@@ -51,7 +51,7 @@ pub revise-requires : goal.revise-requires
 revise-requires g c =
     let t = c.args.file.now.text in
     let settings = file_settings t in
-    let own : IsEntryOf t c.args.place settings c.args.entry.now = record { utf8 = c.text_of-text.ensures.utf8; fits = c.text_of-text.ensures.fits; within = c.requires.there.section; is = c.requires.entry; headed = c.requires.headed } in
+    let own : IsEntryOf t c.args.place settings c.args.entry.now = record { utf8 = c.text_of-text.ensures.utf8; small = c.text_of-text.ensures.fits; within = c.requires.there.section; is = c.requires.entry; headed = c.requires.headed } in
     let change = change_is t c.args.place settings c.args.entry.now c.args.old c.args.plan own c.requires.plan in
     let span = c.keyword_span-span.ensures.value ∙ ap (λ (l : List ℕ). keyword_span l c.args.old) c.line.ensures.value in
     let part = change.part in

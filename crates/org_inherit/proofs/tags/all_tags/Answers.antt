@@ -43,8 +43,8 @@ returns-clause-value c =
     ∙ c.loop-source.invariant
     ∙ ap (λ v. fold with_tag [] (file ++ flat_map (own_tags_at es) v)) (take_all k line (omega (arith, n, c.loop-source-test.false)))
 
-pub returns-then-not-has_any_tags-clause-value : goal.returns-then-not-has_any_tags-clause-value
-returns-then-not-has_any_tags-clause-value c =
+pub returns-then-not-tagged-clause-value : goal.returns-then-not-tagged-clause-value
+returns-then-not-tagged-clause-value c =
     let es = c.args.outline.now in
     let none = none_tagged es c.args.place (sym c.requires.tagged ∙ c.if-not-tagged.true) in
     c.into_texts.ensures.value ∙ c.in_ok-add_all.ensures.ok ∙ ap (λ v. fold with_tag v c.args.file_tags.now) c.new-tags.ensures.value

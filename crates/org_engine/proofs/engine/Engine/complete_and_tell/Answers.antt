@@ -2,8 +2,9 @@ use Rattle.std.proofs.Common.{◌≡◌, refl}
 use Rattle.std.specs.Prelude.{Ok}
 use Rattle.org_complete.specs.Parts.{Part}
 use Rattle.org_complete.specs.Written.{part_of}
+use Rattle.org_engine.specs.Marks.{ReadsOwnOnly, Unseen}
 use Rattle.org_engine.specs.Step.{text_seen}
-use Rattle.org_engine.proofs.CompletedLemmas.{completed_few, completed_marks, completed_none, completed_quiet, none_completed}
+use Rattle.org_engine.proofs.CompletedLemmas.{completed_few, completed_err, completed_marks, completed_none, completed_own, none_completed}
 use Rattle.org_engine.proofs.MarkLemmas.{on_err, refused_so}
 use Rattle.org_engine.proofs.PassedLemmas.{quiet_passed}
 use Rattle.org_engine.proofs.SureLemmas.{sure_fine, sure_passed}
@@ -17,16 +18,26 @@ returns-in_err-text-clause-partial g c =
     let now = c.self.inside in
     on_err c.from_residual-in_err-text.result (rw (← c.self.view_is) (completed_none c.args.name.now c.args.line c.args.keyword.now now.world c.complete_heading.new.self now.pins now.serial now.meter c.complete_heading.new.meter c.in_err-text.ensures.read))
 
-pub returns-in_err-text-clause-uncounted : goal.returns-in_err-text-clause-uncounted
-returns-in_err-text-clause-uncounted g c =
+pub returns-in_err-text_seen-clause-refused : goal.returns-in_err-text_seen-clause-refused
+returns-in_err-text_seen-clause-refused g c = refused_so _ c.from_residual.result (rw (← c.self.view_is) (Unseen c.in_err-text_seen.field-0.0 c.in_err-text_seen.ensures.err (refl, refl)))
+
+pub returns-in_err-text-clause-err : goal.returns-in_err-text-clause-err
+returns-in_err-text-clause-err g c =
     let now = c.self.inside in
-    refused_so _ c.from_residual-in_err-text.result (rw (← c.self.view_is) (completed_quiet c.args.name.now c.args.line c.args.keyword.now now.world c.complete_heading.new.self now.pins now.serial now.meter c.complete_heading.new.meter c.in_err-text.ensures.read _ (refl, refl)))
+    let seen : text_seen c.args.session c.args.name.now c.args.serial now.world.world.files ≡ Ok (g.T.Text.content c.in_ok-text_seen.field-0.now) = c.in_ok-text_seen.ensures.ok in
+    rw (← c.self.view_is) (completed_err c.args.name.now c.args.line c.args.keyword.now now.world c.complete_heading.new.self now.pins now.serial now.meter c.complete_heading.new.meter c.in_err-text.ensures.read g.T.Text.content c.args.session c.args.serial _ c.in_err-text.field-0.0 c.from_residual-in_err-text.result seen c.in_err-text.ensures.value c.from_residual-in_err-text.ensures.1)
+
+pub returns-in_err-text-clause-refused : goal.returns-in_err-text-clause-refused
+returns-in_err-text-clause-refused g c =
+    let now = c.self.inside in
+    let seen : text_seen c.args.session c.args.name.now c.args.serial now.world.world.files ≡ Ok (g.T.Text.content c.in_ok-text_seen.field-0.now) = c.in_ok-text_seen.ensures.ok in
+    rw (← c.self.view_is) (quiet_passed _ _ c.from_residual-in_err-text.result c.in_err-text.field-0.0 c.from_residual-in_err-text.ensures.1 c.in_err-text.ensures.refused (λ own. completed_own c.args.name.now c.args.line c.args.keyword.now now.world c.complete_heading.new.self now.pins now.serial now.meter c.complete_heading.new.meter own.one c.args.session c.args.serial _ _ seen own.own (refl, refl)))
 
 pub returns-clause-marks : goal.returns-clause-marks
 returns-clause-marks g c =
     let now = c.self.inside in
     let made : ◌≡◌ {A = Part} (record { at = c.in_ok-text.field-0.at; del = c.in_ok-text.field-0.del; ins = c.as_str-part.result.now }) (part_of c.in_ok-text.field-0) = λ i. record { at = c.in_ok-text.field-0.at; del = c.in_ok-text.field-0.del; ins = c.as_str-part.ensures.value i } in
-    rw (← c.self.view_is) (completed_marks c.args.name.now c.args.line c.args.keyword.now now.world c.complete_heading.new.self now.pins now.serial now.meter c.complete_heading.new.meter c.in_ok-text.ensures.read g.T.Text.content c.in_ok-text.field-0 c.in_ok-text.ensures.change (record { at = c.in_ok-text.field-0.at; del = c.in_ok-text.field-0.del; ins = c.as_str-part.result }) made c.put.new.self c.in_ok-serial.ensures.marks)
+    rw (← c.self.view_is) (completed_marks c.args.name.now c.args.line c.args.keyword.now now.world c.complete_heading.new.self now.pins now.serial now.meter c.complete_heading.new.meter c.in_ok-text.ensures.exact.one g.T.Text.content c.in_ok-text.field-0 c.in_ok-text.ensures.change (record { at = c.in_ok-text.field-0.at; del = c.in_ok-text.field-0.del; ins = c.as_str-part.result }) made c.put.new.self c.in_ok-text.ensures.exact.own c.in_ok-serial.ensures.marks)
 
 pub returns-in_err-serial-clause-partial : goal.returns-in_err-serial-clause-partial
 returns-in_err-serial-clause-partial g c =
@@ -47,7 +58,9 @@ returns-in_err-text-clause-definite g c =
     let h : text_seen c.args.session c.args.name.now c.args.serial c.self.inside.world.world.files ≡ Ok (g.T.Text.content c.in_ok-text_seen.field-0.now) = c.in_ok-text_seen.ensures.ok in
     rw (← c.self.view_is) (sure_fine c.from_residual-in_err-text.result _ _ h)
 
-pub returns-in_err-serial-clause-uncounted : goal.returns-in_err-serial-clause-uncounted
-returns-in_err-serial-clause-uncounted g c =
+pub returns-in_err-serial-clause-refused : goal.returns-in_err-serial-clause-refused
+returns-in_err-serial-clause-refused g c =
     let now = c.self.inside in
-    rw (← c.self.view_is) (quiet_passed _ _ c.from_residual-in_err-serial.result c.in_err-serial.field-0.0 c.from_residual-in_err-serial.ensures.1 c.in_err-serial.ensures.uncounted (λ quiet. completed_quiet c.args.name.now c.args.line c.args.keyword.now now.world c.complete_heading.new.self now.pins now.serial now.meter c.complete_heading.new.meter c.in_ok-text.ensures.read c.put.new.self quiet))
+    let seen : text_seen c.args.session c.args.name.now c.args.serial now.world.world.files ≡ Ok (g.T.Text.content c.in_ok-text_seen.field-0.now) = c.in_ok-text_seen.ensures.ok in
+    let exact = c.in_ok-text.ensures.exact in
+    rw (← c.self.view_is) (quiet_passed _ _ c.from_residual-in_err-serial.result c.in_err-serial.field-0.0 c.from_residual-in_err-serial.ensures.1 c.in_err-serial.ensures.uncounted (λ quiet. completed_own c.args.name.now c.args.line c.args.keyword.now now.world c.complete_heading.new.self now.pins now.serial now.meter c.complete_heading.new.meter exact.one c.args.session c.args.serial _ c.put.new.self seen exact.own quiet))

@@ -1,4 +1,4 @@
-use Rattle.std.proofs.Common.{◌≡◌, ◌∙◌, arith, subst, sym, true, true≢false}
+use Rattle.std.proofs.Common.{◌≡◌, ◌∙◌, [], arith, subst, sym, true, true≢false}
 use Rattle.std.specs.Prelude.{IfOk, Ok, Some, is_some}
 use Rattle.indexmap.specs.Layout.{length-set_value_at}
 use Rattle.org_complete.specs.Completion.{completed, completion_part}
@@ -6,8 +6,9 @@ use Rattle.org_complete.specs.Written.{IsRevision, Revises, part_of}
 use Rattle.org_engine.specs.Files.{files_of, marks_of}
 use Rattle.org_engine.specs.Step.{file_named}
 use Rattle.org_engine.specs.World.{KeptWorld}
-use Rattle.org_engine.proofs.FilesLemmas.{is_some-file_named, kept_at, kept_text, marks_of-set, placed}
-use Rattle.org_engine.proofs.MarkLemmas.{completion_in, files_of-same, one_same, there_is_one}
+use Rattle.org_engine.proofs.FilesLemmas.{is_some-file_named, kept_at, kept_text, placed}
+use Rattle.org_engine.proofs.CompletedLemmas.{reads_one, reads_own}
+use Rattle.org_engine.proofs.MarkLemmas.{completion_in, there_is_one, where_ok, where_refused}
 use Rattle.org_engine.proofs.world.World.complete_heading.Goals as goal
 
 pub unreachable-requires : goal.unreachable-requires
@@ -43,19 +44,13 @@ returns-clause-change g c =
     (subst (λ t. IfOk c.complete.result (λ v. completion_part t c.args.line c.args.keyword.now c.self.inside.moment ≡ Ok (part_of v))) text c.complete.ensures.part))
 
 pub returns-clause-read : goal.returns-clause-read
-returns-clause-read g c =
-    let entries = c.self.inside.files.entries in
-    let name = c.args.name.now in
-    let place = c.in-Some.place in
-    let new = c.complete.new.file in
-    let key = placed _ _ _ (sym c.in-Some.ensures.index) in
-    let at = c.index_mut-file.ensures.value in
-    let same = one_same _ new c.args.meter.now c.complete.new.meter c.complete.ensures.read in
-    rw (← c.self.view_is) (record {
-      file = _;
-      read = new;
-      found = kept_at name entries place _ key c.in-Some.ensures.within at;
-      one = c.complete.ensures.read;
-      world = λ i. record { files = files_of-same entries place _ new at same.0 same.1 i; moment = c.self.inside.moment; inherited = c.self.inside.inherited; profile = c.self.inside.profile };
-      marks = marks_of-set name entries place new key c.in-Some.ensures.within;
-    })
+returns-clause-read g c = rw (← c.self.view_is) (reads_one c.args.name.now (record { files = []; moment = c.self.inside.moment; inherited = c.self.inside.inherited; profile = c.self.inside.profile }) c.self.inside.files.entries c.in-Some.place _ c.complete.new.file c.args.meter.now c.complete.new.meter
+    (placed _ _ _ (sym c.in-Some.ensures.index)) c.in-Some.ensures.within c.index_mut-file.ensures.value c.complete.ensures.read)
+
+pub returns-clause-exact : goal.returns-clause-exact
+returns-clause-exact g c = rw (← c.self.view_is) (where_ok c.complete.result (reads_own c.args.name.now c.args.line (record { files = []; moment = c.self.inside.moment; inherited = c.self.inside.inherited; profile = c.self.inside.profile }) c.self.inside.files.entries c.in-Some.place _ c.complete.new.file c.args.meter.now c.complete.new.meter
+    (placed _ _ _ (sym c.in-Some.ensures.index)) c.in-Some.ensures.within c.index_mut-file.ensures.value c.complete.ensures.read) c.complete.ensures.exact)
+
+pub returns-clause-refused : goal.returns-clause-refused
+returns-clause-refused g c = rw (← c.self.view_is) (where_refused c.complete.result (reads_own c.args.name.now c.args.line (record { files = []; moment = c.self.inside.moment; inherited = c.self.inside.inherited; profile = c.self.inside.profile }) c.self.inside.files.entries c.in-Some.place _ c.complete.new.file c.args.meter.now c.complete.new.meter
+    (placed _ _ _ (sym c.in-Some.ensures.index)) c.in-Some.ensures.within c.index_mut-file.ensures.value c.complete.ensures.read) c.complete.ensures.refused)

@@ -2,7 +2,7 @@ use Rattle.std.proofs.Common.{List, ap, map, subst, ◌∙◌}
 use Rattle.org_base.specs.Results.{GivesItems}
 use Rattle.org_clocktable.specs.Counted.{Counted, counted_of}
 use Rattle.org_engine.specs.Places.{steps_shown}
-use Rattle.org_engine.proofs.table.TableShows.lines.Goals as goal
+use Rattle.org_engine.proofs.table.TableRender.lines.Goals as goal
 
 pub returns-clause-value : goal.returns-clause-value
 returns-clause-value c =

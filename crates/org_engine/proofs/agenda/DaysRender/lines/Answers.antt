@@ -1,6 +1,6 @@
 use Rattle.std.proofs.Common.{◌+◌, ◌-◌}
 use Rattle.org_agenda.specs.Bound.{near_count}
-use Rattle.org_engine.proofs.agenda.DaysShows.lines.Goals as goal
+use Rattle.org_engine.proofs.agenda.DaysRender.lines.Goals as goal
 
 pub returns-in_err-agenda-clause-partial : goal.returns-in_err-agenda-clause-partial
 returns-in_err-agenda-clause-partial c = (c.in_err-agenda.ensures.partial.0, λ lt. tt, c.in_err-agenda.ensures.partial.1)

@@ -1,7 +1,7 @@
 use Rattle.org_agenda.specs.Bound.{near_count}
 use Rattle.std.proofs.Common.{◌+◌, ◌-◌}
 use Rattle.org_engine.proofs.MarkLemmas.{on_err}
-use Rattle.org_engine.proofs.agenda.DaysShows.text.Goals as goal
+use Rattle.org_engine.proofs.agenda.DaysRender.text.Goals as goal
 
 pub returns-in_err-agenda-clause-partial : goal.returns-in_err-agenda-clause-partial
 returns-in_err-agenda-clause-partial c = on_err c.from_residual.result (c.in_err-agenda.ensures.partial.0, λ lt. tt, c.in_err-agenda.ensures.partial.1)
