@@ -8,5 +8,6 @@ pub mod PartLemmas
 pub mod PieceLemmas
 mod SpanLemmas
 pub mod TextLemmas
+mod TypedLemmas
 pub mod WeekLawLemmas
 pub mod WeekLemmas

@@ -11,4 +11,6 @@ pub mod Parts
 pub mod Periods
 pub mod Pieces
 pub mod Texts
+pub mod Typed
+pub mod TypedLaws
 pub mod Weeks

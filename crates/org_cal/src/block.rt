@@ -137,7 +137,7 @@ fn week_from(monday: u32) -> Option<Period>
 }
 
 // The months from January of the year 0 to the day's.
-fn this_month(day: Day) -> u32
+pub(crate) fn this_month(day: Day) -> u32
     ensures value { result ≡ this_month day }
     ensures first { 12 ≤ result }
     ensures last { result ≤ LAST_MONTH }
@@ -162,7 +162,7 @@ fn months_from(index: u32, count: u32) -> Option<Period>
 }
 
 // The day of a month, or its last day where the month is shorter.
-fn day_of_month(index: u32, day: u8) -> Day
+pub(crate) fn day_of_month(index: u32, day: u8) -> Day
     requires first { 12 ≤ index }
     requires last { index ≤ LAST_MONTH }
     requires some { 1 ≤ day }

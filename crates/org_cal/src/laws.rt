@@ -2,6 +2,7 @@
 ghost use Rattle.org_cal.specs.Examples.{ExamplesHold};
 ghost use Rattle.org_cal.specs.Laws.{BlocksAreNamed, DatesHaveNumbers, FirstWeekHasFourth, FirstWeekHasThursday, NumbersHaveDates, WeeksGoOn, WeeksHaveMondays, WeeksHaveSevenDays};
 ghost use Rattle.org_cal.specs.Limits.{LimitsAreNamed};
+ghost use Rattle.org_cal.specs.TypedLaws.{EarlierIsAdded, LaterIsAdded, WeekdaysAreNext};
 
 /// Each day's number is that of its year, month and day of the month.
 pub fn numbers_have_dates()
@@ -43,6 +44,22 @@ pub fn weeks_go_on()
 /// month, the quarter, the week or the day that it names (Org manual 9.6, "The clock table"; ISO 8601).
 pub fn blocks_are_named()
     ensures { BlocksAreNamed }
+{}
+
+/// The day that a weekday says is the only one of that weekday among today and the six days after it.
+pub fn weekdays_are_next()
+    ensures { WeekdaysAreNext }
+{}
+
+/// So many days, weeks, months or years later is the day that a repeater of so many comes to (Org manual 9.6, "Repeated
+/// tasks").
+pub fn later_is_added()
+    ensures { LaterIsAdded }
+{}
+
+/// So many days, weeks, months or years earlier is the day that such a repeater comes to with that number taken away.
+pub fn earlier_is_added()
+    ensures { EarlierIsAdded }
 {}
 
 /// The years are 1 to 9999, of 119,988 months and 3,652,059 days, and a day has 1440 minutes.

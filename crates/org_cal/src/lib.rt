@@ -30,6 +30,7 @@ mod period;
 mod steps;
 mod text;
 mod time_of_day;
+mod typed;
 mod unit;
 
 pub use day::{Day, LAST_DAY, LAST_MONTH};

@@ -9,4 +9,15 @@ returns c = record {
   no_hour_24 = refl;
   clamped = refl;
   piece_to_sunday = refl;
+  friday = refl;
+  same_weekday = refl;
+  monday = refl;
+  day_after = refl;
+  two_weeks_ago = refl;
+  ten_days_on = refl;
+  months_on = λ day. refl;
+  no_day_before = refl;
+  no_day_of_hours = λ day. refl;
+  week_after = refl;
+  month_typed = λ today. refl;
 }
