@@ -7,3 +7,4 @@ pub mod Examples
 pub mod Laws
 pub mod Keyword
 pub mod Active
+pub mod Context

@@ -7,6 +7,7 @@ ghost use Rattle.org_base.specs.Results.{Gives};
 ghost use Rattle.org_base.specs.declared.meter.Tick.TheVariants.{Read};
 ghost use Rattle.org_class.specs.Classes.{section_classes};
 ghost use Rattle.org_base.specs.Spans.{bytes_in};
+ghost use Rattle.org_entry.specs.Context.{entry_in, part_of};
 ghost use Rattle.org_entry.specs.Draft.{is_quiet, has_close};
 ghost use Rattle.org_entry.specs.Entry.{entry_of};
 
@@ -35,8 +36,8 @@ pub fn read_entry<T: Text>(
     classes: &[Class],
 ) -> Result<Entry, Fault>
     requires within { section.at + section.len ≤ length (T.content context.now.text.now) }
-    requires belongs { classes.now ≡ section_classes (bytes_in (T.content context.now.text.now) section) }
-    ensures value { Gives result (entry_of context.now.settings.now (bytes_in (T.content context.now.text.now) section)) }
+    requires belongs { classes.now ≡ section_classes (part_of T.content context.now section) }
+    ensures value { Gives result (entry_in T.content context.now section) }
     ensures counts { meter.new ≡ ticked Read meter.old }
     ensures memory { IsOkUnless result memory_fault }
 {

@@ -47,8 +47,8 @@ AreCategories es file (Some categories) = categories ≡ first_categories es fil
 -- the tables of these entries, in a file with this category: of each whether it is hidden and whether it has tags, own or
 -- inherited, and the categories
 pub record AreTables (es : List Entry) (file : List ℕ) (tables : Tables) : Type 0 where
-  pub hidden_are : tables.marks.hidden.items ≡ all_passing hides es
-  pub tagged_are : tables.marks.tagged.items ≡ all_passing has_tags es
+  pub hidden_are : tables.flags.hidden.items ≡ all_passing hides es
+  pub tagged_are : tables.flags.tagged.items ≡ all_passing has_tags es
   pub categories_are : AreCategories es file tables.categories
 
 -- what is kept: the file's category, and the tables where there are any

@@ -128,7 +128,7 @@ impl<'a> Inherit<'a> {
         ensures value { result ≡ is_hidden self.now.entries place }
     {
         match &self.tables {
-            Some(tables) => tables.marks.hidden[place],
+            Some(tables) => tables.flags.hidden[place],
             None => lineage_passes(self.outline, place, Test::Hides),
         }
     }
@@ -151,7 +151,7 @@ impl<'a> Inherit<'a> {
         ensures value { result ≡ one_passes has_tags self.now.entries place }
     {
         match &self.tables {
-            Some(tables) => tables.marks.tagged[place],
+            Some(tables) => tables.flags.tagged[place],
             None => lineage_passes(self.outline, place, Test::HasTags),
         }
     }

@@ -10,10 +10,10 @@ use org_entry::Entry;
 use org_outline::Outline;
 use std::alloc::{AllocError, Global};
 
-// The marks and the categories of all entries.
+// The flags and the categories of all entries.
 #[derive(Debug, Drop)]
 pub(crate) struct Tables<'a> {
-    pub marks: Marks,
+    pub flags: HeadingFlags,
     // None where all have the file's.
     pub categories: Option<Categories<'a>>,
 }
@@ -27,26 +27,26 @@ impl<'a> Tables<'a> {
     ) -> Result<Tables<'a>, AllocError>
         ensures value { IfOk result (AreTables outline.now file_category.now) }
     {
-        let marks = Marks::of(alloc, outline)?;
-        let categories = own_categories(alloc, outline, file_category, marks.has_categories)?;
-        Ok(Tables { marks, categories })
+        let flags = HeadingFlags::of(alloc, outline)?;
+        let categories = own_categories(alloc, outline, file_category, flags.has_categories)?;
+        Ok(Tables { flags, categories })
     }
 }
 
 // Of each entry whether it is hidden and whether it has tags, own or inherited, and whether any has its own category.
 #[derive(Debug, Drop)]
-pub(crate) struct Marks {
+pub(crate) struct HeadingFlags {
     pub hidden: Vec<bool>,
     pub tagged: Vec<bool>,
     pub has_categories: bool,
 }
 
-impl Marks {
+impl HeadingFlags {
     // Those of all entries, in one pass over the outline.
-    fn of(alloc: Global, outline: &Outline) -> Result<Marks, AllocError>
-        ensures hidden { IfOk result (λ marks. marks.hidden.items ≡ all_passing hides outline.now) }
-        ensures tagged { IfOk result (λ marks. marks.tagged.items ≡ all_passing has_tags outline.now) }
-        ensures categories { IfOk result (λ marks. marks.has_categories ≡ has_categories outline.now) }
+    fn of(alloc: Global, outline: &Outline) -> Result<HeadingFlags, AllocError>
+        ensures hidden { IfOk result (λ flags. flags.hidden.items ≡ all_passing hides outline.now) }
+        ensures tagged { IfOk result (λ flags. flags.tagged.items ≡ all_passing has_tags outline.now) }
+        ensures categories { IfOk result (λ flags. flags.has_categories ≡ has_categories outline.now) }
     {
         let count = outline.count();
         let mut hidden = Vec::with_capacity(alloc, count)?;
@@ -61,7 +61,7 @@ impl Marks {
             tagged.push(has_tags)?;
             has_categories |= has_category(entry);
         }
-        Ok(Marks {
+        Ok(HeadingFlags {
             hidden,
             tagged,
             has_categories,

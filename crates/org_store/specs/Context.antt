@@ -1,15 +1,11 @@
 -- What is said of the sections of a text that is read by its settings, in words of both.
 use Rattle.std.specs.Prelude.{◌≡◌, ℕ, List}
-use Rattle.org_base.specs.Spans.{bytes_in}
 use Rattle.org_base.specs.declared.span.Span.{Span}
+use Rattle.org_entry.specs.Context.{part_of}
 use Rattle.org_entry.specs.declared.read_context.ReadContext.{ReadContext}
 use Rattle.org_store.specs.Begun.{section_of}
 use Rattle.org_store.specs.File.{Says, read_part, read_section, read_sections, with_read}
 use Rattle.org_store.specs.Sections.{SectionView}
-
--- the bytes of a part of the text
-abbrev pub part_of : {T : Type 0} → (T → List ℕ) → ReadContext T → Span → List ℕ
-part_of content context part = bytes_in (content context.text.now) part
 
 -- what is kept of a section, if it was read, is what a part of the text says
 abbrev pub SaysPart : {T : Type 0} → (T → List ℕ) → ReadContext T → Span → SectionView → Type 0

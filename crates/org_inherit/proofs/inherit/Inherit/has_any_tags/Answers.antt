@@ -8,7 +8,7 @@ pub index-requires : goal.index-requires
 index-requires c =
     let es = c.self.inside.outline.now in
     let are : AreTables es c.self.inside.file_category.now c.in-Some.tables = rw c.in-Some.is at c.self.invariant.tables_are in
-    let n = all_passing_length has_tags es c.in-Some.tables.marks.tagged.items are.tagged_are in
+    let n = all_passing_length has_tags es c.in-Some.tables.flags.tagged.items are.tagged_are in
     let m = ap (λ (s : Scope). length s.entries) c.self.view_is in
     omega (arith, n, m, c.requires)
 
@@ -19,7 +19,7 @@ returns-in-Some c =
     let m = ap (λ (s : Scope). length s.entries) c.self.view_is in
     record {
       value = c.index.ensures
-          ∙ all_passing_at has_tags es c.in-Some.tables.marks.tagged.items c.args.place c.index.result.now are.tagged_are (omega (arith, m, c.requires))
+          ∙ all_passing_at has_tags es c.in-Some.tables.flags.tagged.items c.args.place c.index.result.now are.tagged_are (omega (arith, m, c.requires))
           ∙ ap (λ (s : Scope). one_passes has_tags s.entries c.args.place) c.self.view_is;
     }
 

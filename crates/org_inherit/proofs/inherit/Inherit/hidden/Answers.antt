@@ -9,7 +9,7 @@ pub index-requires : goal.index-requires
 index-requires c =
     let es = c.self.inside.outline.now in
     let are : AreTables es c.self.inside.file_category.now c.in-Some.tables = rw c.in-Some.is at c.self.invariant.tables_are in
-    let n = all_passing_length hides es c.in-Some.tables.marks.hidden.items are.hidden_are in
+    let n = all_passing_length hides es c.in-Some.tables.flags.hidden.items are.hidden_are in
     let m = ap (λ (s : Scope). length s.entries) c.self.view_is in
     omega (arith, n, m, c.requires)
 
@@ -20,7 +20,7 @@ returns-in-Some c =
     let m = ap (λ (s : Scope). length s.entries) c.self.view_is in
     record {
       value = c.index.ensures
-          ∙ all_passing_at hides es c.in-Some.tables.marks.hidden.items c.args.place c.index.result.now are.hidden_are (omega (arith, m, c.requires))
+          ∙ all_passing_at hides es c.in-Some.tables.flags.hidden.items c.args.place c.index.result.now are.hidden_are (omega (arith, m, c.requires))
           ∙ ap (λ (s : Scope). is_hidden s.entries c.args.place) c.self.view_is;
     }
 

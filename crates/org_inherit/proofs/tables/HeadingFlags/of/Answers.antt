@@ -6,7 +6,7 @@ use Rattle.org_inherit.proofs.LineageLemmas.{table_more}
 use Rattle.org_outline.proofs.ByPlace.{table_length}
 use Rattle.org_outline.proofs.Parents.{behind_parent}
 use Rattle.org_outline.specs.Levels.{levels}
-use Rattle.org_inherit.proofs.tables.Marks.of.Goals as goal
+use Rattle.org_inherit.proofs.tables.HeadingFlags.of.Goals as goal
 
 pub one_passes-hides-requires : goal.one_passes-hides-requires
 one_passes-hides-requires c =

@@ -3,7 +3,7 @@ use Rattle.std.proofs.Common.{◌≡◌, map, take}
 use Rattle.std.specs.List.{list_any, range_with_len}
 use Rattle.org_inherit.specs.Hidden.{hides}
 use Rattle.org_inherit.specs.Tables.{has_category, has_tags, one_passes}
-use Rattle.org_inherit.proofs.tables.Marks.of.Given as goal
+use Rattle.org_inherit.proofs.tables.HeadingFlags.of.Given as goal
 
 abbrev pub invariant-loop-place : goal.invariant-loop-place
 invariant-loop-place l = record {
