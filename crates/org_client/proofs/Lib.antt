@@ -3,7 +3,9 @@ pub mod FileLemmas
 pub mod FirstLemmas
 pub mod JsonLemmas
 pub mod LawLemmas
+pub mod MatchingLemmas
 pub mod MissedLemmas
 pub mod NextLemmas
+pub mod ReminderLemmas
 pub mod StampLemmas
 pub mod VisibleLemmas

@@ -7,7 +7,7 @@ use Rattle.std.proofs.lemmas.List.Sums.{fold_more, fold-append}
 pub fold_next : {X Y : Type 0} (f : Y → X → Y) (a new : Y) (xs : List X) (i : ℕ) (x : X) (so_far : Y) → i < length xs → x ≡ get_or xs i x → so_far ≡ fold f a (take i xs) → new ≡ f so_far x → new ≡ fold f a (take (i + 1) xs)
 fold_next f a new xs i x so_far lt is so one = one ∙ (λ k. f (so k) (is k)) ∙ sym (fold_more f a xs i x lt)
 
-range_more : (a n : ℕ) → range_with_len a (n + 1) ≡ range_with_len a n ++ (a + n) ∷ []
+pub range_more : (a n : ℕ) → range_with_len a (n + 1) ≡ range_with_len a n ++ (a + n) ∷ []
 range_more a zero = let e : a + 0 ≡ a = omega arith in ap (λ k. k ∷ []) (sym e)
 range_more a (suc n) =
     let e : a + 1 + n ≡ a + suc n = omega arith in

@@ -3,6 +3,10 @@ pub mod Examples
 pub mod Files
 pub mod Json
 pub mod Laws
+pub mod Matching
+pub mod MatchingLaws
 pub mod Next
 pub mod Places
+pub mod ReminderLaws
+pub mod Reminders
 pub mod Visible

@@ -1,5 +1,6 @@
 //! Rows as objects of JSON, each in one line.
 
+use crate::details::push_details;
 use crate::one_line::OneLine;
 use crate::rows::{LoadReport, ShownSum};
 use org_agenda::{Row, RowKind};
@@ -29,8 +30,22 @@ pub fn json_line<T: Text>(
         push_stamp(&mut line, files, row)?;
     }
     push_heading(&mut line, files, row.file, row.heading)?;
+    push_beside(alloc, &mut line, files, row)?;
     end(&mut line, text)?;
     Ok(line)
+}
+
+// What is said of a row's heading beside its line.
+fn push_beside<T: Text>(
+    alloc: Global,
+    line: &mut OneLine,
+    files: &LoadReport<'_, '_, T>,
+    row: &Row,
+) -> Result<(), Fault> {
+    match Heading::find(files.inherits, row.file, row.heading) {
+        Some(heading) => push_details(alloc, line, &heading),
+        None => Ok(()),
+    }
 }
 
 /// The object of a row of a clock table: its kind, the first and the last day of the table, its sums in minutes, and
@@ -49,6 +64,15 @@ pub fn table_line<T: Text>(
     line.number("clock", row.clock)?;
     line.number("effort", row.effort)?;
     push_of(&mut line, files, row.of)?;
+    end(&mut line, text)?;
+    Ok(line)
+}
+
+/// The object of a day: its kind, the day, and the text of its line.
+pub fn day_line(alloc: Global, day: Day, text: &[u8]) -> Result<OneLine, Fault> {
+    let mut line = OneLine::new(alloc);
+    begin(&mut line, "day")?;
+    push_date_as(alloc, &mut line, "day", day)?;
     end(&mut line, text)?;
     Ok(line)
 }

@@ -1,6 +1,8 @@
 //! Laws of the definitions. Each is a function without parameters whose contract is the law.
 ghost use Rattle.org_client.specs.Examples.{ExamplesHold};
 ghost use Rattle.org_client.specs.Laws.{AgendasShowNext, CleanStands, NextIsFirst, NextLiesAhead, NoStampIsMissed, StampsComeOnce, VisibleIsClean};
+ghost use Rattle.org_client.specs.MatchingLaws.{DaysAreFiltered, MatchingMeetsAll, NextIsFiltered};
+ghost use Rattle.org_client.specs.ReminderLaws.{RemindersJoin};
 
 /// No row that comes next lies before the moment.
 #[tactic(auto, using(crate::proofs::LawLemmas::next_lies_ahead))]
@@ -30,6 +32,31 @@ pub fn no_stamp_is_missed()
 #[tactic(auto, using(crate::proofs::FirstLemmas::next_is_first))]
 pub fn next_is_first()
     ensures { NextIsFirst }
+{}
+
+/// The stamps whose headings meet expressions are those whose headings meet each of them.
+#[tactic(auto, using(crate::proofs::MatchingLemmas::matching_meets_all))]
+pub fn matching_meets_all()
+    ensures { MatchingMeetsAll }
+{}
+
+/// The rows of a day over the stamps of some headings are those of the day that are of these headings, in the same order.
+#[tactic(auto, using(crate::proofs::MatchingLemmas::days_are_filtered))]
+pub fn days_are_filtered()
+    ensures { DaysAreFiltered }
+{}
+
+/// What comes next over the stamps of some headings is what comes next of these headings, in the same order.
+#[tactic(auto, using(crate::proofs::MatchingLemmas::next_is_filtered))]
+pub fn next_is_filtered()
+    ensures { NextIsFiltered }
+{}
+
+/// What is told from one moment to a third is what is told from it to a second, and then what is told from there on,
+/// whichever days are today: over moments that follow one another each row with a start is told once.
+#[tactic(auto, using(crate::proofs::ReminderLemmas::reminders_join))]
+pub fn reminders_join()
+    ensures { RemindersJoin }
 {}
 
 /// What is shown of a text has no control character.

@@ -15,27 +15,33 @@
 //!     file_set,
 //!     inherits: &inherits,
 //! };
-//! let text = answer_bytes(rt.alloc(), &files, &answer, look)?;
+//! // ..
+//! let text = answer_bytes(rt.alloc(), &files, view, lines, look)?;
 //! ```
 //!
 //! Lines of `orgq/src/session.rt`. Tests: cases `tests/orgq/*`.
 #![tactic(auto)]
 
+mod details;
 mod fields;
 mod file_set;
 mod json;
 pub mod laws;
+mod matching;
 mod next;
 mod one_line;
 mod read_file;
+mod reminders;
 mod rows;
 mod visible;
 
 pub use fields::{csv_line, table_fields};
 pub use file_set::FileSet;
-pub use json::{json_line, table_line};
+pub use json::{day_line, json_line, table_line};
+pub use matching::matching_stamps;
 pub use next::{Upcoming, next_rows};
 pub use one_line::OneLine;
 pub use read_file::ReadFile;
+pub use reminders::{Window, rows_between};
 pub use rows::{LoadReport, ShownSum};
 pub use visible::{Escape, push_visible};
