@@ -1,3 +1,4 @@
+pub mod BarLemmas
 pub mod CleanLemmas
 pub mod FileLemmas
 pub mod FirstLemmas

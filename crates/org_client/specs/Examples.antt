@@ -1,6 +1,7 @@
 -- Worked examples: what the definitions say of inputs at which a wrong rule says something else.
 use Rattle.std.specs.Prelude.{◌≡◌, ℕ, ◌∷◌, [], false, true, None, Some, codes}
 use Rattle.org_cal.specs.declared.moment.Moment.{Moment}
+use Rattle.org_client.specs.Bars.{bar_eighths, hundredths, part_lengths}
 use Rattle.org_client.specs.Json.{field_text, quoted}
 use Rattle.org_client.specs.Reminders.{starts_between}
 use Rattle.org_client.specs.Visible.{visible}
@@ -16,3 +17,12 @@ pub record ExamplesHold : Type 0 where
   pub own_minute : (until : Moment) → starts_between (record { day = 5; minute = 600 }) until 5 (Some 600) ≡ false
   pub last_minute : starts_between (record { day = 4; minute = 600 }) (record { day = 5; minute = 600 }) 5 (Some 600) ≡ true
   pub no_start : (after until : Moment) (day : ℕ) → starts_between after until day None ≡ false
+  -- three thirds of ten columns: rounded one by one they would be nine
+  pub thirds : part_lengths 3 10 (1 ∷ 1 ∷ 1 ∷ []) ≡ 3 ∷ 4 ∷ 3 ∷ []
+  -- a part of nothing takes no column
+  pub no_part : part_lengths 4 8 (2 ∷ 0 ∷ 2 ∷ []) ≡ 4 ∷ 0 ∷ 4 ∷ []
+  -- a minute of a year shows
+  pub least : bar_eighths 1 525_600 20 ≡ 1
+  pub longest : bar_eighths 90 90 20 ≡ 160
+  pub half_up : hundredths 1 8 ≡ 13
+  pub of_nothing : hundredths 0 0 ≡ 0

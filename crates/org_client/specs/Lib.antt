@@ -1,3 +1,5 @@
+pub mod BarLaws
+pub mod Bars
 pub mod Clean
 pub mod Examples
 pub mod Files

@@ -1,4 +1,5 @@
 //! Laws of the definitions. Each is a function without parameters whose contract is the law.
+ghost use Rattle.org_client.specs.BarLaws.{BarsFollowSums, LengthsAreNearest, NothingHasNoBar, PartsAddUp};
 ghost use Rattle.org_client.specs.Examples.{ExamplesHold};
 ghost use Rattle.org_client.specs.Laws.{AgendasShowNext, CleanStands, NextIsFirst, NextLiesAhead, NoStampIsMissed, StampsComeOnce, VisibleIsClean};
 ghost use Rattle.org_client.specs.MatchingLaws.{DaysAreFiltered, MatchingMeetsAll, NextIsFiltered};
@@ -74,4 +75,27 @@ pub fn clean_stands()
 /// Of each control character of one byte and of two: how JSON, a person and a field have it.
 pub fn examples_hold()
     ensures { ExamplesHold }
+{}
+
+/// The length of a bar is the nearest to the exact one.
+pub fn lengths_are_nearest()
+    ensures { LengthsAreNearest }
+{}
+
+/// Longer sums have no shorter bars, and none is longer than the room.
+#[tactic(auto, using(crate::proofs::BarLemmas::bars_follow_sums))]
+pub fn bars_follow_sums()
+    ensures { BarsFollowSums }
+{}
+
+/// A bar has no length exactly where its sum is nothing.
+#[tactic(auto, using(crate::proofs::BarLemmas::nothing_has_no_bar))]
+pub fn nothing_has_no_bar()
+    ensures { NothingHasNoBar }
+{}
+
+/// The parts of a stacked bar are together as long as the bar of their sum.
+#[tactic(auto, using(crate::proofs::BarLemmas::parts_add_up))]
+pub fn parts_add_up()
+    ensures { PartsAddUp }
 {}

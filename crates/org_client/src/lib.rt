@@ -22,6 +22,7 @@
 //! Lines of `orgq/src/session.rt`. Tests: cases `tests/orgq/*`.
 #![tactic(auto)]
 
+mod bars;
 mod details;
 mod fields;
 mod file_set;
@@ -35,6 +36,7 @@ mod reminders;
 mod rows;
 mod visible;
 
+pub use bars::{bar_eighths, hundredths, part_lengths};
 pub use fields::{csv_line, table_fields};
 pub use file_set::FileSet;
 pub use json::{day_line, json_line, table_line};
