@@ -32,6 +32,7 @@ for document in docs/*.md; do
         *) put 644 share/doc/orgviews "$document" ;;
     esac
 done
+put 644 share/doc/orgviews docs/*.json
 for completion in contrib/completions/*; do
     name=${completion##*/}
     case $name in

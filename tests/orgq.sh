@@ -6,7 +6,7 @@
 # there NAME.status, the exit status (0 else), NAME.stderr, what has to stand on standard error, NAME.env, settings of the
 # environment, one a line, and NAME.sh, which is run in the folder first; the folder has the files of tests/orgq/files. Where
 # NAME.terminal is there the program is run on a terminal, by `script`, and what it writes to either stands in NAME.stdout.
-# Objects are read back by python3 where there is one. Then each control character in all that a file, a name and an argument
+# Objects are read back by python3 where there is one, and held against docs/orgq-rows.schema.json. Then each control character in all that a file, a name and an argument
 # hold: none is written in any form but into a pipe, as in the file. Each refused growth of memory gives the answer all the
 # same or status 4. Each option of --help has to stand in each completion file; what completes and orgq-notify are run. The
 # last line counts.
@@ -156,6 +156,15 @@ on_terminal() {
     return "$shown"
 }
 
+# Whether the rows that were printed are those of the schema.
+follow_schema() {
+    if said=$(python3 "$here/schema.py" "$here/../docs/orgq-rows.schema.json" < "$room/out"); then
+        passed=$((passed + 1))
+    else
+        fail "$1: $said"
+    fi
+}
+
 for expected in "$here"/orgq/*.stdout; do
     name=$(basename "$expected" .stdout)
     given=$here/orgq/$name
@@ -204,6 +213,10 @@ for expected in "$here"/orgq/*.stdout; do
             fail "$name: no object of JSON: $object"
         fi
     done < "$room/out"
+    case $name in
+        check-* | keywords-* | tags-*) ;;
+        *) follow_schema "$name" ;;
+    esac
 done
 
 # A closed standard output, and one that takes nothing.
@@ -213,6 +226,16 @@ cd "$here/orgq/files" || exit 2
 if [ -c /dev/full ]; then
     "$orgq" --at "2024-02-28 10:30" -f home.org todo > /dev/full 2> "$room/err"
     [ $? -eq 4 ] && passed=$((passed + 1)) || fail "a full device: $(cat "$room/err")"
+fi
+
+# Rows of a year, of lists, of what comes and of tables follow the schema.
+if command -v python3 > /dev/null 2>&1; then
+    for view in "agenda 2024" "agenda 2024-02 --profile 2" "todo" "match LEVEL>0" "next" "next --since 2024-01-01" "clock 2024 --effort --level 9 --step week"; do
+        case $view in *--since*) set -- next --since "2024-01-01 0:00" ;; *) set -- $view ;; esac
+        "$orgq" --at "2024-02-28 10:30" --json -f . "$@" > "$room/out" 2> "$room/err"
+        [ -s "$room/out" ] || fail "$view has no rows: $(cat "$room/err")"
+        follow_schema "$view"
+    done
 fi
 
 # The moment of now, in any zone.
@@ -273,7 +296,7 @@ while [ "$number" -lt 160 ]; do
         } > "$number.org"
         printf '* TODO named\n' > "n${of}n.org"
         for form in --json --csv --color=always "-n --color=always"; do
-            for view in "agenda" "todo" "todo K$of" "match LEVEL>0" "clock" "next"; do
+            for view in "agenda" "todo" "todo K$of" "match LEVEL>0" "clock" "next" "keywords" "tags"; do
                 # shellcheck disable=SC2086
                 "$orgq" --at "2024-02-28 10:30" $form --inherit area -f "$number.org" -f "n${of}n.org" ${view%% *} ${view#"${view%% *}"} > "$room/out" 2> "$room/err"
                 [ $? -eq 3 ] || fail "control character $number, $form $view: $(cat "$room/err")"
@@ -289,7 +312,7 @@ while [ "$number" -lt 160 ]; do
             is_clean "$room/out" "" || fail "control character $number stands in what check $form finds"
             is_clean "$room/err" "" || fail "control character $number stands in what check $form says"
         done
-        for words in "match -- a${of}(" "clock x${of}" "agenda x${of}" "--color x${of}" "--at x${of}" "-d x${of}" "x${of}" "--x${of}" "--profile x${of}" "clock --step x${of}" "check --only x${of}" "check --severity x${of}"; do
+        for words in "match -- a${of}(" "clock x${of}" "agenda x${of}" "agenda --tag x${of}" "agenda --match x${of}(" "next --since x${of}" "clock --from x${of}" "--color x${of}" "--at x${of}" "-d x${of}" "x${of}" "--x${of}" "--profile x${of}" "clock --step x${of}" "check --only x${of}" "check --severity x${of}"; do
             # shellcheck disable=SC2086
             (IFS=' '; "$orgq" --at "2024-02-28 10:30" -f 1.org $words) > "$room/out" 2> "$room/err"
             [ $? -eq 2 ] && [ -s "$room/err" ] && is_clean "$room/err" "" || fail "control character $number in the arguments $words"
@@ -346,15 +369,35 @@ printf '#+CATEGORY: --icon=x\n* a <2024-02-28 Wed 10:35>\n* b <2024-02-28 Wed 10
 printf '#+CATEGORY: fails\n* c <2024-02-28 Wed 10:37>\n' > "$room/fails.org"
 notify() {
     : > "$room/told"
-    PATH=$room/bin:$PATH ORGQ_NOTIFY=notifier TOLD=$room/told sh "$here/../contrib/orgq-notify" "$@" > "$room/out" 2> "$room/err"
+    PATH=$room/bin:$PATH XDG_STATE_HOME=$room/state ORGQ_NOTIFY=notifier TOLD=$room/told sh "$here/../contrib/orgq-notify" "$@" > "$room/out" 2> "$room/err"
 }
 notify 10 --at "2024-02-28 10:30" -f "$room/soon.org"
 [ $? -eq 0 ] && [ "$(cat "$room/told")" = "2|10:35 a <2024-02-28 Wed 10:35>|2024-2-28 --icon=x
 2|10:36 b <2024-02-28 Wed 10:36>|2024-2-28 --icon=x" ] && passed=$((passed + 1)) || fail "orgq-notify: $(cat "$room/told" "$room/err")"
+notify 10 --at "2024-02-28 10:30" -f "$room/soon.org"
+[ $? -eq 0 ] && [ ! -s "$room/told" ] && passed=$((passed + 1)) || fail "orgq-notify tells again: $(cat "$room/told")"
+notify 10 --at "2024-02-28 10:20" -f "$room/soon.org"
+[ $? -eq 0 ] && [ ! -s "$room/told" ] && passed=$((passed + 1)) || fail "orgq-notify by a clock that went back: $(cat "$room/told")"
 notify 10 --at "2024-02-28 10:40" -f "$room/soon.org"
 [ $? -eq 0 ] && [ ! -s "$room/told" ] && passed=$((passed + 1)) || fail "orgq-notify where nothing begins"
+notify 5 --at "2024-02-28 10:30" -f "$room/soon.org"
+notify 5 --at "2024-02-28 10:31" -f "$room/soon.org"
+[ "$(cat "$room/told")" = "2|10:36 b <2024-02-28 Wed 10:36>|2024-2-28 --icon=x" ] && passed=$((passed + 1)) || fail "orgq-notify a minute later: $(cat "$room/told")"
+for state in "$room"/state/orgq/told-*; do touch -d "2 days ago" "$state"; done
+notify 5 --at "2024-02-28 10:32" -f "$room/soon.org"
+[ "$(wc -l < "$room/told")" -eq 2 ] && passed=$((passed + 1)) || fail "orgq-notify with an old state: $(cat "$room/told")"
+for state in "$room"/state/orgq/told-*; do echo nonsense > "$state"; done
+notify 5 --at "2024-02-28 10:32" -f "$room/soon.org"
+[ "$(wc -l < "$room/told")" -eq 2 ] && passed=$((passed + 1)) || fail "orgq-notify with a state that is none: $(cat "$room/told")"
 notify 10 --at nonsense -f "$room/soon.org"
 [ $? -eq 2 ] && [ ! -s "$room/told" ] && passed=$((passed + 1)) || fail "orgq-notify with a bad moment"
+touch "$room/plain"
+XDG_STATE_HOME=$room/plain
+export XDG_STATE_HOME
+: > "$room/told"
+PATH=$room/bin:$PATH ORGQ_NOTIFY=notifier TOLD=$room/told sh "$here/../contrib/orgq-notify" 10 --at "2024-02-28 10:30" -f "$room/soon.org" > "$room/out" 2> "$room/err"
+[ $? -eq 4 ] && [ ! -s "$room/told" ] && passed=$((passed + 1)) || fail "orgq-notify without a place for its state"
+unset XDG_STATE_HOME
 notify 10 --at "2024-02-28 10:30" -f "$room/soon.org" -f nowhere.org
 [ $? -eq 3 ] && [ "$(wc -l < "$room/told")" -eq 2 ] && passed=$((passed + 1)) || fail "orgq-notify where a file is left out"
 notify 10 --at "2024-02-28 10:30" -f "$room/fails.org" -f "$room/soon.org"
@@ -375,7 +418,7 @@ if command -v bash > /dev/null 2>&1; then
 fi
 
 # Each option of --help stands in each completion file.
-for command in "" agenda todo match clock next check; do
+for command in "" agenda todo match clock next keywords tags check; do
     "$orgq" $command --help | grep -o -e '--[a-z]*' | sort -u
 done | sort -u > "$room/options"
 for file in "$here"/../contrib/completions/orgq.bash "$here"/../contrib/completions/_orgq "$here"/../contrib/completions/orgq.fish; do

@@ -220,19 +220,26 @@ editors() {
 }
 check "Emacs is told of the client's version and commands" editors
 
-# 7. The units: runs over two hours tell each minute once. Wants the program itself, as it was last built.
+# 7. The units: runs over two hours, some of them late or left out, tell each minute once. Wants the program itself, as it was
+# last built.
 orgq=$here/crates/orgq/out/orgq
 if [ -x "$orgq" ]; then
     told_once() {
-        within=$(sed -n 's/^ExecStart=.* orgq-notify //p' "$here/contrib/systemd/orgq-notify.service")
-        first_run=$(sed -n 's,^OnCalendar=\*:\([0-9]*\)/10$,\1,p' "$here/contrib/systemd/orgq-notify.timer")
-        for minute in $(seq 0 119); do
+        ahead=$(sed -n 's/^ExecStart=.* orgq-notify //p' "$here/contrib/systemd/orgq-notify.service")
+        each=$(sed -n 's,^OnCalendar=\*:0/\([0-9]*\)$,\1,p' "$here/contrib/systemd/orgq-notify.timer")
+        for minute in $(seq 0 129); do
             printf '* %03d <2024-02-28 Wed %02d:%02d>\n' "$minute" $((10 + minute / 60)) $((minute % 60))
         done > "$work/minutes.org"
-        for run in $(seq "$first_run" 10 119); do
-            "$orgq" --at "$(printf '2024-02-28 %02d:%02d' $((10 + run / 60)) $((run % 60)))" -f "$work/minutes.org" --csv next --within "$within"
-        done | cut -d , -f 2 | cut -d ' ' -f 1 > "$work/told"
-        seq -f %03g "$first_run" 119 | diff - "$work/told"
+        mkdir "$work/notify"
+        ln -s "$orgq" "$work/notify/orgq"
+        for run in $(seq 0 "$each" 119); do
+            [ $((run % 35)) -ne 30 ] || continue
+            late=$((run + run % 3))
+            PATH=$work/notify:$PATH XDG_STATE_HOME=$work/notify ORGQ_NOTIFY=echo sh "$here/contrib/orgq-notify" "$ahead" \
+                --at "$(printf '2024-02-28 %02d:%02d' $((10 + late / 60)) $((late % 60)))" -f "$work/minutes.org"
+        done | cut -d ' ' -f 2 > "$work/told"
+        last=$((late + ahead))
+        seq -f %03g 0 "$last" | diff - "$work/told"
     }
     check "the units tell each minute once" told_once
 else

@@ -10,7 +10,9 @@ _orgq_kinds() {
 
 _orgq() {
     local word=${COMP_WORDS[COMP_CWORD]} before=${COMP_WORDS[COMP_CWORD-1]}
-    local options="--file --at --keywords --inherit --profile --places --json --csv --color --quiet --help"
+    local options="--file --at --keywords --inherit --profile --places --json --days-too --csv --color --quiet --help"
+    local rows="--match --tag --category --limit"
+    local days="today tomorrow yesterday mon tue wed thu fri sat sun thisweek lastweek nextweek thismonth lastmonth nextmonth thisyear lastyear nextyear"
     local part command="" valued=""
     for part in "${COMP_WORDS[@]:1:COMP_CWORD-1}"; do
         if [ -n "$valued" ]; then
@@ -18,8 +20,8 @@ _orgq() {
             continue
         fi
         case $part in
-            -f|--file|--at|--keywords|--inherit|--profile|--color|-d|--days|--level|--step|--match|--within|--only|--not|--severity) valued=1 ;;
-            agenda|todo|match|clock|next|check) [ -n "$command" ] || command=$part ;;
+            -f|--file|--at|--keywords|--inherit|--profile|--color|-d|--days|--level|--step|--match|--tag|--category|--limit|--from|--to|--within|--since|--lead|--only|--not|--severity) valued=1 ;;
+            agenda|todo|match|clock|next|keywords|tags|check) [ -n "$command" ] || command=$part ;;
         esac
     done
     case $before in
@@ -29,18 +31,22 @@ _orgq() {
         --severity) COMPREPLY=($(compgen -W "error warning note" -- "$word")); return ;;
         --only|--not) _orgq_kinds "$word"; return ;;
         --step) COMPREPLY=($(compgen -W "day week" -- "$word")); return ;;
-        --at|--keywords|--inherit|--days|--level|--within|--match|-d) return ;;
+        --from|--to) COMPREPLY=($(compgen -W "$days" -- "$word")); return ;;
+        --tag) COMPREPLY=($(compgen -W "$(orgq tags 2> /dev/null)" -- "$word")); return ;;
+        --at|--keywords|--inherit|--days|--level|--within|--match|--category|--limit|--since|--lead|-d) return ;;
     esac
     case $command in
-        agenda) options="$options --days" ;;
-        clock) options="$options --level --step --effort --match" ;;
-        next) options="$options --days --within" ;;
+        agenda) options="$options --days $rows" ;;
+        todo|match) options="$options --limit" ;;
+        clock) options="$options --from --to --level --step --effort --match" ;;
+        next) options="$options --days --within --since --lead $rows" ;;
         check) options="$options --only --not --all --severity" ;;
-        "") options="$options --days agenda todo match clock next check" ;;
+        "") options="$options --days $rows agenda todo match clock next keywords tags check" ;;
     esac
-    if [ "$command" = clock ] && [ "${word#-}" = "$word" ]; then
-        options="today yesterday thisweek lastweek thismonth lastmonth thisyear lastyear"
-    fi
+    case $command in
+        agenda|clock) [ "${word#-}" != "$word" ] || options=$days ;;
+        todo) [ "${word#-}" != "$word" ] || options=$(orgq keywords 2> /dev/null) ;;
+    esac
     COMPREPLY=($(compgen -W "$options" -- "$word"))
     [ ${#COMPREPLY[@]} -gt 0 ] || mapfile -t COMPREPLY < <(compgen -f -X '!*.org' -- "$word"; compgen -d -- "$word")
 }

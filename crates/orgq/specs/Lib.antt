@@ -1,3 +1,6 @@
+pub mod Ahead
+pub mod Chosen
 pub mod Exit
+pub mod Limits
 pub mod Shown
 pub mod Views

@@ -14,6 +14,7 @@ f;file;PATH;A file, or a folder, whose *.org files are meant
 ;profile;N;The profile that agendas follow, 1 or 2
 n;places;;FILE:LINE: in front of each row, as grep -n has it
 ;json;;A JSON object a row, one a line
+;days-too;;With --json an object for each day too
 ;csv;;Fields with commas between them, a line a row
 ;color;WHEN;Late rows and warnings stand out: auto, always or never
 q;quiet;;Nothing is printed; the status tells whether there is a row";
@@ -22,7 +23,18 @@ const OF_TODAY: &str = "d;days;N;How many days of the agenda from today on, 1 to
 
 const OF_AGENDA: &str = "d;days;N;How many days, 1 to 366";
 
+// What chooses among the rows of agendas and of what comes next.
+const OF_ROWS: &str = "\
+;match;EXPR;Only rows of headings of which the expression holds
+;tag;TAG;Only rows of headings with the tag; of several, with all of them
+;category;NAME;Only rows of headings of that category
+;limit;N;At most so many rows, the first ones";
+
+const OF_LIST: &str = ";limit;N;At most so many rows, the first ones";
+
 const OF_CLOCK: &str = "\
+;from;DATE;The first day, in place of a block
+;to;DATE;The last day; without it today
 ;level;N;The deepest level that is shown, 1 to 99; without it 2
 ;step;STEP;A table for each day or week: day or week
 ;effort;;Effort sums beside those of clocks
@@ -30,7 +42,9 @@ const OF_CLOCK: &str = "\
 
 const OF_NEXT: &str = "\
 d;days;N;How many days from today on, 1 to 366; without it 30
-;within;MINUTES;Only what begins in so many minutes, 0 to 100000";
+;within;MINUTES;Only what begins in so many minutes, 0 to 100000
+;since;DATE TIME;What begins after that moment and no later than now, each time of a stamp
+;lead;MINUTES;With --since, so many minutes ahead, 0 to 100000";
 
 const OF_CHECK: &str = "\
 ;only;KIND,..;These kinds of findings, in place of the usual ones
@@ -46,6 +60,8 @@ pub fn command<'a>(alloc: Global) -> Result<Command<'a>, AllocError> {
         .subcommand(match_list(alloc)?)?
         .subcommand(clock(alloc)?)?
         .subcommand(next(alloc)?)?
+        .subcommand(keywords(alloc)?)?
+        .subcommand(tags(alloc)?)?
         .subcommand(check(alloc)?)
 }
 
@@ -62,24 +78,27 @@ fn program<'a>(alloc: Global) -> Result<Command<'a>, AllocError> {
             "Agendas, lists and clock tables of your Org files, and what in them will not show; without a command today's agenda",
         )
         .arg(path)?;
-    with_options(
-        alloc,
-        with_options(alloc, program, OF_TODAY, false)?,
-        OF_ALL,
-        true,
-    )
+    let program = with_options(alloc, program, OF_TODAY, false)?;
+    let program = with_options(alloc, program, OF_ROWS, false)?;
+    with_options(alloc, program, OF_ALL, true)
 }
 
 fn agenda<'a>(alloc: Global) -> Result<Command<'a>, AllocError> {
-    let day = word(alloc, "DATE", "The first day, as 2024-02-28");
+    let day = word(
+        alloc,
+        "DATE",
+        "A day or some days: tomorrow, fri, +3d, -1w, 2024-02-28, nextweek, 2024-02",
+    );
     let agenda = Command::new(alloc, "agenda").about("Some days, by default today");
-    with_options(alloc, agenda.arg(day)?, OF_AGENDA, false)
+    let agenda = agenda.arg(day.allow_hyphen_values(true))?;
+    let agenda = with_options(alloc, agenda, OF_AGENDA, false)?;
+    with_options(alloc, agenda, OF_ROWS, false)
 }
 
 fn todo<'a>(alloc: Global) -> Result<Command<'a>, AllocError> {
     let keywords = words(alloc, "KEYWORD", "Keywords; without them the open ones");
     let todo = Command::new(alloc, "todo").about("The open entries, or those with some keyword");
-    todo.arg(keywords)
+    with_options(alloc, todo.arg(keywords)?, OF_LIST, false)
 }
 
 fn match_list<'a>(alloc: Global) -> Result<Command<'a>, AllocError> {
@@ -89,18 +108,32 @@ fn match_list<'a>(alloc: Global) -> Result<Command<'a>, AllocError> {
         "The expression, as work/!NEXT; behind -- where it begins with a minus",
     );
     let list = Command::new(alloc, "match").about("The entries of which an expression holds");
-    list.arg(expression.required(true))
+    with_options(alloc, list.arg(expression.required(true))?, OF_LIST, false)
 }
 
 fn clock<'a>(alloc: Global) -> Result<Command<'a>, AllocError> {
-    let block = word(alloc, "BLOCK", "A block of time, as today or 2024-W09");
+    let block = word(
+        alloc,
+        "BLOCK",
+        "A block of time or a day: today, lastweek, 2024-W09, -1d",
+    );
     let clock = Command::new(alloc, "clock").about("A clock table, by default this week's");
-    with_options(alloc, clock.arg(block)?, OF_CLOCK, false)
+    let clock = clock.arg(block.allow_hyphen_values(true))?;
+    with_options(alloc, clock, OF_CLOCK, false)
 }
 
 fn next<'a>(alloc: Global) -> Result<Command<'a>, AllocError> {
     let next = Command::new(alloc, "next").about("What comes next of each stamp, by time");
-    with_options(alloc, next, OF_NEXT, false)
+    let next = with_options(alloc, next, OF_NEXT, false)?;
+    with_options(alloc, next, OF_ROWS, false)
+}
+
+fn keywords<'a>(alloc: Global) -> Result<Command<'a>, AllocError> {
+    Ok(Command::new(alloc, "keywords").about("The keywords of the files, one a line"))
+}
+
+fn tags<'a>(alloc: Global) -> Result<Command<'a>, AllocError> {
+    Ok(Command::new(alloc, "tags").about("The tags of the files, one a line"))
 }
 
 fn check<'a>(alloc: Global) -> Result<Command<'a>, AllocError> {
@@ -145,11 +178,13 @@ fn option<'a>(alloc: Global, line: &'static str) -> Arg<'a> {
     }
     let arg = arg.value_name(value);
     match name {
-        "file" | "inherit" | "only" | "not" => arg.action(ArgAction::Append),
+        "file" | "inherit" | "only" | "not" | "tag" => arg.action(ArgAction::Append),
+        "from" | "to" | "at" | "since" => arg.allow_hyphen_values(true),
+        "limit" => arg.value_parser(value_parser!(u32).range(1..=1_000_000)),
         "profile" => arg.value_parser(value_parser!(u32).range(1..=2)),
         "days" => arg.value_parser(value_parser!(u32).range(1..=i64::from(MOST_DAYS))),
         "level" => arg.value_parser(value_parser!(u32).range(1..=99)),
-        "within" => arg.value_parser(value_parser!(u32).range(0..=100_000)),
+        "within" | "lead" => arg.value_parser(value_parser!(u32).range(0..=100_000)),
         _ => arg,
     }
 }

@@ -1,22 +1,30 @@
 //! What is asked, and the answer to it.
+ghost use Rattle.std.specs.Prelude.{◌^◌, ◌<◌, IfSome};
 ghost use Rattle.org_client.specs.Files.{AreRead};
+ghost use Rattle.orgq.specs.Ahead.{IsLater};
 
+use crate::clock::typed_moment;
+use crate::filters::{Filters, read_expression};
 use crate::options::{clock_options, texts};
 use crate::problem::Problem;
-use crate::rows_ahead::rows_ahead;
+use crate::rows_ahead::{rows_ahead, rows_since};
 use crate::table::clock_table;
-use crate::view::{Answer, Days, agenda_days, agenda_over, match_list, todo_list};
+use crate::view::{Answer, Chosen, Days, agenda_days, agenda_over, match_list, todo_list};
 use clap::ArgMatches;
 use org_agenda::AsOf;
-use org_base::{Code, Fault, Profile, Texts};
-use org_cal::{Day, Moment};
+use org_base::{Code, Fault, MOST_DAYS, Profile, Texts};
+use org_cal::{Day, MINUTES_PER_DAY, Moment, Period, Step, TimeOfDay};
+use org_client::Window;
 use org_clocktable::TableSpec;
 use org_inherit::Inherits;
 use org_match::Match;
 use std::alloc::Global;
 
-// The most bytes of an expression or of options.
+// The most bytes of options.
 const LONGEST: usize = 65_536;
+
+// The most tables that days are cut into.
+const MOST_TABLES: usize = 366;
 
 /// What is asked for.
 #[derive(Debug, Drop)]
@@ -24,19 +32,21 @@ pub enum Query<'a> {
     Agenda(Days),
     Todo(Texts),
     Match(&'a str),
-    /// The options of a clock table, as one text, and its expression.
-    Clock(String, &'a str),
+    /// The options of a clock table but for its days, as one text, its expression, and its days.
+    Clock(String, &'a str, Period),
     /// Days, and within how many minutes a row has to begin, if that counts.
     Next(Days, Option<u32>),
+    /// What begins within a window, and its days.
+    Since(Window, Days),
 }
 
 impl<'a> Query<'a> {
-    /// The expression that was typed, if there is one.
+    /// The expression that was typed as a part of the question, if there is one.
     pub fn expression(&self) -> &str {
         match self {
             Query::Match(expression) => expression,
-            Query::Clock(_, expression) => expression,
-            Query::Agenda(_) | Query::Todo(_) | Query::Next(..) => "",
+            Query::Clock(_, expression, _) => expression,
+            Query::Agenda(_) | Query::Todo(_) | Query::Next(..) | Query::Since(..) => "",
         }
     }
 
@@ -58,35 +68,101 @@ pub fn read_question<'a>(
     let days = matches.get_one::<u32>("days");
     match matches.subcommand() {
         Some(("agenda", own)) => Ok(Query::Agenda(asked_days(own, days, moment)?)),
-        Some(("next", own)) => {
-            let count = own.get_one::<u32>("days").or(days).unwrap_or(30);
-            let days = days_from(moment.day, count)?;
-            Ok(Query::Next(days, own.get_one::<u32>("within")))
-        }
+        Some(("next", own)) => asked_next(own, days, moment),
         None => Ok(Query::Agenda(days_from(moment.day, days.unwrap_or(1))?)),
         Some(_) if days.is_some() => Err(Problem::DaysOf),
-        Some((name, own)) => asked_list(alloc, name, own),
+        Some((name, own)) => asked_list(alloc, name, own, moment),
     }
 }
 
 // What a command asks for that has no days of its own.
-fn asked_list<'a>(alloc: Global, name: &str, own: &ArgMatches<'a>) -> Result<Query<'a>, Problem> {
+fn asked_list<'a>(
+    alloc: Global,
+    name: &str,
+    own: &ArgMatches<'a>,
+    moment: &Moment,
+) -> Result<Query<'a>, Problem> {
     match name {
         "todo" => Ok(Query::Todo(texts(alloc, own.get_strs("KEYWORD"))?)),
         "match" => Ok(Query::Match(own.get_str("EXPR").unwrap_or(""))),
-        _ => asked_table(alloc, own),
+        _ => asked_table(alloc, own, moment),
     }
 }
 
 fn asked_days(own: &ArgMatches<'_>, days: Option<u32>, moment: &Moment) -> Result<Days, Problem> {
-    let first = match own.get_str("DATE") {
-        Some(text) => match Day::of_text(text.as_bytes()) {
-            Some(day) => day,
+    let period = match own.get_str("DATE") {
+        Some(text) => match Period::of_word(text.as_bytes(), moment.day) {
+            Some(period) => period,
             None => return Err(Problem::Date),
         },
-        None => moment.day,
+        None => one_day(moment.day),
     };
-    days_from(first, own.get_one::<u32>("days").or(days).unwrap_or(1))
+    let all = (period.last.number() + 1).saturating_sub(period.first.number());
+    let count = own.get_one::<u32>("days").or(days).unwrap_or(all);
+    days_from(period.first, count)
+}
+
+// What comes next, or what begins since a moment.
+fn asked_next<'a>(
+    own: &ArgMatches<'a>,
+    days: Option<u32>,
+    moment: &Moment,
+) -> Result<Query<'a>, Problem> {
+    let within = own.get_one::<u32>("within");
+    let count = own.get_one::<u32>("days").or(days);
+    let lead = own.get_one::<u32>("lead");
+    let Some(since) = own.get_str("since") else {
+        if lead.is_some() {
+            return Err(Problem::Lead);
+        }
+        let days = days_from(moment.day, count.unwrap_or(30))?;
+        return Ok(Query::Next(days, within));
+    };
+    if within.is_some() || count.is_some() {
+        return Err(Problem::SinceBeside);
+    }
+    let since = typed_moment(since, moment.day).ok_or(Problem::SinceMoment)?;
+    if *moment < since {
+        return Err(Problem::Since);
+    }
+    let lead = u64::from(lead.unwrap_or(0));
+    let Some(after) = later(&since, lead) else {
+        return Err(Problem::Days);
+    };
+    let Some(until) = later(moment, lead) else {
+        return Err(Problem::Days);
+    };
+    let days = days_between(after.day, until.day)?;
+    Ok(Query::Since(Window { after, until }, days))
+}
+
+// The days from one to another.
+fn days_between(first: Day, last: Day) -> Result<Days, Problem> {
+    let count = (last.number() + 1).saturating_sub(first.number());
+    if count > MOST_DAYS {
+        return Err(Problem::SinceDays);
+    }
+    days_from(first, count)
+}
+
+// The moment so many minutes after another, if there is one.
+fn later(moment: &Moment, minutes: u64) -> Option<Moment>
+    requires below { minutes < 2 ^ 32 }
+    ensures value { IfSome result (IsLater moment.now minutes) }
+{
+    let minute = moment.minute().number() + minutes;
+    let day = Day::of_number(minute / MINUTES_PER_DAY + 1)?;
+    Some(Moment {
+        day,
+        minute: TimeOfDay::of_minutes((minute % MINUTES_PER_DAY) as u16),
+    })
+}
+
+fn one_day(day: Day) -> Period {
+    Period {
+        first: day,
+        last: day,
+    }
 }
 
 fn days_from(first: Day, count: u32) -> Result<Days, Problem> {
@@ -96,26 +172,82 @@ fn days_from(first: Day, count: u32) -> Result<Days, Problem> {
     }
 }
 
-fn asked_table<'a>(alloc: Global, own: &ArgMatches<'a>) -> Result<Query<'a>, Problem> {
-    if !matches!(own.get_str("step"), None | Some("day" | "week")) {
-        return Err(Problem::Step);
-    }
-    if own
-        .get_str("BLOCK")
-        .is_some_and(|block| block.contains(' '))
-    {
-        return Err(Problem::Fault(Fault::Plain(Code::Option)));
+fn asked_table<'a>(
+    alloc: Global,
+    own: &ArgMatches<'a>,
+    moment: &Moment,
+) -> Result<Query<'a>, Problem> {
+    let step = match own.get_str("step") {
+        None => Step::Whole,
+        Some("day") => Step::Day,
+        Some("week") => Step::Week,
+        Some(_) => return Err(Problem::Step),
+    };
+    let period = asked_period(own, moment.day)?;
+    if table_count(&period, step) > MOST_TABLES {
+        return Err(Problem::Tables);
     }
     let text = clock_options(alloc, own)?;
-    Ok(Query::Clock(text, own.get_str("match").unwrap_or("")))
+    Ok(Query::Clock(text, own.get_str("match").unwrap_or(""), period))
 }
 
-/// What is asked, in which profile, and at which moment.
+// How many tables a step cuts days into.
+fn table_count(period: &Period, step: Step) -> usize {
+    let (count, _) = period.steps(step).size_hint();
+    count
+}
+
+// The days of a clock table: those of a block, or from one day to another.
+fn asked_period(own: &ArgMatches<'_>, today: Day) -> Result<Period, Problem> {
+    let block = own.get_str("BLOCK");
+    let Some(from) = own.get_str("from") else {
+        if own.get_str("to").is_some() {
+            return Err(Problem::To);
+        }
+        let block = block.unwrap_or("thisweek");
+        return typed_days(block, today).ok_or(Problem::Block);
+    };
+    if block.is_some() {
+        return Err(Problem::From);
+    }
+    let first = typed_days(from, today).ok_or(Problem::Date)?.first;
+    let last = match own.get_str("to") {
+        Some(to) => typed_days(to, today).ok_or(Problem::Date)?.last,
+        None => today,
+    };
+    if last.number() < first.number() {
+        return Err(Problem::Order);
+    }
+    Ok(Period { first, last })
+}
+
+fn typed_days(text: &str, today: Day) -> Option<Period> {
+    Period::of_word(text.as_bytes(), today)
+}
+
+/// What chooses among the rows: words of the command itself, and words in front of it.
+pub fn read_filters<'a, 'b>(matches: &'b ArgMatches<'a>) -> Result<Filters<'a, 'b>, Problem> {
+    let front = Filters::of(matches);
+    match matches.subcommand() {
+        None => Ok(front),
+        Some(("agenda" | "next", own)) => Ok(Filters::of(own).or(&front)),
+        Some(_) if front.chooses() => Err(Problem::FilterOf),
+        Some(("todo" | "match", own)) => {
+            let limit = own.get_one::<u32>("limit").or(front.limit);
+            Ok(Filters::within(limit))
+        }
+        Some(_) if front.limit.is_some() => Err(Problem::LimitOf),
+        Some(_) => Ok(Filters::within(None)),
+    }
+}
+
+/// What is asked, in which profile, at which moment, and of which headings.
 #[derive(Clone, Copy, Debug)]
 pub struct Question<'a, 'b> {
     pub asked: &'a Query<'b>,
     pub profile: Profile,
     pub moment: Moment,
+    pub expressions: &'a [Match],
 }
 
 /// Whether a question can be answered: its expression and its options are such.
@@ -124,10 +256,10 @@ pub fn check(alloc: Global, question: &Question<'_, '_>) -> Result<(), Fault> {
         Query::Match(expression) => {
             let _ = read_expression(alloc, expression)?;
         }
-        Query::Clock(options, _) => {
+        Query::Clock(options, ..) => {
             check_options(alloc, options.as_str(), question.moment.day)?;
         }
-        Query::Agenda(_) | Query::Todo(_) | Query::Next(..) => {}
+        Query::Agenda(_) | Query::Todo(_) | Query::Next(..) | Query::Since(..) => {}
     }
     Ok(())
 }
@@ -140,13 +272,6 @@ fn check_options(alloc: Global, options: &str, today: Day) -> Result<(), Fault> 
     Ok(())
 }
 
-fn read_expression(alloc: Global, expression: &str) -> Result<Match, Fault> {
-    if expression.len() > LONGEST {
-        return Err(Fault::Plain(Code::Long));
-    }
-    Match::read(alloc, expression)
-}
-
 /// The answer over files that were read.
 pub fn answer(
     alloc: Global,
@@ -156,18 +281,26 @@ pub fn answer(
     requires read { AreRead inherits.now }
 {
     let now = question.moment;
-    let as_of = AsOf {
-        profile: question.profile,
-        today: now.day,
+    let chosen = Chosen {
+        as_of: AsOf {
+            profile: question.profile,
+            today: question.moment.day,
+        },
+        expressions: question.expressions,
+        moment: question.moment,
     };
     match question.asked {
-        Query::Agenda(days) => agenda_days(alloc, inherits, &as_of, *days),
+        Query::Agenda(days) => agenda_days(alloc, inherits, &chosen, *days),
         Query::Todo(words) => todo_list(alloc, inherits, words),
         Query::Match(expression) => match_answer(alloc, inherits, expression, now),
-        Query::Clock(options, _) => clock(alloc, inherits, options.as_str(), now),
+        Query::Clock(options, _, period) => clock(alloc, inherits, options.as_str(), period, now),
         Query::Next(days, within) => {
-            let agenda = agenda_over(alloc, inherits, &as_of, *days)?;
+            let agenda = agenda_over(alloc, inherits, &chosen, *days)?;
             rows_ahead(alloc, inherits, &agenda, &now, *within)
+        }
+        Query::Since(window, days) => {
+            let agenda = agenda_over(alloc, inherits, &chosen, *days)?;
+            rows_since(alloc, inherits, &agenda, window)
         }
     }
 }
@@ -188,6 +321,7 @@ fn clock(
     alloc: Global,
     inherits: &Inherits<'_>,
     options: &str,
+    period: &Period,
     now: Moment,
 ) -> Result<Answer, Fault>
     requires read { AreRead inherits.now }
@@ -196,5 +330,5 @@ fn clock(
         return Err(Fault::Plain(Code::Long));
     }
     let spec = TableSpec::read(alloc, options, now.day)?;
-    clock_table(alloc, inherits, &spec, now)
+    clock_table(alloc, inherits, &spec, period, now)
 }

@@ -13,9 +13,20 @@ use std::time::Clock;
 
 /// The moment that a text spells: a date, one space and a time.
 pub fn moment(text: &str) -> Option<Moment> {
-    let text = text.as_bytes();
-    let space = text.iter().position(|byte| *byte == b' ')?;
-    Moment::read(&text[..space], &text[space + 1..]).ok()
+    let Some((date, time)) = text.split_once(' ') else {
+        return None;
+    };
+    Moment::read(date.as_bytes(), time.as_bytes()).ok()
+}
+
+/// The same where the date is said as people type it on a day.
+pub fn typed_moment(text: &str, today: Day) -> Option<Moment> {
+    let Some((date, time)) = text.split_once(' ') else {
+        return None;
+    };
+    let day = Day::of_word(date.as_bytes(), today)?;
+    let minute = TimeOfDay::read(time.as_bytes())?;
+    Some(Moment { day, minute })
 }
 
 /// The system's civil time in its zone.

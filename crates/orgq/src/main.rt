@@ -10,8 +10,10 @@ mod clock;
 mod environment;
 mod exit;
 mod files;
+mod filters;
 mod findings;
 mod keywords;
+mod limits;
 mod options;
 mod out;
 mod problem;
@@ -23,6 +25,7 @@ mod sources;
 mod table;
 mod usage;
 mod view;
+mod words;
 
 use crate::arguments::command;
 use crate::exit::BAD_ARGUMENTS;

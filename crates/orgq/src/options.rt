@@ -55,9 +55,9 @@ pub fn is_path(word: &str) -> bool {
 
 /// The options of a clock table, as the text that tables are asked for by.
 pub fn clock_options(alloc: Global, own: &ArgMatches<'_>) -> Result<String, AllocError> {
-    let block = own.get_str("BLOCK").unwrap_or("thisweek");
     let level = own.get_one::<u32>("level").unwrap_or(2);
-    let mut text = format!(in alloc; "block={block} maxlevel={level}")?;
+    // Its days are read apart.
+    let mut text = format!(in alloc; "block=today maxlevel={level}")?;
     if let Some(step) = own.get_str("step") {
         write!(text, " step={step}")?;
     }

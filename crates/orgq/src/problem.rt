@@ -10,21 +10,38 @@ use unicode_width::UnicodeWidthStr;
 /// Why nothing is answered.
 #[derive(Clone, Copy, Debug)]
 pub enum Problem {
+    Block,
+    /// The category of `--category` has a quotation mark.
+    Category,
     Clock,
     Color,
     Command,
     Date,
     Days,
     DaysOf,
+    DaysToo,
     /// A variable of the environment isn't UTF-8.
     Environment(Variable),
     /// Fields between commas are asked for, and there are none of what is asked.
     Fields,
     Files,
+    /// What chooses rows stands before a command that chooses none.
+    FilterOf,
+    From,
+    Lead,
+    LimitOf,
     List,
     Moment,
+    Order,
     Severity,
+    Since,
+    SinceBeside,
+    SinceDays,
+    SinceMoment,
     Step,
+    Tables,
+    Tag,
+    To,
     Zone,
     Fault(Fault),
 }
@@ -45,34 +62,56 @@ impl Problem {
     /// What standard error says of it.
     fn why(self) -> &'static str {
         match self {
+            Problem::Block => NO_BLOCK,
+            Problem::Category => "a category of --category has no quotation mark in it",
             Problem::Clock => {
                 "neither clock nor time zone can be read (TZ, /etc/localtime): --at names the moment"
             }
             Problem::Color => "--color is auto, always or never",
             Problem::Command => "no such command; for a file or folder write -f before its name",
-            Problem::Date => "no such date: a date is written as 2024-02-28",
+            Problem::Date => {
+                "no such date; there are today, tomorrow, yesterday, mon to sun, such as +3d, -1w, +2m, 2024-02-28, and the blocks thisweek, nextweek, lastweek, thismonth and so on, 2024-W09, 2024-02"
+            }
             Problem::Days => "days past 9999-12-31",
             Problem::DaysOf => "-d is an option of agenda and next",
+            Problem::DaysToo => "--days-too is for --json",
             Problem::Environment(variable) => variable.why(),
             Problem::Fields => "--csv is no form of check, which has lines and --json",
             Problem::Files => "no files: name them by -f, ORGQ_FILES or ~/.config/orgq/files",
+            Problem::FilterOf => "--match, --tag and --category are options of agenda and next",
+            Problem::From => "--from names the first day in place of a block",
+            Problem::Lead => "--lead wants --since",
+            Problem::LimitOf => "--limit is an option of agenda, next, todo and match",
             Problem::List => {
                 "the list of files, orgq/files in XDG_CONFIG_HOME or ~/.config, can't be read as a file of UTF-8"
             }
-            Problem::Moment => "no such moment: --at takes one as \"2024-02-28 10:30\"",
+            Problem::Moment => {
+                "no such moment: --at takes one as \"2024-02-28 10:30\" or \"tomorrow 9:00\""
+            }
+            Problem::Order => "the day of --to is before that of --from",
             Problem::Severity => "--severity is error, warning or note",
+            Problem::Since => "--since names a moment after the one that is now",
+            Problem::SinceBeside => "--since goes neither with -d nor with --within",
+            Problem::SinceDays => "--since is more than 366 days back",
+            Problem::SinceMoment => {
+                "no such moment: --since takes one as \"2024-02-28 10:30\" or \"yesterday 9:00\""
+            }
             Problem::Step => "--step is day or week",
+            Problem::Tables => "--step cuts these days into more than 366 tables",
+            Problem::Tag => "no such tag: a tag has letters, digits, _, @, # and %",
+            Problem::To => "--to wants --from",
             Problem::Zone => "TZ leads out of the folder of time zones",
             Problem::Fault(fault) => why_code(fault.code()),
         }
     }
 }
 
+const NO_BLOCK: &str =
+    "no such block of time; there are today, yesterday, thisweek, lastweek, nextweek, and so month and year, such as 2024, 2024-Q1, 2024-02, 2024-W09, 2024-02-28, and such days as -1d";
+
 fn why_code(code: Code) -> &'static str {
     match code {
-        Code::Option => {
-            "no such block of time; there are today, yesterday, thisweek, lastweek, thismonth, lastmonth, thisyear, lastyear, and such as 2024, 2024-Q1, 2024-02, 2024-W09, 2024-02-28"
-        }
+        Code::Option => NO_BLOCK,
         Code::Regexp => {
             "a pattern in braces is refused: patterns are those of the regex crate, of at most some size"
         }

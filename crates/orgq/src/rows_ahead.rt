@@ -4,7 +4,7 @@ use crate::view::Answer;
 use org_agenda::{Agenda, Row};
 use org_base::Fault;
 use org_cal::{Day, Moment};
-use org_client::{Upcoming, next_rows};
+use org_client::{Upcoming, Window, next_rows, rows_between};
 use org_inherit::Inherits;
 use org_layout::{day_text, push_day_lines};
 use std::alloc::{AllocError, Global};
@@ -19,13 +19,40 @@ pub fn rows_ahead(
     within: Option<u32>,
 ) -> Result<Answer, Fault> {
     let next = next_rows(alloc, agenda, now)?;
+    match within {
+        Some(minutes) => {
+            let some = rows_within(alloc, next.as_slice(), now, minutes)?;
+            by_days(alloc, inherits, agenda, some.as_slice())
+        }
+        None => by_days(alloc, inherits, agenda, next.as_slice()),
+    }
+}
+
+/// The rows of an agenda that begin within a window, day by day.
+pub fn rows_since(
+    alloc: Global,
+    inherits: &Inherits<'_>,
+    agenda: &Agenda,
+    window: &Window,
+) -> Result<Answer, Fault> {
+    let rows = rows_between(alloc, agenda, window)?;
+    by_days(alloc, inherits, agenda, rows.as_slice())
+}
+
+// Some rows under the days of an agenda that have any.
+fn by_days(
+    alloc: Global,
+    inherits: &Inherits<'_>,
+    agenda: &Agenda,
+    all: &[Upcoming],
+) -> Result<Answer, Fault> {
     let mut answer = Answer {
         text: String::new(alloc),
         lines: Vec::new(alloc),
     };
     for ahead in 0..agenda.count() {
         let day = agenda.day(ahead);
-        let rows = rows_on(alloc, next.as_slice(), day, now, within)?;
+        let rows = rows_on(alloc, all, day)?;
         push_day(alloc, &mut answer, inherits, day, rows.as_slice())?;
     }
     Ok(answer)
@@ -48,27 +75,33 @@ fn push_day(
 }
 
 // The rows of a day.
-fn rows_on(
-    alloc: Global,
-    next: &[Upcoming],
-    day: Day,
-    now: &Moment,
-    within: Option<u32>,
-) -> Result<Vec<Row>, AllocError> {
+fn rows_on(alloc: Global, all: &[Upcoming], day: Day) -> Result<Vec<Row>, AllocError> {
     let mut rows = Vec::new(alloc);
-    for upcoming in next {
-        if upcoming.day == day && is_within(upcoming, now, within) {
+    for upcoming in all {
+        if upcoming.day == day {
             rows.push(upcoming.row)?;
         }
     }
     Ok(rows)
 }
 
-// Whether a row begins in so many minutes, if they are named.
-fn is_within(upcoming: &Upcoming, now: &Moment, within: Option<u32>) -> bool {
-    let Some(minutes) = within else {
-        return true;
-    };
+// Those of some rows that begin in so many minutes.
+fn rows_within(
+    alloc: Global,
+    all: &[Upcoming],
+    now: &Moment,
+    minutes: u32,
+) -> Result<Vec<Upcoming>, AllocError> {
+    let mut rows = Vec::new(alloc);
+    for upcoming in all {
+        if is_within(upcoming, now, minutes) {
+            rows.push(*upcoming)?;
+        }
+    }
+    Ok(rows)
+}
+
+fn is_within(upcoming: &Upcoming, now: &Moment, minutes: u32) -> bool {
     let Some(start) = upcoming.row.start else {
         return false;
     };

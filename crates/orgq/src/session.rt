@@ -1,16 +1,19 @@
 //! One question, from the arguments to the exit status.
 
-use crate::ask::{Query, Question, answer, check, read_question};
+use crate::ask::{Query, Question, answer, check, read_filters, read_question};
 use crate::check::check_files;
-use crate::clock::{moment, now};
+use crate::clock::{moment, now, typed_moment};
 use crate::environment::{Variable, value_of};
 use crate::exit::status_of;
+use crate::filters::Filters;
 use crate::keywords::say_unknown;
+use crate::limits::lines_within;
 use crate::options::{form, is_colored, profile, texts};
 use crate::out::print_all;
 use crate::problem::{Problem, report_problem};
-use crate::show::{PrintOptions, answer_bytes};
+use crate::show::{Form, PrintOptions, answer_bytes};
 use crate::sources::{load_all, paths};
+use crate::words::{WordKind, print_words};
 use clap::ArgMatches;
 use org_base::Fault;
 use org_cal::Moment;
@@ -42,22 +45,55 @@ fn answer_query<R: AllocGlobal + Files + Env + Clock + Print + Eprint + Clone + 
     if let Some(("check", own)) = matches.subcommand() {
         return check_files(rt, matches, own, &moment);
     }
+    let filters = read_filters(matches)?;
+    if let Some(kind) = asked_words(matches)? {
+        return print_words(rt, matches, kind, on_terminal || is_colored);
+    }
     let asked = read_question(rt.alloc(), matches, &moment)?;
     let look = PrintOptions {
         form: form(matches),
         is_colored,
         is_seen: on_terminal || is_colored,
+        has_days: has_days(matches)?,
         list: asked.list(),
+    };
+    let typed = filters.expression.unwrap_or(asked.expression());
+    let expressions = match filters.expressions(rt.alloc()) {
+        Ok(expressions) => expressions,
+        Err(problem) => return Ok(report_problem(rt, problem, typed)),
     };
     let question = Question {
         asked: &asked,
         profile: profile(matches.get_one::<u32>("profile").unwrap_or(1)),
         moment,
+        expressions: expressions.as_slice(),
     };
     match check(rt.alloc(), &question) {
-        Ok(()) => over_files(rt, matches, &question, &look),
-        Err(fault) => Ok(report_problem(rt, Problem::Fault(fault), asked.expression())),
+        Ok(()) => over_files(rt, matches, &question, &filters, &look),
+        Err(fault) => Ok(report_problem(rt, Problem::Fault(fault), typed)),
     }
+}
+
+// Which words are asked for, where the command is one of words.
+fn asked_words(matches: &ArgMatches<'_>) -> Result<Option<WordKind>, Problem> {
+    let kind = match matches.subcommand() {
+        Some(("keywords", _)) => WordKind::Keywords,
+        Some(("tags", _)) => WordKind::Tags,
+        _ => return Ok(None),
+    };
+    if matches.get_one::<u32>("days").is_some() {
+        return Err(Problem::DaysOf);
+    }
+    Ok(Some(kind))
+}
+
+// Whether days have objects of JSON too.
+fn has_days(matches: &ArgMatches<'_>) -> Result<bool, Problem> {
+    let has_days = matches.get_flag("days-too");
+    if has_days && form(matches) != Form::Json {
+        return Err(Problem::DaysToo);
+    }
+    Ok(has_days)
 }
 
 // Whether colours are wanted; by themselves neither where `NO_COLOR` is set nor on a terminal that is none.
@@ -87,10 +123,15 @@ fn moment_of<R: AllocGlobal + Files + Env + Clock>(
     let Some(text) = matches.get_str("at") else {
         return now(rt);
     };
-    match moment(text) {
-        Some(moment) => Ok(moment),
-        None => Err(Problem::Moment),
+    if let Some(moment) = moment(text) {
+        return Ok(moment);
     }
+    // The clock is asked only where a day may be said by it.
+    let is_date = text.as_bytes().first().is_none_or(u8::is_ascii_digit);
+    if is_date || !text.contains(' ') {
+        return Err(Problem::Moment);
+    }
+    typed_moment(text, now(rt)?.day).ok_or(Problem::Moment)
 }
 
 // Loads the files, answers over those that can be loaded, and gives the exit status.
@@ -98,6 +139,7 @@ fn over_files<R: AllocGlobal + Files + Env + Print + Eprint + Clone + Drop>(
     rt: &R,
     matches: &ArgMatches<'_>,
     question: &Question<'_, '_>,
+    filters: &Filters<'_, '_>,
     look: &PrintOptions,
 ) -> Result<u8, Problem> {
     let inherited = texts(rt.alloc(), matches.get_strs("inherit"))?;
@@ -105,7 +147,7 @@ fn over_files<R: AllocGlobal + Files + Env + Print + Eprint + Clone + Drop>(
     let paths = paths(rt, matches, &[])?;
     let keywords = matches.get_str("keywords");
     let left_out = load_all(rt, &mut file_set, paths.as_slice(), keywords)?;
-    let status = match text_of(rt, &file_set, question, look) {
+    let status = match text_of(rt, &file_set, question, filters.limit, look) {
         Ok((has_row, text)) => {
             let status = status_of(has_row, left_out);
             if matches.get_flag("quiet") {
@@ -114,7 +156,10 @@ fn over_files<R: AllocGlobal + Files + Env + Print + Eprint + Clone + Drop>(
                 print_all(rt, text.as_slice(), status)
             }
         }
-        Err(fault) => report_problem(rt, Problem::Fault(fault), question.asked.expression()),
+        Err(fault) => {
+            let typed = filters.expression.unwrap_or(question.asked.expression());
+            report_problem(rt, Problem::Fault(fault), typed)
+        }
     };
     // The program ends here: the system takes all memory back at once, which piece by piece would be a tenth of the run.
     forget(file_set);
@@ -126,6 +171,7 @@ fn text_of<R: AllocGlobal + Eprint>(
     rt: &R,
     file_set: &FileSet<Whole>,
     question: &Question<'_, '_>,
+    limit: Option<u32>,
     look: &PrintOptions,
 ) -> Result<(bool, Vec<u8>), Fault> {
     let inherits = file_set.inherits()?;
@@ -137,7 +183,9 @@ fn text_of<R: AllocGlobal + Eprint>(
         file_set,
         inherits: &inherits,
     };
-    let text = answer_bytes(rt.alloc(), &files, &answer, look)?;
+    let lines = lines_within(answer.lines.as_slice(), limit);
+    let view = answer.text.as_str();
+    let text = answer_bytes(rt.alloc(), &files, view, lines, look)?;
     let has_row = answer.has_row();
     // As the library: until the program ends nothing is needed but the text.
     forget(answer);

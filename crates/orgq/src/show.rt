@@ -3,13 +3,12 @@ ghost use Rattle.std.specs.Prelude.{◌≡◌, [], ◌∷◌, ◌++◌, true, If
 ghost use Rattle.org_base.specs.Results.{Adds};
 ghost use Rattle.orgq.specs.Shown.{AddsClean, AreCleanLines, IsSafe, KeepsClean, color, color_of, number_text, shown_line, shown_text};
 
-use crate::view::Answer;
 use org_agenda::RowKind;
 use org_base::Fault;
 use org_cal::Day;
 use org_client::{
-    Escape, LoadReport, OneLine, ShownSum, csv_line, json_line, push_visible, table_fields,
-    table_line,
+    Escape, LoadReport, OneLine, ShownSum, csv_line, day_line, json_line, push_visible,
+    table_fields, table_line,
 };
 use org_clocktable::Of;
 use org_layout::Line;
@@ -30,29 +29,31 @@ pub enum Form {
 }
 
 /// How an answer is printed: its form, whether late rows and warnings stand out, whether control characters are written so
-/// that they can be seen, and the kind of a list's rows.
+/// that they can be seen, whether days have objects of JSON too, and the kind of a list's rows.
 #[derive(Clone, Copy, Debug)]
 pub struct PrintOptions {
     pub form: Form,
     pub is_colored: bool,
     pub is_seen: bool,
+    pub has_days: bool,
     pub list: &'static str,
 }
 
-/// The bytes of an answer, line by line.
+/// The bytes of a view's text, line by line, as far as its lines are given.
 #[tactic(auto, using(crate::proofs::ShownLemmas::no_lines))]
 pub fn answer_bytes<T: Text>(
     alloc: Global,
     files: &LoadReport<'_, '_, T>,
-    answer: &Answer,
+    view: &str,
+    all: &[Line],
     look: &PrintOptions,
 ) -> Result<Vec<u8>, Fault>
     ensures clean { IsSafe look.now → IfOk result (λ out. AreCleanLines out.items) }
 {
     let mut out = Vec::new(alloc);
-    let mut lines = answer.lines.as_slice();
+    let mut lines = all;
     let mut days = None;
-    for text in answer.text.as_str().split_inclusive('\n') {
+    for text in view.split_inclusive('\n') {
         let Some((line, rest)) = lines.split_first() else {
             return Ok(out);
         };
@@ -112,7 +113,7 @@ fn push_line<T: Text>(
     match look.form {
         Form::Plain => Ok(push_text(out, shown, look)?),
         Form::Places => Ok(push_placed(alloc, out, files, shown, look)?),
-        Form::Json => push_json(alloc, out, files, shown),
+        Form::Json => push_json(alloc, out, files, shown, look.has_days),
         Form::Csv => push_csv(alloc, out, files, shown, look.list),
     }
 }
@@ -239,16 +240,37 @@ fn push_json<T: Text>(
     out: &mut Vec<u8>,
     files: &LoadReport<'_, '_, T>,
     shown: &LineOfAnswer<'_>,
+    has_days: bool,
 ) -> Result<(), Fault>
     ensures clean { KeepsClean result out.old out.new }
 {
     let text = shown.text.as_bytes();
+    if let Line::Day(day) = shown.line {
+        return push_day(alloc, out, *day, text, has_days);
+    }
     if let Line::Row(row) = shown.line {
         push_whole(out, &json_line(alloc, files, row, text)?)?;
     }
     if let Some(sum) = shown.sum() {
         push_whole(out, &table_line(alloc, files, &sum, text)?)?;
     }
+    Ok(())
+}
+
+// Appends the object of a day, if days have any.
+fn push_day(
+    alloc: Global,
+    out: &mut Vec<u8>,
+    day: Day,
+    text: &[u8],
+    has_days: bool,
+) -> Result<(), Fault>
+    ensures clean { KeepsClean result out.old out.new }
+{
+    if !has_days {
+        return Ok(());
+    }
+    push_whole(out, &day_line(alloc, day, text)?)?;
     Ok(())
 }
 
