@@ -38,7 +38,7 @@ _orgq() {
     case $command in
         agenda) options="$options --days $rows" ;;
         todo|match) options="$options --limit" ;;
-        clock) options="$options --from --to --level --step --effort --match" ;;
+        clock) options="$options --from --to --level --step --effort --match --chart" ;;
         next) options="$options --days --within --since --lead $rows" ;;
         check) options="$options --only --not --all --severity" ;;
         "") options="$options --days $rows agenda todo match clock next keywords tags check" ;;

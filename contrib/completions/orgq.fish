@@ -41,6 +41,7 @@ complete -c orgq -n '__fish_seen_subcommand_from next' -l within -x -d 'Only wha
 complete -c orgq -n '__fish_seen_subcommand_from clock' -l level -x -d 'The deepest level that is shown'
 complete -c orgq -n '__fish_seen_subcommand_from clock' -l step -x -a 'day week' -d 'A table for each day or week'
 complete -c orgq -n '__fish_seen_subcommand_from clock' -l effort -d 'Effort sums beside those of clocks'
+complete -c orgq -n '__fish_seen_subcommand_from clock' -l chart -d 'Sums as bars'
 complete -c orgq -n '__fish_seen_subcommand_from check' -l only -x -a '(__fish_complete_list , _orgq_kinds)' -d 'These kinds of findings alone'
 complete -c orgq -n '__fish_seen_subcommand_from check' -l not -x -a '(__fish_complete_list , _orgq_kinds)' -d 'Without these kinds'
 complete -c orgq -n '__fish_seen_subcommand_from check' -l all -d 'Those kinds too that are not usual'

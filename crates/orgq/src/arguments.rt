@@ -38,7 +38,8 @@ const OF_CLOCK: &str = "\
 ;level;N;The deepest level that is shown, 1 to 99; without it 2
 ;step;STEP;A table for each day or week: day or week
 ;effort;;Effort sums beside those of clocks
-;match;EXPR;Only headings of which the expression holds count";
+;match;EXPR;Only headings of which the expression holds count
+;chart;;Bars: each row's part of the total, or with --step a line for each step";
 
 const OF_NEXT: &str = "\
 d;days;N;How many days from today on, 1 to 366; without it 30

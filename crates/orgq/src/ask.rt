@@ -3,6 +3,7 @@ ghost use Rattle.std.specs.Prelude.{◌^◌, ◌<◌, IfSome};
 ghost use Rattle.org_client.specs.Files.{AreRead};
 ghost use Rattle.orgq.specs.Ahead.{IsLater};
 
+use crate::chart::clock_chart;
 use crate::clock::typed_moment;
 use crate::filters::{Filters, read_expression};
 use crate::options::{clock_options, texts};
@@ -32,8 +33,7 @@ pub enum Query<'a> {
     Agenda(Days),
     Todo(Texts),
     Match(&'a str),
-    /// The options of a clock table but for its days, as one text, its expression, and its days.
-    Clock(String, &'a str, Period),
+    Clock(ClockQuery<'a>),
     /// Days, and within how many minutes a row has to begin, if that counts.
     Next(Days, Option<u32>),
     /// What begins within a window, and its days.
@@ -45,9 +45,14 @@ impl<'a> Query<'a> {
     pub fn expression(&self) -> &str {
         match self {
             Query::Match(expression) => expression,
-            Query::Clock(_, expression, _) => expression,
+            Query::Clock(table) => table.expression,
             Query::Agenda(_) | Query::Todo(_) | Query::Next(..) | Query::Since(..) => "",
         }
+    }
+
+    /// Whether bars are asked for, which have no form but their lines.
+    pub fn is_chart(&self) -> bool {
+        matches!(self, Query::Clock(table) if table.is_chart)
     }
 
     /// The kind of a list's rows in fields between commas.
@@ -57,6 +62,19 @@ impl<'a> Query<'a> {
             _ => "todo",
         }
     }
+}
+
+/// A clock table that is asked for.
+#[derive(Debug, Drop)]
+pub struct ClockQuery<'a> {
+    /// Its options but for its days, as one text.
+    pub options: String,
+    /// The expression among them.
+    pub expression: &'a str,
+    /// Its days.
+    pub period: Period,
+    /// Whether it is shown as bars.
+    pub is_chart: bool,
 }
 
 /// What the arguments ask for at a moment.
@@ -187,8 +205,12 @@ fn asked_table<'a>(
     if table_count(&period, step) > MOST_TABLES {
         return Err(Problem::Tables);
     }
-    let text = clock_options(alloc, own)?;
-    Ok(Query::Clock(text, own.get_str("match").unwrap_or(""), period))
+    Ok(Query::Clock(ClockQuery {
+        options: clock_options(alloc, own)?,
+        expression: own.get_str("match").unwrap_or(""),
+        period,
+        is_chart: own.get_flag("chart"),
+    }))
 }
 
 // How many tables a step cuts days into.
@@ -256,8 +278,8 @@ pub fn check(alloc: Global, question: &Question<'_, '_>) -> Result<(), Fault> {
         Query::Match(expression) => {
             let _ = read_expression(alloc, expression)?;
         }
-        Query::Clock(options, ..) => {
-            check_options(alloc, options.as_str(), question.moment.day)?;
+        Query::Clock(table) => {
+            check_options(alloc, table.options.as_str(), question.moment.day)?;
         }
         Query::Agenda(_) | Query::Todo(_) | Query::Next(..) | Query::Since(..) => {}
     }
@@ -293,7 +315,7 @@ pub fn answer(
         Query::Agenda(days) => agenda_days(alloc, inherits, &chosen, *days),
         Query::Todo(words) => todo_list(alloc, inherits, words),
         Query::Match(expression) => match_answer(alloc, inherits, expression, now),
-        Query::Clock(options, _, period) => clock(alloc, inherits, options.as_str(), period, now),
+        Query::Clock(table) => clock(alloc, inherits, table, now),
         Query::Next(days, within) => {
             let agenda = agenda_over(alloc, inherits, &chosen, *days)?;
             rows_ahead(alloc, inherits, &agenda, &now, *within)
@@ -320,15 +342,19 @@ fn match_answer(
 fn clock(
     alloc: Global,
     inherits: &Inherits<'_>,
-    options: &str,
-    period: &Period,
+    table: &ClockQuery<'_>,
     now: Moment,
 ) -> Result<Answer, Fault>
     requires read { AreRead inherits.now }
 {
+    let options = table.options.as_str();
     if options.len() > LONGEST {
         return Err(Fault::Plain(Code::Long));
     }
     let spec = TableSpec::read(alloc, options, now.day)?;
-    clock_table(alloc, inherits, &spec, period, now)
+    if table.is_chart {
+        clock_chart(alloc, inherits, &spec, &table.period, now)
+    } else {
+        clock_table(alloc, inherits, &spec, &table.period, now)
+    }
 }

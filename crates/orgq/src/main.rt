@@ -4,6 +4,7 @@
 
 mod arguments;
 mod ask;
+mod chart;
 mod check;
 mod checked;
 mod clock;

@@ -13,6 +13,8 @@ pub enum Problem {
     Block,
     /// The category of `--category` has a quotation mark.
     Category,
+    /// Bars are asked for in a form that they don't have.
+    Chart,
     Clock,
     Color,
     Command,
@@ -64,6 +66,7 @@ impl Problem {
         match self {
             Problem::Block => NO_BLOCK,
             Problem::Category => "a category of --category has no quotation mark in it",
+            Problem::Chart => "--chart has lines alone, without -n, --json and --csv",
             Problem::Clock => {
                 "neither clock nor time zone can be read (TZ, /etc/localtime): --at names the moment"
             }

@@ -57,6 +57,9 @@ fn answer_query<R: AllocGlobal + Files + Env + Clock + Print + Eprint + Clone + 
         has_days: has_days(matches)?,
         list: asked.list(),
     };
+    if asked.is_chart() && look.form != Form::Plain {
+        return Err(Problem::Chart);
+    }
     let typed = filters.expression.unwrap_or(asked.expression());
     let expressions = match filters.expressions(rt.alloc()) {
         Ok(expressions) => expressions,
