@@ -11,7 +11,7 @@ const LONGEST: usize = 65_536;
 
 /// What rows are shown: those of headings that meet the expression, have the tags and are of the category, as many as the
 /// limit says; what isn't named leaves out none.
-#[derive(Debug)]
+#[derive(Clone, Copy, Debug)]
 pub struct Filters<'a, 'b> {
     pub expression: Option<&'a str>,
     pub tags: &'b [&'a str],
