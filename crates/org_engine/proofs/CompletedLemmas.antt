@@ -134,7 +134,7 @@ module _ (name : List ℕ) (line : ℕ) (keyword : List ℕ) (world new : KeptWo
   pub completed_none : CompletesNone name line keyword old mid
   completed_none = (others mid refl, record { reads = read.one.reads; count = 0; one = read.one.few; few = omega arith; counts = read.one.counts })
 
-  pub completed_err : {T A : Type 0} (content : T → List ℕ) (session asked : ℕ) (seen : List ℕ) (fault : Fault) (out : Result A Fault) → text_seen session name asked files ≡ Ok seen → Completed {T} content name line keyword world (Err fault) → IsErrAnd out (λ why. why ≡ fault) →
+  pub completed_err : {T A : Type 0} (content : T → List ℕ) (session asked : ℕ) (seen : List ℕ) (fault : Fault) (out : Result A Fault) → text_seen session name asked files ≡ Ok seen → Completed {T = T} content name line keyword world (Err fault) → IsErrAnd out (λ why. why ≡ fault) →
       Refuses (Complete session name asked line keyword) old out mid
   completed_err content session asked seen fault (Ok x) is refused passed = tt
   completed_err content session asked seen fault (Err why) is refused passed =

@@ -22,7 +22,7 @@ use Rattle.org_wire.specs.declared.command.Request.{Request}
 use Rattle.org_wire.specs.declared.command.Next.{Next}
 use Rattle.org_wire.specs.declared.command.Next.TheVariants.{Given, Refused, Last, Ended}
 use Rattle.org_wire.specs.declared.reply.Reply.{Reply}
-use Rattle.org_wire.specs.declared.run.End.{End}
+use Rattle.org_wire.specs.declared.stream.End.{End}
 
 -- the answer to a question, as it is written
 abbrev send : Form → Query → WorldView → Reply

@@ -7,7 +7,7 @@ use Rattle.org_wire.specs.Spelled.{IsSpelled}
 use Rattle.org_wire.specs.Stream.{Bad, Framed, Line, Plainly, line_of}
 use Rattle.org_wire.specs.Turns.{AnswersAllRead, IsReadRun}
 use Rattle.org_wire.specs.Views.{CountedView}
-use Rattle.org_wire.specs.declared.run.End.{End}
+use Rattle.org_wire.specs.declared.stream.End.{End}
 use Rattle.org_wire.proofs.SpelledBack.{lines_are_spelled}
 
 module _ (second : Bool) (says : List ℕ → Line) (spelled : IsSpelled second says) where

@@ -8,7 +8,7 @@ use Rattle.org_wire.specs.Run.{IsWhole, JaggedVec, out_of_memory}
 use Rattle.org_wire.specs.Stream.{line_of}
 use Rattle.org_wire.specs.declared.reply.Reply.{Reply}
 use Rattle.org_wire.specs.declared.reply.Reply.TheVariants.{Refused}
-use Rattle.org_wire.specs.declared.run.End.{End}
+use Rattle.org_wire.specs.declared.stream.End.{End}
 
 -- neither out of memory is answered, nor that `regex` refuses a pattern
 abbrev pub IsSettled : Reply → Type 0

@@ -24,8 +24,8 @@ use Rattle.org_wire.specs.declared.command.Next.{Next}
 use Rattle.org_wire.specs.declared.command.Next.TheVariants.{Given, Refused, Last, Ended}
 use Rattle.org_wire.specs.declared.reply.Reply.{Reply}
 use Rattle.org_wire.specs.declared.reply.Reply.TheVariants as reply
-use Rattle.org_wire.specs.declared.run.End.{End}
-use Rattle.org_wire.specs.declared.run.End.TheVariants.{Done, Stopped}
+use Rattle.org_wire.specs.declared.stream.End.{End}
+use Rattle.org_wire.specs.declared.stream.End.TheVariants.{Done, Stopped}
 
 -- the command of another moment; where none is spelled, one that is refused
 abbrev pub moment_command : Option Moment → step.Command

@@ -22,8 +22,8 @@ use Rattle.org_wire.specs.declared.command.Next.TheVariants.{Given, Refused, Las
 use Rattle.org_wire.specs.declared.reply.Reply.{Reply}
 use Rattle.org_wire.specs.Views.{CountedView}
 use Rattle.org_wire.specs.declared.reply.Reply.TheVariants as reply
-use Rattle.org_wire.specs.declared.run.End.{End}
-use Rattle.org_wire.specs.declared.run.End.TheVariants.{Stopped}
+use Rattle.org_wire.specs.declared.stream.End.{End}
+use Rattle.org_wire.specs.declared.stream.End.TheVariants.{Stopped}
 
 -- the stream was answered so far, and these bytes are left
 pub record IsSoFar (second : Bool) (bytes : List ℕ) (old new : State) (had has now : Option (List ℕ)) : Type 0 where

@@ -3,13 +3,14 @@ ghost use Rattle.std.specs.Prelude.{◌≤◌, length};
 ghost use Rattle.org_base.specs.declared.limits.TheConstants.{MOST_FILES};
 ghost use Rattle.org_client.specs.Files.{AreRead};
 
+use crate::table::push_table;
 use crate::view::Answer;
 use org_base::{Fault, MOST_FILES};
 use org_cal::{Moment, Period, Step, day_name, push_date};
 use org_client::{bar_eighths, hundredths, part_lengths};
 use org_clocktable::{CountedFile, Of, TableRow, TableSpec, counted_files, step_rows};
 use org_inherit::Inherits;
-use org_layout::{Line, TableStep, push_step_lines, table_text};
+use org_layout::{Line, TableStep};
 use std::alloc::{AllocError, Global};
 
 // How many columns the longest bar takes.
@@ -21,8 +22,8 @@ const EIGHTHS: [&str; 8] = ["", "▏", "▎", "▍", "▌", "▋", "▊", "▉"]
 // The signs of files in a stacked bar, in the order of the files; from the fifth file on they come again.
 const SHADES: [&str; 4] = ["█", "▓", "▒", "░"];
 
-/// The clock table that options ask for over these days, as bars. Without steps each row has its part of the total and a bar in front. With steps
-/// each step has a line, whose bar is stacked by files, and the rows of the files stand below.
+/// The clock table that options ask for over these days, as bars. Without steps each row has its part of the total and a bar
+/// in front. With steps each step has a line, whose bar is stacked by files, and the rows of the files stand below.
 pub fn clock_chart(
     alloc: Global,
     inherits: &Inherits<'_>,
@@ -34,54 +35,57 @@ pub fn clock_chart(
 {
     let files = counted_files(alloc, inherits, spec.expression(), &moment)?;
     let chart = Chart {
-        inherits,
-        spec,
         period: *period,
-        files: files.as_slice(),
+        step: spec.step(),
+        most: spec.most(),
+        with_effort: spec.with_effort(),
     };
-    match spec.step() {
-        Step::Whole => rows_chart(alloc, &chart),
-        Step::Day | Step::Week => steps_chart(alloc, &chart),
+    match chart.step {
+        Step::Whole => rows_chart(alloc, inherits, files.as_slice(), &chart),
+        Step::Day | Step::Week => steps_chart(alloc, inherits, files.as_slice(), &chart),
     }
 }
 
-// What a chart is made of.
-#[derive(Drop)]
-struct Chart<'a, 'b> {
-    inherits: &'a Inherits<'b>,
-    spec: &'a TableSpec<'b>,
+// What a chart shows: its days, how they are cut, the deepest level, and whether effort sums stand beside those of clocks.
+#[derive(Clone, Copy)]
+struct Chart {
     period: Period,
-    files: &'a [CountedFile<'b>],
-    ghost at_most: { length files.now ≤ MOST_FILES },
+    step: Step,
+    most: u32,
+    with_effort: bool,
 }
 
-impl Chart<'_, '_> {
-    fn rows(&self, alloc: Global, period: &Period) -> Result<Vec<TableRow>, Fault> {
-        step_rows(alloc, period, self.spec.most(), self.files)
-    }
-
-    // The clock table that has these rows.
-    fn table(&self, alloc: Global, period: &Period, rows: &[TableRow]) -> Result<Answer, Fault> {
-        let step = TableStep { period, rows };
-        let mut text = String::new(alloc);
-        table_text(
-            alloc,
-            &mut text,
-            self.inherits,
-            self.spec.with_effort(),
-            &step,
-        )?;
-        let mut lines = Vec::new(alloc);
-        push_step_lines(&mut lines, &step)?;
-        Ok(Answer { text, lines })
-    }
+// One table.
+fn table_of(
+    alloc: Global,
+    inherits: &Inherits<'_>,
+    with_effort: bool,
+    step: &TableStep<'_>,
+) -> Result<Answer, Fault> {
+    let mut answer = Answer {
+        text: String::new(alloc),
+        lines: Vec::new(alloc),
+    };
+    push_table(alloc, &mut answer, inherits, with_effort, step)?;
+    Ok(answer)
 }
 
 // The rows of a table, each after its part of the total and its bar.
-fn rows_chart(alloc: Global, chart: &Chart<'_, '_>) -> Result<Answer, Fault> {
-    let period = &chart.period;
-    let rows = chart.rows(alloc, period)?;
-    let table = chart.table(alloc, period, rows.as_slice())?;
+fn rows_chart(
+    alloc: Global,
+    inherits: &Inherits<'_>,
+    files: &[CountedFile<'_>],
+    chart: &Chart,
+) -> Result<Answer, Fault>
+    requires at_most { length files.now ≤ MOST_FILES }
+{
+    let period = chart.period;
+    let rows = step_rows(alloc, &period, chart.most, files)?;
+    let step = TableStep {
+        period: &period,
+        rows: rows.as_slice(),
+    };
+    let table = table_of(alloc, inherits, chart.with_effort, &step)?;
     let text = with_bars(alloc, table.text.as_str(), rows.as_slice())?;
     Ok(Answer {
         text,
@@ -134,18 +138,26 @@ struct StepSums {
 }
 
 // A line for each step, then the rows of the files.
-fn steps_chart(alloc: Global, chart: &Chart<'_, '_>) -> Result<Answer, Fault> {
-    let steps = all_sums(alloc, chart)?;
-    let mut answer = Answer {
-        text: String::new(alloc),
-        lines: Vec::new(alloc),
-    };
+fn steps_chart(
+    alloc: Global,
+    inherits: &Inherits<'_>,
+    files: &[CountedFile<'_>],
+    chart: &Chart,
+) -> Result<Answer, Fault>
+    requires at_most { length files.now ≤ MOST_FILES }
+{
+    let steps = all_sums(alloc, files, chart)?;
     let most = greatest(steps.as_slice());
+    let mut text = String::new(alloc);
+    let mut lines = Vec::new(alloc);
     for step in &steps {
-        push_step(alloc, &mut answer, chart.spec.step(), step, most)?;
+        push_step(alloc, &mut text, chart.step, step, most)?;
+        lines.push(Line::Step(step.period.first, step.period.last))?;
     }
-    push_files(alloc, &mut answer, chart)?;
-    Ok(answer)
+    let below = file_rows(alloc, inherits, files, chart)?;
+    text.push_str(below.text.as_str())?;
+    lines.extend_from_slice(below.lines.as_slice())?;
+    Ok(Answer { text, lines })
 }
 
 fn greatest(steps: &[StepSums]) -> u64 {
@@ -156,18 +168,31 @@ fn greatest(steps: &[StepSums]) -> u64 {
     most
 }
 
-fn all_sums(alloc: Global, chart: &Chart<'_, '_>) -> Result<Vec<StepSums>, Fault> {
+fn all_sums(
+    alloc: Global,
+    files: &[CountedFile<'_>],
+    chart: &Chart,
+) -> Result<Vec<StepSums>, Fault>
+    requires at_most { length files.now ≤ MOST_FILES }
+{
     let mut steps = Vec::new(alloc);
-    for period in chart.period.steps(chart.spec.step()) {
-        let step = step_sums(alloc, chart, period)?;
+    for period in chart.period.steps(chart.step) {
+        let step = step_sums(alloc, files, chart.most, period)?;
         steps.push(step)?;
     }
     Ok(steps)
 }
 
-fn step_sums(alloc: Global, chart: &Chart<'_, '_>, period: Period) -> Result<StepSums, Fault> {
-    let rows = chart.rows(alloc, &period)?;
-    let by_file = file_sums(alloc, chart.files.len(), rows.as_slice())?;
+fn step_sums(
+    alloc: Global,
+    files: &[CountedFile<'_>],
+    most: u32,
+    period: Period,
+) -> Result<StepSums, Fault>
+    requires at_most { length files.now ≤ MOST_FILES }
+{
+    let rows = step_rows(alloc, &period, most, files)?;
+    let by_file = file_sums(alloc, files.len(), rows.as_slice())?;
     let total = rows.as_slice().first().map_or(0, |row| row.clock);
     Ok(StepSums {
         period,
@@ -195,21 +220,16 @@ fn file_sums(alloc: Global, count: usize, rows: &[TableRow]) -> Result<Vec<u64>,
 // Appends the line of a step: its days, its sum, and a bar of its files' parts.
 fn push_step(
     alloc: Global,
-    answer: &mut Answer,
+    out: &mut String,
     step: Step,
     sums: &StepSums,
     most: u64,
 ) -> Result<(), AllocError> {
-    let text = &mut answer.text;
-    push_days(text, step, &sums.period)?;
+    push_days(out, step, &sums.period)?;
     let (hours, minutes) = (sums.total / 60, sums.total % 60);
-    write!(text, "{hours:>5}:{minutes:02}")?;
-    push_stacked(alloc, text, sums.by_file.as_slice(), most)?;
-    text.push('\n')?;
-    answer
-        .lines
-        .push(Line::Step(sums.period.first, sums.period.last))?;
-    Ok(())
+    write!(out, "{hours:>5}:{minutes:02}")?;
+    push_stacked(alloc, out, sums.by_file.as_slice(), most)?;
+    out.push('\n')
 }
 
 // Appends a stacked bar after two spaces, if it is a column long.
@@ -241,15 +261,28 @@ fn push_days(out: &mut String, step: Step, period: &Period) -> Result<(), AllocE
     Ok(())
 }
 
-// Appends the rows of the total and of the files over the whole period, each file after its sign.
-fn push_files(alloc: Global, answer: &mut Answer, chart: &Chart<'_, '_>) -> Result<(), Fault> {
-    let period = &chart.period;
-    let all = chart.rows(alloc, period)?;
+// The rows of the total and of the files over all days, each file after its sign.
+fn file_rows(
+    alloc: Global,
+    inherits: &Inherits<'_>,
+    files: &[CountedFile<'_>],
+    chart: &Chart,
+) -> Result<Answer, Fault>
+    requires at_most { length files.now ≤ MOST_FILES }
+{
+    let period = chart.period;
+    let all = step_rows(alloc, &period, chart.most, files)?;
     let rows = without_headings(alloc, all.as_slice())?;
-    let table = chart.table(alloc, period, rows.as_slice())?;
-    push_signed(&mut answer.text, table.text.as_str(), rows.as_slice())?;
-    answer.lines.extend_from_slice(table.lines.as_slice())?;
-    Ok(())
+    let step = TableStep {
+        period: &period,
+        rows: rows.as_slice(),
+    };
+    let table = table_of(alloc, inherits, chart.with_effort, &step)?;
+    let text = with_signs(alloc, table.text.as_str(), rows.as_slice())?;
+    Ok(Answer {
+        text,
+        lines: table.lines,
+    })
 }
 
 fn without_headings(alloc: Global, rows: &[TableRow]) -> Result<Vec<TableRow>, AllocError> {
@@ -262,20 +295,21 @@ fn without_headings(alloc: Global, rows: &[TableRow]) -> Result<Vec<TableRow>, A
     Ok(kept)
 }
 
-// Appends the lines of a table, whose first one names its days, with the sign of its file before each other.
-fn push_signed(out: &mut String, table: &str, rows: &[TableRow]) -> Result<(), AllocError> {
+// The lines of a table, whose first one names its days, with the sign of its file before each other.
+fn with_signs(alloc: Global, table: &str, rows: &[TableRow]) -> Result<String, AllocError> {
+    let mut text = String::new(alloc);
     let mut rows = rows;
     for (place, line) in table.split_inclusive('\n').enumerate() {
         if place > 0 {
             if let [row, rest @ ..] = rows {
-                push_signs(out, sign_of(row.of), 2)?;
-                out.push(' ')?;
+                push_signs(&mut text, sign_of(row.of), 2)?;
+                text.push(' ')?;
                 rows = rest;
             }
         }
-        out.push_str(line)?;
+        text.push_str(line)?;
     }
-    Ok(())
+    Ok(text)
 }
 
 fn sign_of(of: Of) -> &'static str {

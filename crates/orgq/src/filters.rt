@@ -14,7 +14,7 @@ const LONGEST: usize = 65_536;
 #[derive(Clone, Copy, Debug)]
 pub struct Filters<'a, 'b> {
     pub expression: Option<&'a str>,
-    pub tags: &'b [&'a str],
+    pub tags: Option<&'b [&'a str]>,
     pub category: Option<&'a str>,
     pub limit: Option<u32>,
 }
@@ -24,7 +24,7 @@ impl<'a, 'b> Filters<'a, 'b> {
     pub fn within(limit: Option<u32>) -> Filters<'a, 'b> {
         Filters {
             expression: None,
-            tags: &[],
+            tags: None,
             category: None,
             limit,
         }
@@ -34,7 +34,7 @@ impl<'a, 'b> Filters<'a, 'b> {
     pub fn of(matches: &'b ArgMatches<'a>) -> Filters<'a, 'b> {
         Filters {
             expression: matches.get_str("match"),
-            tags: matches.get_strs("tag").unwrap_or(&[]),
+            tags: matches.get_strs("tag"),
             category: matches.get_str("category"),
             limit: matches.get_one::<u32>("limit"),
         }
@@ -42,14 +42,9 @@ impl<'a, 'b> Filters<'a, 'b> {
 
     /// These, and of others what these lack.
     pub fn or(&self, others: &Filters<'a, 'b>) -> Filters<'a, 'b> {
-        let tags = if self.tags.is_empty() {
-            others.tags
-        } else {
-            self.tags
-        };
         Filters {
             expression: self.expression.or(others.expression),
-            tags,
+            tags: self.tags.or(others.tags),
             category: self.category.or(others.category),
             limit: self.limit.or(others.limit),
         }
@@ -57,7 +52,7 @@ impl<'a, 'b> Filters<'a, 'b> {
 
     /// Whether headings are chosen.
     pub fn chooses(&self) -> bool {
-        self.expression.is_some() || !self.tags.is_empty() || self.category.is_some()
+        self.expression.is_some() || self.tags.is_some() || self.category.is_some()
     }
 
     /// Each of them as an expression, which is read.
@@ -66,7 +61,7 @@ impl<'a, 'b> Filters<'a, 'b> {
         if let Some(expression) = self.expression {
             add(&mut expressions, read_expression(alloc, expression)?)?;
         }
-        for tag in self.tags {
+        for tag in self.tags.unwrap_or(&[]) {
             add(&mut expressions, read_tag(alloc, tag)?)?;
         }
         if let Some(category) = self.category {

@@ -6,8 +6,8 @@ use Rattle.org_wire.specs.Turns.{Answered}
 use Rattle.org_wire.specs.declared.command.Next.TheVariants.{Last}
 use Rattle.org_wire.proofs.CountedLemmas.{Did, count_cut, count_end, count_turn}
 use Rattle.org_wire.proofs.RunLemmas.{step_turn, step_front, step_last, step_device}
-use Rattle.org_wire.proofs.run.run_over.Goals as goal
-use Rattle.org_wire.proofs.run.run_over.Goals.{in-Refused, in-Given}
+use Rattle.org_wire.proofs.stream.run_over.Goals as goal
+use Rattle.org_wire.proofs.stream.run_over.Goals.{in-Refused, in-Given}
 
 pub returns-in-Last-clause-value : goal.returns-in-Last-clause-value
 returns-in-Last-clause-value g c =

@@ -1,6 +1,6 @@
 use Rattle.org_wire.specs.Stream.{is_second}
 use Rattle.org_wire.proofs.SaysLemmas.{all_spelled, spelled_run}
-use Rattle.org_wire.proofs.run.run.Goals as goal
+use Rattle.org_wire.proofs.stream.run.Goals as goal
 
 pub returns-clause-value : goal.returns-clause-value
 returns-clause-value g c = λ begun.

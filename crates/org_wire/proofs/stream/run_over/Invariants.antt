@@ -4,7 +4,7 @@ use Rattle.org_wire.specs.Counting.{IsCountedSoFar}
 use Rattle.org_wire.specs.Devices.{StaysBounded}
 use Rattle.org_wire.specs.Input.{left, ahead}
 use Rattle.org_wire.specs.Turns.{IsSoFar}
-use Rattle.org_wire.proofs.run.run_over.Given as goal
+use Rattle.org_wire.proofs.stream.run_over.Given as goal
 
 abbrev pub invariant-turns : goal.invariant-turns
 invariant-turns g l = record {
