@@ -1,0 +1,5 @@
+pub mod Changes
+pub mod Amending
+pub mod Completing
+pub mod Examples
+pub mod Laws
