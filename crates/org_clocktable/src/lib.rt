@@ -11,7 +11,7 @@
 //! ```
 //! let files = counted_files(alloc, inherits, spec.expression(), &moment)?;
 //! // ..
-//! for period in spec.period().steps(spec.step()) {
+//! for period in period.steps(spec.step()) {
 //!     let rows = step_rows(alloc, &period, spec.most(), files.as_slice())?;
 //! ```
 //!

@@ -1,5 +1,5 @@
 -- One line more of the first rows.
-use Rattle.std.proofs.Common.{◌≡◌, ◌∙◌, ℕ, ◌+◌, ◌<◌, ◌≤◌, false, List, [], ◌∷◌, ◌++◌, length, take, drop, get_or, refl, sym, ap, arith, append_assoc, append_nil}
+use Rattle.std.proofs.Common.{◌≡◌, ◌∙◌, ℕ, ◌+◌, ◌<◌, ◌≤◌, false, List, [], ◌∷◌, ◌++◌, length, take, drop, get_or, refl, sym, ap, arith, append_assoc, append-nil}
 use Rattle.std.specs.Prelude.{◌==◌, if◌then◌else◌}
 use Rattle.std.proofs.lemmas.List.{drop_all, drop_more, take_all, take_more}
 use Rattle.org_layout.specs.declared.shown.Line.{Line}
@@ -26,9 +26,9 @@ nothing (line ∷ lines) = refl
 pub first_none : (n i : ℕ) (lines : List Line) → n ≡ 0 → take i lines ++ first_rows n (drop i lines) ≡ take i lines
 first_none n i lines none =
     ap (λ k. take i lines ++ first_rows k (drop i lines)) none
-    ∙ (ap (λ ls. take i lines ++ ls) (nothing (drop i lines)) ∙ append_nil (take i lines))
+    ∙ (ap (λ ls. take i lines ++ ls) (nothing (drop i lines)) ∙ append-nil (take i lines))
 
 -- past the last line there are no more
 pub first_past : (n i : ℕ) (lines : List Line) → length lines ≤ i → take i lines ++ first_rows n (drop i lines) ≡ lines
 unfolding first_rows
-first_past n i lines le = ap (λ ls. take i lines ++ first_rows n ls) (drop_all i lines le) ∙ (append_nil (take i lines) ∙ take_all i lines le)
+first_past n i lines le = ap (λ ls. take i lines ++ first_rows n ls) (drop_all i lines le) ∙ (append-nil (take i lines) ∙ take_all i lines le)

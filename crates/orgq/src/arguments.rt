@@ -53,6 +53,35 @@ const OF_CHECK: &str = "\
 ;all;;Those kinds too that are not usual
 ;severity;SEVERITY;How severe a finding makes status 1: error, warning or note";
 
+// The commands.
+const COMMANDS: [&str; 8] = [
+    "agenda", "todo", "match", "clock", "next", "keywords", "tags", "check",
+];
+
+/// Whether a word is the name of a command.
+pub fn is_command(word: &str) -> bool {
+    COMMANDS.iter().any(|name| *name == word)
+}
+
+/// Whether an option that may stand before a command takes a value; its name or its letter says which one.
+pub fn takes_value(name: &str) -> bool {
+    is_valued(OF_ALL, name) || is_valued(OF_TODAY, name) || is_valued(OF_ROWS, name)
+}
+
+fn is_valued(options: &'static str, name: &str) -> bool {
+    options.split('\n').any(|line| {
+        let mut fields = line.split(';');
+        let is_named = fields.next() == Some(name) || fields.next() == Some(name);
+        is_named && !name.is_empty() && has_value(line)
+    })
+}
+
+fn has_value(line: &str) -> bool {
+    line.split(';')
+        .nth(2)
+        .is_some_and(|value| !value.is_empty())
+}
+
 /// The arguments that the program takes.
 pub fn command<'a>(alloc: Global) -> Result<Command<'a>, AllocError> {
     program(alloc)?

@@ -24,9 +24,6 @@ use std::alloc::Global;
 // The most bytes of options.
 const LONGEST: usize = 65_536;
 
-// The most tables that days are cut into.
-const MOST_TABLES: usize = 366;
-
 /// What is asked for.
 #[derive(Debug, Drop)]
 pub enum Query<'a> {
@@ -202,7 +199,7 @@ fn asked_table<'a>(
         Some(_) => return Err(Problem::Step),
     };
     let period = asked_period(own, moment.day)?;
-    if table_count(&period, step) > MOST_TABLES {
+    if table_count(&period, step) > MOST_DAYS as usize {
         return Err(Problem::Tables);
     }
     Ok(Query::Clock(ClockQuery {

@@ -168,11 +168,7 @@ fn greatest(steps: &[StepSums]) -> u64 {
     most
 }
 
-fn all_sums(
-    alloc: Global,
-    files: &[CountedFile<'_>],
-    chart: &Chart,
-) -> Result<Vec<StepSums>, Fault>
+fn all_sums(alloc: Global, files: &[CountedFile<'_>], chart: &Chart) -> Result<Vec<StepSums>, Fault>
     requires at_most { length files.now ≤ MOST_FILES }
 {
     let mut steps = Vec::new(alloc);

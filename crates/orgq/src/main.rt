@@ -13,6 +13,7 @@ mod exit;
 mod files;
 mod filters;
 mod findings;
+mod joined;
 mod keywords;
 mod limits;
 mod options;
@@ -30,6 +31,7 @@ mod words;
 
 use crate::arguments::command;
 use crate::exit::BAD_ARGUMENTS;
+use crate::joined::joined_values;
 use crate::say::{out_of_memory, say};
 use crate::session::run;
 use crate::usage::parser_said;
@@ -66,7 +68,10 @@ fn start<R: AllocGlobal + Files + Env + Clock + Print + Eprint + Clone + Drop>(
     let Ok(command) = command(rt.alloc()) else {
         return out_of_memory(rt);
     };
-    match command.try_get_matches_from(words) {
+    let Ok(joined) = joined_values(rt.alloc(), words) else {
+        return out_of_memory(rt);
+    };
+    match command.try_get_matches_from(joined.as_slice()) {
         Ok(matches) => run(rt, &matches, on_terminal),
         Err(error) => parser_said(rt, words, &error),
     }

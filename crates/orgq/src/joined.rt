@@ -1,0 +1,51 @@
+//! Values of options that are spelled as commands are.
+
+use crate::arguments::{is_command, takes_value};
+use std::alloc::{AllocError, Global};
+
+/// The words, with the value of an option joined to it where it has the name of a command: the parser would take it for one.
+pub fn joined_values(alloc: Global, words: &[String]) -> Result<Vec<String>, AllocError> {
+    let mut joined: Vec<String> = Vec::new(alloc);
+    let mut sign = None;
+    let mut has_options = true;
+    for word in words {
+        let text = word.as_str();
+        let glue = if is_command(text) { sign } else { None };
+        push_joined(alloc, &mut joined, glue, text)?;
+        has_options = has_options && text != "--";
+        sign = if has_options { sign_of(text) } else { None };
+    }
+    Ok(joined)
+}
+
+// Puts a word after others, or with a sign to the last of them.
+fn push_joined(
+    alloc: Global,
+    joined: &mut Vec<String>,
+    glue: Option<&str>,
+    text: &str,
+) -> Result<(), AllocError> {
+    if let Some(sign) = glue {
+        if let Some(mut option) = joined.pop() {
+            option.push_str(sign)?;
+            option.push_str(text)?;
+            joined.push(option)?;
+            return Ok(());
+        }
+    }
+    joined.push(String::from_str(alloc, text)?)?;
+    Ok(())
+}
+
+// What stands between an option and its value, if a word is an option that takes one.
+fn sign_of(word: &str) -> Option<&'static str> {
+    if let Some(name) = word.strip_prefix("--") {
+        return if takes_value(name) { Some("=") } else { None };
+    }
+    let letters = word.strip_prefix('-')?;
+    let last = letters.len().checked_sub(1)?;
+    if letters.is_char_boundary(last) && takes_value(&letters[last..]) {
+        return Some("");
+    }
+    None
+}

@@ -1,0 +1,2 @@
+mkdir agenda
+printf '* TODO One\n* TODO Two\n' > agenda/a.org
