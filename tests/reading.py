@@ -280,6 +280,8 @@ class Laws:
         self.read_rows()
         for law, names in re.findall(r"^\| `(\w+::\w+)` \| (.*) \|$", read("tests/shown/laws.md"), re.M):
             self.settles[law] = re.findall(r"`(\w+)`", names)
+        self.settled = {key for law, names in self.settles.items() if law in self.statements
+                        for key in specs.named(self.statements[law]) if key[2] in names}
 
     def read_rows(self):
         """The rows: their chapter, the keys of their definitions, their laws and what else shows them."""
@@ -307,6 +309,14 @@ class Laws:
         named = [law for _, keys, kinds in self.rows if key in keys for law in kinds.get("law", []) if law in self.statements]
         straight = [law for law in dict.fromkeys(named) if key in self.specs.named(self.statements[law])]
         return straight or [law for law in dict.fromkeys(named) if key in self.specs.reached([self.statements[law]])]
+
+    def side(self, law):
+        """What a law is said with, in the order in which it is reached, but for what the headline reaches and what a law settles.
+        Of a law that ties one way it is what stands in the law's own file."""
+        first = self.statements[law]
+        found = [key for key in self.specs.reached([first], self.settled) if key in self.specs.definitions and key != first]
+        mine = [key for key in found if key not in self.own and key not in self.settled]
+        return mine if law in self.settles else [key for key in mine if key[:2] == first[:2]]
 
     def tied(self, keys):
         """The definitions that laws settle whole, each with these laws."""
@@ -389,7 +399,7 @@ def in_order(specs, first, own):
 
 
 def entry(specs, laws, key, tied, gone, told):
-    """A definition with its comment, its law, the kind of tie, and what else shows it."""
+    """A definition with its comment, its law and what that is said with, the kind of tie, and what else shows it."""
     item = specs.definitions[key]
     out = [f"**`{item.name}`** `{item.path.removeprefix('crates/')}:{item.line}`", "", "```", *item.comment, *item.body, "```", ""]
     names = laws.of(key)
@@ -400,8 +410,8 @@ def entry(specs, laws, key, tied, gone, told):
         if law not in told:
             told.add(law)
             block = [*statement.comment, *statement.body]
-            for other in specs.reached([statement.key], [key]) if kind == "both ways" else []:
-                if other in specs.definitions and other not in told and other != statement.key and other not in laws.own:
+            for other in laws.side(law):
+                if other not in told:
                     told.add(other)
                     block += ["", *specs.definitions[other].comment, *specs.definitions[other].body]
             out += ["```", *block, "```", ""]

@@ -7,9 +7,9 @@ use Rattle.org_check.specs.Marks.{counts_nothing_in, is_stray_drawer, is_stray_p
 use Rattle.org_check.specs.UnreadStamps.{unread_in}
 use Rattle.org_check.specs.declared.look.Look.TheVariants as look
 
--- a day that there isn't, a day of one digit, and a stamp; a planning word and no stamp; words in small letters; a clock
--- that runs, one that ends when it begins, and one that counts; what is shown of control characters; a planning line that is
--- none and whose stamp is none, and a comment line (Org manual 9.6; Org Syntax; profile)
+-- a day that there isn't, a day of one digit, and a stamp; a planning word and no stamp; words in small letters. A clock
+-- that runs, one that ends when it begins, and one that counts; what is shown of control characters. A planning line that
+-- is none and whose stamp is none, and a comment line (Org manual 9.6; Org Syntax; profile)
 pub record ExamplesHold : Type 0 where
   pub no_such_day : unread_in (codes "<2024-02-30>") ≡ 0 ∷ []
   pub one_digit : unread_in (codes "a [2024-2-9]") ≡ 2 ∷ []

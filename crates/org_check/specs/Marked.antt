@@ -33,9 +33,9 @@ pub record CountsNothing (line : List ℕ) : Type 0 where
   pub is : clock_of line ≡ Some clock
   pub none : (first last : ℕ) → minutes_in clock (first, last) ≡ 0
 
--- what stands at a place of a line of a class looks so, and isn't read so:
--- a bracket and a date-like text, where no stamp begins; in a line of text a planning word, `:PROPERTIES:` alone, `#+BEGIN_X`
--- or `CLOCK:` in front; in a clock line a clock that has no minute in any period
+-- what stands at a place of a line of a class looks so, and isn't read so. It is a bracket and a date-like text where no
+-- stamp begins. In a line of text it is a planning word, `:PROPERTIES:` alone, `#+BEGIN_X` or `CLOCK:` in front; in a
+-- clock line a clock without a minute in any period
 abbrev pub LooksLost : Look → Class → List ℕ → ℕ → Type 0
 LooksLost look.Stamp c line p = (has_stamps c ≡ true) × LooksLikeStampAndIsNone line p
 LooksLost look.Planning c line p = (is_text c ≡ true) × (is_some (word_at (past_spaces line)) ≡ true) × (p ≡ indent line)

@@ -15,11 +15,11 @@ begins_with a b = same_word (take (length b) a) b
 abbrev pub is_hash : ℕ → Bool
 is_hash b = b == 35
 
--- the name of the block that the line would open: X of the first word #+BEGIN_X; empty where there is none
+-- the name of the block that the line would open: X of a first word `#+BEGIN_X`, in any case; empty where there is none
 abbrev pub block_name : List ℕ → List ℕ
 block_name l = let w = first_word l in if begins_with w (codes "#+BEGIN_") then drop 8 w else []
 
--- the line is #+END_X, X being the block's name
+-- the line is `#+END_X` alone, X being the block's name; letter case doesn't count
 abbrev pub ends_block : List ℕ → List ℕ → Bool
 ends_block name l = let t = trimmed l in begins_with t (codes "#+END_") && same_word (drop 6 t) name
 
@@ -27,7 +27,7 @@ ends_block name l = let t = trimmed l in begins_with t (codes "#+END_") && same_
 abbrev pub opens_block : List ℕ → List (List ℕ) → Bool
 opens_block l ls = not (length (block_name l) == 0) && list_any (ends_block (block_name l)) ls
 
--- the classes of the lines after a section's drawer, outside blocks, or inside the block of a name
+-- the classes of the lines after a section's drawer, outside blocks (None) or inside the block of a name
 abbrev pub body_classes : Option (List ℕ) → List (List ℕ) → List Class
 body_classes name [] = []
 body_classes None (l ∷ ls) = if opens_block l ls then BlockOpen ∷ body_classes (Some (block_name l)) ls else line_class l ∷ body_classes None ls

@@ -54,7 +54,7 @@ abbrev pub setting_of : Option Class → List ℕ → List (List ℕ)
 setting_of None l = []
 setting_of (Some c) l = if is_setting_class c then l ∷ [] else []
 
--- the lines of class Setting
+-- of lines with these classes, those of class Setting
 abbrev pub lines_of_setting : List (List ℕ) → List Class → List (List ℕ)
 lines_of_setting [] cs = []
 lines_of_setting (l ∷ ls) [] = []

@@ -10,6 +10,6 @@ is_star b = b == 42
 abbrev pub stars : List ℕ → ℕ
 stars line = prefix_len is_star line
 
--- one or more stars at the front, then a space
+-- a heading line, or a text that begins with one: one or more stars at the front, then a space
 abbrev pub begins_heading : List ℕ → Bool
 begins_heading line = nat_lt 0 (stars line) && (slice_index line (stars line) == 32)

@@ -15,11 +15,11 @@ has_hash l = slice_index (trim_start l) 0 == 35
 abbrev pub is_comment : List ℕ → Bool
 is_comment l = bytes_eq (first_word l) (codes "#")
 
--- #+, a key that isn't empty, and a colon, whatever follows
+-- the word begins with `#+`, a key that isn't empty, and a colon
 abbrev pub is_setting_word : List ℕ → Bool
 is_setting_word w = starts_with nat_eq w (codes "#+") && not (slice_index w 2 == 58) && list_any (λ b. b == 58) (drop 2 w)
 
--- a setting's first word is so
+-- the line is a setting line: its first word begins with `#+`, a key and a colon
 abbrev pub is_setting : List ℕ → Bool
 is_setting l = is_setting_word (first_word l)
 

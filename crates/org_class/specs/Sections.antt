@@ -6,16 +6,16 @@ use Rattle.org_base.specs.declared.span.Span.{Span}
 use Rattle.org_settings.specs.Pieces.{put_before}
 use Rattle.org_class.specs.Heading.{begins_heading}
 
--- the list cut after each x where the test of x and of what follows it says so
+-- a list, cut after each item where the test holds of the item and of what follows it
 abbrev pub cut_where : {X : Type 0} → (X → List X → Bool) → List X → List (List X)
 cut_where cuts [] = []
 cut_where cuts (x ∷ xs) = put_before (cuts x xs) x (cut_where cuts xs)
 
--- a section ends after a line feed after which a heading line stands
+-- a section ends after a line feed that a heading line follows
 abbrev pub ends_section : ℕ → List ℕ → Bool
 ends_section b bs = (b == 10) && begins_heading bs
 
--- the sections: the text is cut where one ends
+-- the sections of a text, in order: it is cut where one ends
 abbrev pub sections : List ℕ → List (List ℕ)
 sections = cut_where ends_section
 

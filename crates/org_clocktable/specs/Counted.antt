@@ -66,11 +66,11 @@ counted_of (Some expr) moment scope = matching_of expr moment scope
 abbrev pub counted_files : Option (Bor Expr) → Moment → List Scope → List Counted
 counted_files expression moment scopes = map (counted_of (option_copied expression) moment) scopes
 
--- what a whole file has of what is measured
+-- what the headings of a file that count have of a measure, in sum
 abbrev pub file_sum : (Entry → ℕ) → Counted → ℕ
 file_sum f file = whole_sum f file.entries file.counted
 
--- what a heading has with what is below it
+-- what a heading and all below it that count have of a measure, in sum
 abbrev pub heading_sum : (Entry → ℕ) → Counted → ℕ → ℕ
 heading_sum f file i = subtree_sum f file.entries file.counted i
 
@@ -82,7 +82,7 @@ heading_sums f file = map (heading_sum f file) (range_with_len 0 (length file.en
 abbrev pub clocks_before : ℕ × ℕ → Counted → ℕ → ℕ
 clocks_before days file place = sum_below (own_at (clock_minutes days) file.entries file.counted) place
 
--- what all files have
+-- what all files have of a measure, in sum
 abbrev pub total : (Entry → ℕ) → List Counted → ℕ
 total f [] = 0
 total f (c ∷ cs) = file_sum f c + total f cs

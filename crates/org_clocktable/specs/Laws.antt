@@ -24,18 +24,18 @@ clock_of_file All clock = 0
 clock_of_file (File file) clock = clock
 clock_of_file (Heading file i level) clock = 0
 
--- the total is the sum of the lines of files
+-- the total of clocks is the sum of those in the rows of files
 abbrev pub TotalsAreOfFiles : Type 0
 TotalsAreOfFiles = (days : ℕ × ℕ) (most : ℕ) (files : List Counted) →
     sum_by (λ (row : TableRow). clock_of_file row.of row.clock) (step_rows days most files) ≡ total (clock_minutes days) files
 
--- what the headings that count have of what is measured
+-- what the headings of a file that count have of a measure
 abbrev pub counting : (Entry → ℕ) → List Entry → List Bool → ℕ
 counting f [] counts = 0
 counting f (e ∷ es) [] = 0
 counting f (e ∷ es) (c ∷ cs) = (if is_some (level_of e) && c then f e else 0) + counting f es cs
 
--- the same of all files
+-- what the headings of all files that count have of a measure
 abbrev pub counting_in : (Entry → ℕ) → List Counted → ℕ
 counting_in f files = sum_by (λ (file : Counted). counting f file.entries file.counted) files
 

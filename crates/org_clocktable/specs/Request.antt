@@ -27,11 +27,11 @@ pub record TableRequest (E : Type 0) : Type 0 where
 abbrev pub word_at : List ℕ → ℕ → List ℕ
 word_at text at = take (word_len (drop at text)) (drop at text)
 
--- bytes that are text
+-- the bytes, if they are UTF-8
 abbrev pub as_text : List ℕ → Option (List ℕ)
 as_text bytes = if is_utf8 bytes then Some bytes else None
 
--- an expression, if there is one; none where it is no text, which doesn't occur in a text
+-- the expression, if one is written; refused where it is no UTF-8, which doesn't occur in a text that is
 abbrev pub text_if : Option (List ℕ) → Option (Option (List ℕ))
 text_if None = Some None
 text_if (Some expression) = option_map Some (as_text expression)
@@ -40,7 +40,7 @@ text_if (Some expression) = option_map Some (as_text expression)
 abbrev pub expression_from : List ℕ → Option ℕ → Option (Option (List ℕ))
 expression_from text at = text_if (option_map (λ at. drop at text) at)
 
--- what options ask for, of their expression, block and level
+-- what options ask for, with their expression, the days of their block and their level
 abbrev pub asked_in : List ℕ → Draft → Option (List ℕ) → ℕ × ℕ → ℕ → TableRequest (List ℕ)
 asked_in text options expression days most = record {
   days = days;
@@ -51,19 +51,20 @@ asked_in text options expression days most = record {
   expression = expression;
 }
 
--- the days of the block that they name
+-- the days of the block that options name, asked on a day
 abbrev pub days_in : List ℕ → ℕ → Draft → Option (ℕ × ℕ)
 days_in text today options = option_and_then (λ at. block_of (word_at text at) today) options.block_at
 
--- what they ask for; none where block or level is missing, or where there is no such block
+-- what options of a text ask for on a day; none where block or level is missing, or where there is no such block
 abbrev pub asked_by : List ℕ → ℕ → Draft → Option (TableRequest (List ℕ))
 asked_by text today options = option_and_then (λ expression. option_and_then (λ days. option_map (asked_in text options expression days) options.level) (days_in text today options)) (expression_from text options.match_at)
 
--- what a text asks for; none where it isn't in the grammar of options
+-- what a text asks for on a day; none where it isn't in the grammar of options
 abbrev pub asked_of : List ℕ → ℕ → Option (TableRequest (List ℕ))
 asked_of text today = option_and_then (asked_by text today) (options_of text)
 
--- an expression is read, if there is one, and the dialect's grammar reads each of its patterns
+-- the text of an expression is read as this one, if there is a text, and the grammar of `regex`'s dialect reads each of
+-- its patterns
 abbrev pub IsRead : Option (List ℕ) → Option Expr → Type 0
 IsRead None None = Unit {0}
 IsRead None (Some expr) = ⊥
@@ -85,7 +86,7 @@ with_read asked expression = record {
 abbrev pub IsReadFrom : TableRequest (List ℕ) → TableRequest Expr → Type 0
 IsReadFrom asked table = IsRead asked.expression table.expression × (table ≡ with_read asked table.expression)
 
--- the text asks for this on the day
+-- the text asks for this table on the day
 pub record AsksFor (text : List ℕ) (today : ℕ) (table : TableRequest Expr) : Type 0 where
   pub asked : TableRequest (List ℕ)
   pub spelled : asked_of text today ≡ Some asked

@@ -20,7 +20,7 @@ pub data TableOption : Type 0 where
   ByWeek : TableOption
   Effort : TableOption
 
--- its word
+-- the word of an option
 abbrev pub spell : TableOption → List ℕ
 spell (Block name) = codes "block=" ++ name
 spell (Level n) = codes "maxlevel=" ++ decimal n
@@ -38,24 +38,28 @@ IsOption ByDay = Unit {0}
 IsOption ByWeek = Unit {0}
 IsOption Effort = Unit {0}
 
--- what it says, by its kind
+-- the block that an option names, if it names one
 abbrev pub blocks : TableOption → List (List ℕ)
 blocks (Block name) = name ∷ []
 blocks _ = []
 
+-- the level that an option says, if it says one
 abbrev pub levels : TableOption → List ℕ
 levels (Level n) = n ∷ []
 levels _ = []
 
+-- the file that an option names, if it names one
 abbrev pub files : TableOption → List (List ℕ)
 files (File name) = name ∷ []
 files _ = []
 
+-- the step that an option says, if it says one
 abbrev pub steps : TableOption → List Step
 steps ByDay = Day ∷ []
 steps ByWeek = Week ∷ []
 steps _ = []
 
+-- the option itself, where it asks for efforts
 abbrev pub efforts : TableOption → List TableOption
 efforts Effort = Effort ∷ []
 efforts _ = []
@@ -65,12 +69,13 @@ abbrev pub expression_words : Option (List ℕ) → List (List ℕ)
 expression_words None = []
 expression_words (Some expression) = (codes "match=" ++ expression) ∷ []
 
--- the words for a step, and for efforts
+-- what options say for a step; of the whole period none says anything
 abbrev pub step_said : Step → List Step
 step_said Whole = []
 step_said Day = Day ∷ []
 step_said Week = Week ∷ []
 
+-- what options say where efforts are asked for, and where they aren't
 abbrev pub effort_said : Bool → List TableOption
 effort_said with_effort = if with_effort then Effort ∷ [] else []
 
@@ -89,6 +94,6 @@ pub record IsTable (text : List ℕ) (today : ℕ) (asked : TableRequest (List �
   pub step : flat_map steps options ≡ step_said asked.step
   pub effort : flat_map efforts options ≡ effort_said asked.with_effort
 
--- and nothing else is asked for
+-- a text asks for a table exactly where it spells one, and for that one
 abbrev pub OptionsAreSpelled : Type 0
 OptionsAreSpelled = (text : List ℕ) (today : ℕ) (asked : TableRequest (List ℕ)) → (asked_of text today ≡ Some asked) ↔ IsTable text today asked

@@ -9,13 +9,13 @@ use Rattle.org_outline.specs.Levels.{level_of, levels}
 use Rattle.org_outline.specs.Tree.{level_at}
 use Rattle.org_sum.specs.Measures.{clock_minutes, effort_minutes}
 
--- the line of the entry at a place with these sums, if it is a heading of at most this level with clocks in the days
+-- the row of the entry at a place with these sums, if it is a heading of at most this level with clocks in the days
 abbrev pub level_rows : ℕ → ℕ → ℕ → ℕ → ℕ → Option ℕ → List TableRow
 level_rows most file i clock effort None = []
 level_rows most file i clock effort (Some level) =
     if nat_le level most && nat_lt 0 clock then record { of = Heading file i level; clock = clock; effort = effort } ∷ [] else []
 
--- the same by the entry
+-- the row of an entry with these sums, by the entry's own level
 abbrev pub entry_rows : ℕ → ℕ → ℕ → ℕ → ℕ → Entry → List TableRow
 entry_rows most file i clock effort e = level_rows most file i clock effort (level_of e)
 
@@ -23,17 +23,17 @@ entry_rows most file i clock effort e = level_rows most file i clock effort (lev
 abbrev pub rows_at : ℕ × ℕ → ℕ → ℕ → Counted → ℕ → List TableRow
 rows_at days most file counted i = level_rows most file i (heading_sum (clock_minutes days) counted i) (heading_sum effort_minutes counted i) (level_at (levels counted.entries) i)
 
--- those of entries, the first of which stands at a place
+-- the rows of entries, of which the first stands at place i of its file
 abbrev pub rows_from : ℕ × ℕ → ℕ → ℕ → Counted → ℕ → List Entry → List TableRow
 rows_from days most file counted i [] = []
 rows_from days most file counted i (e ∷ es) =
     entry_rows most file i (heading_sum (clock_minutes days) counted i) (heading_sum effort_minutes counted i) e ++ rows_from days most file counted (i + 1) es
 
--- those of all entries of a file
+-- the rows of all headings of a file
 abbrev pub heading_rows : ℕ × ℕ → ℕ → ℕ → Counted → List TableRow
 heading_rows days most file counted = rows_from days most file counted 0 counted.entries
 
--- the lines of a file, if it has clocks in the days
+-- the rows of a file, if it has clocks in the days: its own, and those of its headings
 abbrev pub file_rows : ℕ × ℕ → ℕ → ℕ → Counted → List TableRow
 file_rows days most file counted =
     if nat_lt 0 (file_sum (clock_minutes days) counted)
@@ -51,11 +51,11 @@ heading_lines days most file = heading_rows days most file.place file.counted.no
 abbrev pub line_at : ℕ × ℕ → ℕ → TableFile → ℕ → List TableRow
 line_at days most file i = rows_at days most file.place file.counted.now i
 
--- those of files, the first of which stands at a place
+-- the rows of files, of which the first stands at a place
 abbrev pub files_rows : ℕ × ℕ → ℕ → ℕ → List Counted → List TableRow
 files_rows days most file [] = []
 files_rows days most file (c ∷ cs) = file_rows days most file c ++ files_rows days most (file + 1) cs
 
--- the lines of the days from a first to a last: the total, then files and headings in their order
+-- the rows of the days from a first to a last: the total, then files and headings in their order
 unfoldable pub step_rows : ℕ × ℕ → ℕ → List Counted → List TableRow
 step_rows days most files = record { of = All; clock = total (clock_minutes days) files; effort = total effort_minutes files } ∷ files_rows days most 0 files

@@ -18,11 +18,11 @@ runs_at from to minute = nat_le from minute && nat_lt minute to
 abbrev pub common_minutes : ℕ → ℕ → ℕ → ℕ → ℕ
 common_minutes from to first past = min to past - max from first
 
--- the minutes of a clock with this end in a stretch; a running clock has none
+-- the minutes that a clock with this start and end has in a stretch; a running clock has none
 abbrev pub minutes_to : ℕ → Option ℕ → ℕ → ℕ → ℕ
 minutes_to from None first past = 0
 minutes_to from (Some to) first past = common_minutes from to first past
 
--- the minutes of a clock from the beginning of a first day to the end of a last one
+-- the minutes that a clock has from the beginning of a first day to the end of a last one
 abbrev pub minutes_in : ClockLine → ℕ × ℕ → ℕ
 minutes_in clock (first, last) = minutes_to clock.from clock.to (minute_of first 0) (minute_of (last + 1) 0)

@@ -21,16 +21,16 @@ unit_minutes unit =
 abbrev pub number_of : ℕ → List ℕ → Option ℕ
 number_of most digits = if nat_le (length digits) most then Some (digits_value 10 digits) else None
 
--- MM: 00 to 59
+-- the minutes MM, 00 to 59
 abbrev pub sixtieths : List ℕ → Option ℕ
 sixtieths (a ∷ b ∷ []) = option_and_then (λ n. if nat_lt n 60 then Some n else None) (two_digits a b)
 sixtieths _ = None
 
--- H:MM of its digits before the colon and of what stands after it, H having up to six digits
+-- the minutes of H:MM, by the digits before the colon and by what stands after it; H has up to six digits
 abbrev pub hours : List ℕ → List ℕ → Option ℕ
 hours digits rest = option_and_then (λ hour. option_map (λ n. hour * 60 + n) (sixtieths rest)) (number_of 6 digits)
 
--- a number of up to four digits and what stands after it: white space or none, a unit
+-- the minutes of a number of up to four digits and a unit, with white space or none between
 abbrev pub units : List ℕ → List ℕ → Option ℕ
 units digits rest = option_and_then (λ n. option_map (λ minutes. n * minutes) (unit_minutes (past_spaces rest))) (number_of 4 digits)
 

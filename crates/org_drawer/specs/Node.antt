@@ -8,7 +8,7 @@ use Rattle.org_base.specs.Properties.{Given, Property, with_all, given_as}
 use Rattle.org_base.specs.Words.{trim_start, trimmed, first_word}
 use Rattle.org_drawer.specs.declared.node.Node.{Node}
 
--- a plus stands before the last byte
+-- a plus stands before the last byte of the word
 abbrev pub has_plus : List ℕ → Bool
 has_plus w = slice_index w (length w - 2) == 43
 
@@ -31,7 +31,7 @@ is_node line = is_node_word (first_word line)
 abbrev pub given : List ℕ → List ℕ → Given
 given w rest = record { name = take (name_len w) (drop 1 w); appends = has_plus w; value = trimmed (drop (length w) rest) }
 
--- what the line gives, if it is a node line
+-- the property that a line gives, if it is a node line
 abbrev pub given_of : List ℕ → Option Given
 given_of line = if is_node line then Some (given (first_word line) (trim_start line)) else None
 

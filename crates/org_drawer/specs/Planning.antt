@@ -26,7 +26,7 @@ abbrev pub last_of : PlanningKeyword → List Pair → Option (Stamp × Span)
 last_of word [] = None
 last_of word (p ∷ ps) = option_or (last_of word ps) (stamp_if word p)
 
--- what pairs say
+-- what pairs say: for each keyword the stamp of its last pair
 abbrev pub planned : List Pair → Planning
 planned ps = record { scheduled = last_of Scheduled ps; deadline = last_of Deadline ps; closed = last_of Closed ps }
 
@@ -38,7 +38,7 @@ with_pair planning p = record {
   closed = option_or (stamp_if Closed p) planning.closed;
 }
 
--- what the line says; nothing where it is no planning line
+-- what a planning line says; nothing where the line is none
 abbrev pub planning_of : List ℕ → Option Planning
 planning_of line = if is_planning line then Some (planned (pairs line)) else None
 

@@ -4,12 +4,12 @@
 use Rattle.std.specs.Char.{is_ascii_digit}
 use Rattle.std.specs.Prelude.{ℕ, zero, suc, ◌+◌, ◌-◌, ◌*◌, ◌^◌, Bool, true, false, ◌||◌, ◌==◌, nat_lt, List, [], ◌∷◌, length, drop, if◌then◌else◌}
 
--- the digits after a number that was read
+-- the number that digits write after one that was read
 abbrev pub read_on : ℕ → List ℕ → ℕ
 read_on n [] = n
 read_on n (d ∷ ds) = read_on (10 * n + (d - 48)) ds
 
--- the front of digits
+-- the digits at the front of a text
 abbrev pub front_digits : List ℕ → List ℕ
 front_digits [] = []
 front_digits (b ∷ bs) = if is_ascii_digit b then b ∷ front_digits bs else []
@@ -24,12 +24,12 @@ abbrev pub behind : List ℕ → List ℕ
 behind [] = []
 behind (b ∷ bs) = if is_ascii_digit b then bs else []
 
--- so many digits after the point: those that are missing are 0, later ones don't count
+-- a number with so many decimals behind it: those that are missing are 0, later ones don't count
 unfoldable pub read_decimals : ℕ → ℕ → List ℕ → ℕ
 read_decimals n zero bs = n
 read_decimals n (suc k) bs = read_decimals (10 * n + front_value bs) k (behind bs)
 
--- where a number of less than 10^27 billionths lies, counted from -10^18
+-- where a number stands among all, counted in billionths: 0 stands at 10^27, a negative one before it
 abbrev pub place : Bool → ℕ → ℕ
 place true n = 10 ^ 27 - n
 place false n = 10 ^ 27 + n
@@ -45,7 +45,7 @@ abbrev pub behind_point : List ℕ → List ℕ
 behind_point [] = []
 behind_point (b ∷ bs) = if b == 46 then bs else []
 
--- digits, and perhaps a point and more
+-- the number of the digits at the front of a text and of those after a point, with the sign that was read
 abbrev pub unsigned_decimal : Bool → List ℕ → ℕ
 unsigned_decimal is_negative bs = number is_negative bs (behind_point (drop (length (front_digits bs)) bs))
 

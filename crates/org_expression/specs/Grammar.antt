@@ -117,11 +117,11 @@ spell (Open tags todo) = spell_items tags ++ 47 ∷ 33 ∷ spell_items todo
 abbrev pub is_name_char : ℕ → Bool
 is_name_char c = is_tag_char c || c == 45
 
--- a name isn't empty
+-- a name of the grammar: not empty, and of characters that names may hold
 abbrev pub IsName : List ℕ → Type 0
 IsName name = (name ≢ []) × (list_all is_name_char name ≡ true)
 
--- no character is this one
+-- the character doesn't stand in the text
 abbrev pub Lacks : ℕ → List ℕ → Type 0
 Lacks c cs = list_all (λ x. not (x == c)) cs ≡ true
 
@@ -144,7 +144,7 @@ IsTerm (Tag name) = IsName name
 IsTerm (Found pattern) = Lacks 125 pattern
 IsTerm (Compare name op value) = IsName name × IsValue op value
 
--- after the slash a term is a name alone
+-- before the slash any term may stand, after it a name alone
 abbrev pub IsTermIn : Part → Term → Type 0
 IsTermIn InTags term = IsTerm term
 IsTermIn InTodo (Tag name) = IsName name
@@ -157,7 +157,7 @@ IsLink Direct sign = sign ≢ Unsigned
 IsLink And sign = Unit {0}
 IsLink Or sign = Unit {0}
 
--- terms after the first
+-- terms after the first, each with a sign or a link before it
 abbrev pub AreLater : Part → List Item → Type 0
 AreLater part [] = Unit {0}
 AreLater part (item link sign term ∷ is) = IsLink link sign × IsTermIn part term × AreLater part is
@@ -174,7 +174,7 @@ abbrev pub AreItemsOrNone : Part → List Item → Type 0
 AreItemsOrNone part [] = Unit {0}
 AreItemsOrNone part (i ∷ is) = AreItems part (i ∷ is)
 
--- a part may be left out before a slash, and after /!
+-- the tree is one of the grammar: a part may be left out before a slash, and after `/!`
 abbrev pub IsExpr : Expr → Type 0
 IsExpr (Tags tags) = AreItems InTags tags
 IsExpr (Todo tags todo) = AreItemsOrNone InTags tags × AreItems InTodo todo
@@ -182,7 +182,7 @@ IsExpr (Open tags todo) = AreItemsOrNone InTags tags × AreItemsOrNone InTodo to
 
 -- ---- what the reader says of a text
 
--- the characters are those of the expression
+-- the expression is one of the grammar, and is spelled by these characters
 pub record Reads (cs : List ℕ) (e : Expr) : Type 0 where
   pub is_expr : IsExpr e
   pub spelled : spell e ≡ cs

@@ -65,11 +65,11 @@ pub data IsLetter : List ℕ → TimeUnit → Type 0 where
   MonthLetter : IsLetter (codes "m") Month
   YearLetter : IsLetter (codes "y") Year
 
--- so many later
+-- how many units digits lead forward
 abbrev pub later : List ℕ → ℤ
 later digits = pos (digits_value 10 digits)
 
--- so many earlier
+-- how many units digits lead back
 abbrev pub earlier : List ℕ → ℤ
 earlier digits = neg_ℤ (pos (digits_value 10 digits))
 

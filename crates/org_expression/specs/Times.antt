@@ -15,24 +15,25 @@ use Rattle.org_stamp.specs.Read.{single_of, stamp_of}
 use Rattle.org_stamp.specs.declared.stamp.Stamp.{Stamp}
 use Rattle.org_expression.specs.Decimal.{front_digits, read_on}
 
--- a quoted text that stands for a time: it begins with < and ends with >
+-- a quoted text stands for a time: it begins with < and ends with >
 abbrev pub is_time : List ℕ → Bool
 is_time text = nat_le 2 (length text) && (slice_index text 0 == 60) && (slice_index text (length text - 1) == 62)
 
--- so many more, or fewer; 0 where fewer aren't there
+-- a number and n more, or n fewer; 0 where there are no n fewer
 abbrev pub moved : Bool → ℕ → ℕ → ℕ
 moved true n from = from - n
 moved false n from = from + n
 
--- one day of the years 1 to 9999
+-- the day, if it is one of the years 1 to 9999
 abbrev pub day_if : ℕ → Option ℕ
 day_if day = if nat_le 1 day && nat_le day LAST_DAY then Some day else None
 
--- the day d of a month of the years 1 to 9999, or its last day where it is shorter
+-- the day d of the month with this number, or the month's last day where it is shorter; none outside the years 1 to 9999
 abbrev pub in_month : ℕ → ℕ → Option ℕ
 in_month d index = if nat_le 12 index && nat_le index LAST_MONTH then Some (day_of_month index d) else None
 
--- the day so many units later, or earlier; a day that the month lacks becomes its last
+-- the day so many units after a day, or before it; a day that the month lacks becomes the month's last. Hours lead to no
+-- day
 abbrev pub day_moved : Bool → ℕ → Unit → ℕ → Option ℕ
 day_moved is_back n Hour day = None
 day_moved is_back n Day day = day_if (moved is_back n day)
@@ -48,28 +49,28 @@ unit_of letter =
     else (if letter == 109 then Some Month
     else (if letter == 121 then Some Year else None)))
 
--- the letter of a unit and >, and nothing else
+-- the unit of a letter that > follows, and nothing else
 abbrev pub last_unit : List ℕ → Option Unit
 last_unit (letter ∷ close ∷ []) = if close == 62 then unit_of letter else None
 last_unit _ = None
 
--- the day so many units from a day on, by one to four digits
+-- the day so many units after today, or before it, by one to four digits
 abbrev pub day_at : ℕ → Bool → List ℕ → Option Unit → Option ℕ
 day_at today is_back digits None = None
 day_at today is_back digits (Some unit) =
     if nat_le 1 (length digits) && nat_le (length digits) 4 then day_moved is_back (read_on 0 digits) unit today else None
 
--- digits, then the letter of a unit and >
+-- the day that digits, the letter of a unit and > lead to from today
 abbrev pub counted_day : ℕ → Bool → List ℕ → Option ℕ
 counted_day today is_back bs = day_at today is_back (front_digits bs) (last_unit (drop (length (front_digits bs)) bs))
 
--- a sign, and what it counts
+-- the day that a sign, digits, a unit and > lead to from today
 abbrev pub relative_day : ℕ → List ℕ → Option ℕ
 relative_day today [] = None
 relative_day today (sign ∷ bs) =
     if sign == 43 then counted_day today false bs else (if sign == 45 then counted_day today true bs else None)
 
--- <today>, <tomorrow>, or a day counted from today as in <+5d>
+-- the day that a quoted text names: <today>, <tomorrow>, or a day counted from today as in <+5d>
 abbrev pub named_day : ℕ → List ℕ → Option ℕ
 named_day today text =
     if bytes_eq text (codes "<today>") then Some today
@@ -81,12 +82,12 @@ abbrev pub whole_stamp : List ℕ → Option (Stamp × ℕ) → Option ℕ
 whole_stamp text None = None
 whole_stamp text (Some found) = if found.1 == length text then Some (minute_at (found.0.day, found.0.time)) else None
 
--- the minute that a quoted text names at a moment
+-- the minute that a quoted text names at a moment: that of <now>, of the beginning of a named day, or of a stamp
 abbrev pub named_minute : Moment → List ℕ → Option ℕ
 named_minute moment text =
     if bytes_eq text (codes "<now>") then Some (minute_of moment.day moment.minute)
     else option_or (option_map (λ day. minute_of day 0) (named_day moment.day text)) (whole_stamp text (stamp_of text))
 
--- the minute of the stamp at the front of a property, active or not
+-- the minute of the stamp at the front of a property's text, active or not
 abbrev pub front_minute : List ℕ → Option ℕ
 front_minute text = option_map (λ found. minute_at (found.0.day, found.0.time)) (single_of text)

@@ -12,35 +12,35 @@ use Rattle.org_head.specs.Cookie.{is_cookie, cookie_value}
 use Rattle.org_head.specs.Parts.{is_keyword, is_comment_word, is_tag_word, last_word}
 use Rattle.org_head.specs.Tags.{spans_from}
 
--- the first word of what is left of a line of so many bytes, if it is a part
+-- the first word of what a line of so many bytes ends in, as a part of the line, if it is one that may stand there
 abbrev pub first_part : Bool → ℕ → List ℕ → Option Span
 first_part is_part n rest = if is_part then Some (record { at = n - length rest; len = length (first_word rest) }) else None
 
--- what is left after it and the gap that follows
+-- what is left after the first word and the gap that follows it, if it is a part; else all
 abbrev pub behind : Bool → List ℕ → List ℕ
 behind is_part rest = if is_part then trim_start (drop (length (first_word rest)) rest) else rest
 
--- what is left after the stars and the gap that follows
+-- what is left of a heading line after the stars and the gap that follows
 abbrev pub behind_stars : List ℕ → List ℕ
 behind_stars line = trim_start (drop (stars line) line)
 
--- what is left after the keyword too, if it stands there
+-- what is left of a heading line after its keyword, or after the stars where it has none
 abbrev pub behind_keyword : FileSettings → List ℕ → List ℕ
 behind_keyword settings line = let rest = behind_stars line in behind (is_keyword settings.keywords (first_word rest)) rest
 
--- what is left after the cookie too, if it stands there
+-- what is left of a heading line after its keyword and its cookie, those that stand there
 abbrev pub behind_cookie : FileSettings → List ℕ → List ℕ
 behind_cookie settings line = let rest = behind_keyword settings line in behind (is_cookie (first_word rest)) rest
 
--- what is left after COMMENT too, if it stands there
+-- what is left of a heading line after its keyword, its cookie and COMMENT, those that stand there
 abbrev pub behind_comment : FileSettings → List ℕ → List ℕ
 behind_comment settings line = let rest = behind_cookie settings line in behind (is_comment_word (first_word rest)) rest
 
--- the title of a text whose last word may be tags
+-- the title of what is left of a heading line: all but its last word, where that is tags
 abbrev pub title_of : List ℕ → List ℕ
 title_of text = if is_tag_word (last_word text) then trim_end (take (length text - length (last_word text)) text) else text
 
--- the tags of a text that begins at a place
+-- the tags at the end of a text that begins at a place of the line, each as a part of the line
 abbrev pub tags_of : ℕ → List ℕ → List Span
 tags_of at text = if is_tag_word (last_word text) then spans_from (at + (length text - length (last_word text))) 0 (last_word text) else []
 
@@ -60,12 +60,12 @@ head_of settings line =
       tags = tags_of at (trim_end left);
     }
 
--- the number of a cookie, or the file's default
+-- the priority number of a cookie, or the file's default where there is none
 abbrev pub priority_at : FileSettings → List ℕ → Option Span → ℕ
 priority_at settings line None = settings.default_priority
 priority_at settings line (Some cookie) = priority_number (cookie_value (bytes_in line cookie))
 
--- the priority of a heading
+-- the priority number of a heading
 abbrev pub priority_of : FileSettings → List ℕ → Head → ℕ
 priority_of settings line head = priority_at settings line head.priority
 

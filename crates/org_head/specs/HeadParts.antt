@@ -32,7 +32,7 @@ abbrev pub MayBegin : (List ℕ → Bool) → List ℕ → List ℕ → Option S
 MayBegin is_one line text (Some span) left = (is_one (bytes_in line span) ≡ true) × StandsAt line text span × Begins text (bytes_in line span) left
 MayBegin is_one line text None left = (is_one (first_word text) ≡ false) × (left ≡ text)
 
--- the word COMMENT, alike
+-- the word COMMENT at the front of the text, as an optional part is: it is there exactly where it is the first word
 abbrev pub MayBeComment : List ℕ → Bool → List ℕ → Type 0
 MayBeComment text true left = Begins text (codes "COMMENT") left
 MayBeComment text false left = (is_comment_word (first_word text) ≡ false) × (left ≡ text)
@@ -82,9 +82,9 @@ pub record EndsInTitle (text title : List ℕ) (tags : List Span) : Type 0 where
   pub end : is_blank rest ≡ true
   pub none : tags ≡ []
 
--- The parts of a heading line in a file with these settings: one or more stars, as many as the level; a gap, which
--- begins with a space; and the words, of which `from_cookie`, `from_comment` and `text` are left after the keyword,
--- the cookie and COMMENT.
+-- the parts of a heading line in a file with these settings. First stand as many stars as the level, one or more; then a
+-- gap that begins with a space, and the words. Of these `from_cookie`, `from_comment` and `text` are left after the
+-- keyword, the cookie and COMMENT
 pub record HasParts (settings : FileSettings) (line : List ℕ) (head : Head) : Type 0 where
   pub gap : List ℕ
   pub words : List ℕ

@@ -7,7 +7,7 @@ use Rattle.org_base.specs.Characters.{is_tag_char}
 use Rattle.org_base.specs.Words.{is_letter}
 use Rattle.org_settings.specs.Keywords.{Keyword, keyword_place}
 
--- one of the file's keywords
+-- the word is one of the file's keywords
 abbrev pub is_keyword : List Keyword → List ℕ → Bool
 is_keyword keywords w = is_some (keyword_place keywords w)
 
@@ -27,7 +27,7 @@ is_plain_tag_char c = nat_lt c 128 && ((is_ascii_alphanumeric c || (c == 95 || (
 abbrev pub are_tag_chars : List ℕ → Bool
 are_tag_chars w = list_all (λ c. is_tag_char c || is_colon c) (chars w)
 
--- :a:b:, the tags of a heading: at least one isn't empty
+-- a word of tags, as `:a:b:`: a colon at both ends, characters of tags and colons between, and one tag that isn't empty
 abbrev pub is_tag_word : List ℕ → Bool
 is_tag_word w = nat_lt 1 (length w) && is_colon (slice_index w 0) && is_colon (slice_index w (length w - 1)) && list_any (λ b. not (is_colon b)) w && is_utf8 w && are_tag_chars w
 

@@ -1,9 +1,9 @@
 -- Sets of days in which an id was put, or taken from.
-use Rattle.std.proofs.Common.{◌≡◌, ℕ, [], Bool, true, false, cond, ◌&&◌, inl, inr, refl, sym, ap, ◌∙◌, arith}
+use Rattle.std.proofs.Common.{◌≡◌, ℕ, [], true, false, ◌&&◌, inl, inr, sym, ap, ◌∙◌, arith}
 use Rattle.std.specs.Prelude.{Option, None, nat_eq, if◌then◌else◌}
 use Rattle.std.specs.Ordering.{nat_cmp}
 use Rattle.std.specs.BTreeMap.{BTreeMap, get}
-use Rattle.std.specs.BTreeSet.{BTreeSet, IsUnchanged, contains}
+use Rattle.std.specs.BTreeSet.{BTreeSet, contains}
 use Rattle.std.proofs.lemmas.Bool.{and_parts, cases_Bool}
 use Rattle.std.proofs.lemmas.Bool.Decides.{nat_tests}
 use Rattle.std.specs.List.{list_any}

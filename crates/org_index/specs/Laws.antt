@@ -16,8 +16,8 @@ abbrev pub Repeats : Profile → Stamp → Type 0
 Repeats One s = (s.repeater ≢ None) × (s.last ≡ None)
 Repeats Two s = s.repeater ≢ None
 
--- it repeats, and its day is no later than the last of the days; or a day of its written range lies in them; or its day does;
--- or its day plus its delay; or today does, and its day less its warning time is no later than today
+-- the stamp repeats, and its day is no later than the last of the days. Or a day of its written range lies in them, or
+-- its day does, or its day plus its delay. Or today does, and its day less its warning time is no later than today
 abbrev pub IsNear : Profile → ℕ → ℕ → ℕ → Stamp → Type 0
 IsNear p from to today s =
     (Repeats p s × (s.day ≤ to))

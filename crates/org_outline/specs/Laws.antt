@@ -22,7 +22,7 @@ ParentIsNearest = (ls : List (Option ℕ)) (i : ℕ) →
 abbrev pub AncestorsAreParentsUp : Type 0
 AncestorsAreParentsUp = (ls : List (Option ℕ)) (i : ℕ) → ancestors ls i ≡ up_from ls (parent ls i)
 
--- one entry is an ancestor of another
+-- entry i is an ancestor of entry j
 abbrev pub is_above : List (Option ℕ) → ℕ → ℕ → Bool
 is_above ls i j = list_any (λ k. k == i) (ancestors ls j)
 

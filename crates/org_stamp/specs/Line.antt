@@ -11,7 +11,7 @@ abbrev pub one_more : ℕ → (ℕ → List Found) → Option (Stamp × ℕ) →
 one_more at later None = later 0
 one_more at later (Some found) = record { at = at; len = found.1; stamp = found.0 } ∷ later (found.1 - 1)
 
--- the stamps of the bytes from a place on, after so many bytes of the last one
+-- the stamps of the bytes from a place of the line on; so many bytes at the front are still of the last stamp
 unfoldable pub stamps_from : List ℕ → ℕ → ℕ → List Found
 stamps_from [] at zero = []
 stamps_from [] at (suc inside) = []

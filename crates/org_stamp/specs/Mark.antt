@@ -39,7 +39,7 @@ abbrev pub amount : List ℕ → Option ((ℕ × Unit) × List ℕ)
 amount [] = None
 amount (b ∷ bs) = if is_ascii_digit b then amount_from 3 (b - 48) bs else None
 
--- what a mark begins with, and what follows
+-- the sign with which a mark begins, and what follows it
 abbrev pub sign_at : List ℕ → Option (Sign × List ℕ)
 sign_at (a ∷ b ∷ bs) =
     if a == 43 then (if b == 43 then Some (Repeats Future, bs) else Some (Repeats Plain, b ∷ bs))
@@ -79,7 +79,7 @@ with_mark (Some q, delay) (Repeat r) = None
 with_mark (repeater, None) (Wait d) = Some (repeater, Some d)
 with_mark (repeater, Some e) (Wait d) = None
 
--- the marks that the words are, after others
+-- the marks that words are, with those before them; none where a word is no mark, or a second of its kind
 abbrev pub marks_from : Marks → List (List ℕ) → Option Marks
 marks_from so_far [] = Some so_far
 marks_from so_far (w ∷ ws) =

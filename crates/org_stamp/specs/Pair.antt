@@ -31,13 +31,13 @@ abbrev pub pair_at : ℕ → List ℕ → Option Pair
 pair_at at bs =
     option_and_then (λ k. let rest = drop k.1 bs in pair_of k.0 (at + (k.1 + prefix_len is_space rest)) (past_spaces rest)) (word_at bs)
 
--- the pair, and those after it
+-- a pair and those after it; none where there is no pair
 abbrev pub pair_and : ℕ → (ℕ → List Pair) → Option Pair → List Pair
 pair_and at later None = []
 pair_and at later (Some p) = p ∷ later (p.end - (at + 1))
 
--- the pairs of what stands at the place of a line, after so many bytes of the last one, with white space or none
--- between, until something is no pair
+-- the pairs of the bytes from a place of a line on, of which so many at the front are still of the last pair. White space
+-- or none stands between pairs, and what is no pair ends them
 unfoldable pub pairs_from : List ℕ → ℕ → ℕ → List Pair
 pairs_from [] at zero = []
 pairs_from [] at (suc inside) = []
@@ -58,7 +58,7 @@ EndsFrom at limit p = (at ≤ p.end) × (p.end ≤ limit) × (p.at + p.len ≤ l
 abbrev pub EndsBehind : ℕ → ℕ → Pair → Type 0
 EndsBehind at limit p = (at < p.end) × (p.end ≤ limit) × (p.at + p.len ≤ limit)
 
--- the pairs of a line
+-- the pairs of a line, from its front on
 abbrev pub pairs : List ℕ → List Pair
 pairs line = pairs_from line 0 0
 
@@ -67,7 +67,7 @@ abbrev pub is_empty : List Pair → Bool
 is_empty [] = true
 is_empty (p ∷ ps) = false
 
--- the line is a planning line where it stands directly under a heading
+-- the line is a planning line, where it stands directly under a heading: it begins with a pair
 abbrev pub is_planning : List ℕ → Bool
 is_planning line = not (is_empty (pairs line))
 

@@ -20,7 +20,7 @@ letter Week = 119
 letter Month = 109
 letter Year = 121
 
--- what a repeater begins with
+-- what a repeater of this kind begins with
 abbrev pub sign_text : RepeaterKind → List ℕ
 sign_text Plain = codes "+"
 sign_text Future = codes "++"
@@ -63,7 +63,7 @@ tail_text s = times_text s.time s.end_time ++ (repeater_text s.repeater ++ delay
 abbrev pub day_text : ℕ → List ℕ
 day_text day = date_text day ++ 32 ∷ day_name (weekday_of day)
 
--- a stamp of one day: both and a tail in brackets
+-- a stamp of one day: in brackets its date, the day's name and what stands after it
 abbrev pub single_text : Bool → ℕ → List ℕ → List ℕ
 single_text active day tail = open_of active ∷ (day_text day ++ (tail ++ close_of active ∷ []))
 

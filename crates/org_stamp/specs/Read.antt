@@ -20,18 +20,18 @@ single_of (b ∷ bs) =
     if b == 60 then closed true bs (position is_close bs)
     else (if b == 91 then closed false bs (position is_close bs) else None)
 
--- both or neither
+-- two values are equal
 abbrev pub same_bool : Bool → Bool → Bool
 same_bool true b = b
 same_bool false true = false
 same_bool false false = true
 
--- a stamp of that length, or the range of it and a second one with the same brackets
+-- a stamp of that length; or the range of it and a second one behind two dashes, if both have the same brackets
 abbrev pub joined : Stamp → ℕ → Option (Stamp × ℕ) → Stamp × ℕ
 joined s n None = (s, n)
 joined s n (Some t) = if same_bool s.active t.0.active then (with_last s t.0, n + 2 + t.1) else (s, n)
 
--- the same, with what follows the first stamp
+-- the longest stamp at the front, by the first one of that length and what follows it
 abbrev pub ranged : Stamp → ℕ → List ℕ → Stamp × ℕ
 ranged s n (a ∷ b ∷ rest) = if (a == 45) && (b == 45) then joined s n (single_of rest) else (s, n)
 ranged s n _ = (s, n)

@@ -4,7 +4,7 @@ use Rattle.std.specs.Prelude.{ℕ, Bool, true, false, List, [], ◌∷◌, filte
 use Rattle.std.specs.List.{slice_split}
 use Rattle.org_base.specs.Words.{is_space}
 
--- not empty
+-- the word isn't empty
 abbrev pub is_word : List ℕ → Bool
 is_word [] = false
 is_word (b ∷ bs) = true

@@ -8,7 +8,7 @@ use Rattle.org_settings.specs.Settings.{FileSettings}
 use Rattle.org_stamp_index.specs.Index.{IsIndexOf}
 use Rattle.org_stamp_index.specs.declared.index.StampIndex.{StampIndex}
 
--- what a file says
+-- what the text of a file says: its entries and its settings
 pub record OutlineView : Type 0 where
   pub entries : List Entry
   pub settings : FileSettings
@@ -18,6 +18,6 @@ abbrev pub KeepsIndexOf : List Entry → Option (Rc StampIndex Global) → Type 
 KeepsIndexOf es None = Unit {0}
 KeepsIndexOf es (Some x) = IsIndexOf x.value.settings.value es x.value
 
--- what inheritance looks at in a file, of the file's name and the inherited names
+-- what inheritance looks at in a file: what its text says, its name, and the inherited names
 abbrev pub scope_in : OutlineView → List ℕ → List (List ℕ) → Scope
 scope_in d name inherited = record { entries = d.entries; settings = d.settings; file = name; inherited = inherited }

@@ -14,7 +14,7 @@ use Rattle.org_sum.specs.declared.measure.Measure.TheVariants.{Clocks, Efforts}
 abbrev pub minutes_of : ℕ × ℕ → List ClockLine → ℕ
 minutes_of days clocks = sum_by (λ c. minutes_in c days) clocks
 
--- those of an entry's clocks
+-- the minutes of an entry's clocks in the days
 unfoldable pub clock_minutes : ℕ × ℕ → Entry → ℕ
 clock_minutes days e = minutes_of days e.details.clocks
 

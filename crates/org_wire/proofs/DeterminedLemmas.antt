@@ -14,7 +14,7 @@ use Rattle.org_engine.specs.Step as step
 use Rattle.org_engine.proofs.AnswerLemmas.{same_clock, same_match}
 use Rattle.org_engine.specs.World.{State, WorldView}
 use Rattle.org_wire.specs.Determined.{IsSettled, RunsAreDetermined}
-use Rattle.org_wire.specs.Run.{AnswersSo, EndsSo, IsWhole, Means, MeansView, JaggedVec, Turn, last_bytes, shown, told_to, written}
+use Rattle.org_wire.specs.Run.{AnswersSo, EndsSo, IsWhole, Means, MeansView, AreReplies, Turn, last_bytes, shown, told_to, written}
 use Rattle.org_wire.specs.Stream.{line_of, reading_of}
 use Rattle.org_wire.specs.declared.command.Command.{Command}
 use Rattle.org_wire.specs.declared.command.Command.TheVariants.{Add, Agenda, At, Clock, Complete, Drop, Edit, Inherit, Keywords, Match, Pin, Profile, Text, Todo, Unpin, Version}
@@ -97,14 +97,14 @@ module _ (second : Bool) where
   same_turn : (bytes : List ℕ) (old mid mid' : State) (a b : Reply) → Turn second (line_of second) bytes old a mid → Turn second (line_of second) bytes old b mid' → IsSettled a → IsSettled b → Same a b mid mid'
   same_turn bytes old mid mid' a b p q s t = by_next old mid mid' a b s t (reading_of second bytes).next (p.done s.0) (q.done t.0)
 
-  same_runs : (bytes rest left : List ℕ) (old new after : State) (answers others : List Reply) → JaggedVec second (line_of second) bytes old answers rest new → JaggedVec second (line_of second) bytes old others left after →
+  same_runs : (bytes rest left : List ℕ) (old new after : State) (answers others : List Reply) → AreReplies second (line_of second) bytes old answers rest new → AreReplies second (line_of second) bytes old others left after →
       length answers ≡ length others → All IsSettled answers → All IsSettled others → (answers ≡ others) × (rest ≡ left) × (new ≡ after)
   same_runs bytes rest left old new after [] [] p q e s t = (refl, p.0 ∙ sym q.0, p.1 ∙ sym q.1)
   same_runs bytes rest left old new after [] (b ∷ others) p q e s t = absurd (omega (arith, e))
   same_runs bytes rest left old new after (a ∷ answers) [] p q e s t = absurd (omega (arith, e))
   same_runs bytes rest left old new after (a ∷ answers) (b ∷ others) (mid, turn, runs) (mid', other, behind) e s t =
       let one = same_turn bytes old mid mid' a b turn other (All-head IsSettled a answers s) (All-head IsSettled b others t) in
-      let all = same_runs (reading_of second bytes).rest rest left mid new after answers others runs (subst (λ (m : State). JaggedVec second (line_of second) (reading_of second bytes).rest m others left after) (sym one.state) behind)
+      let all = same_runs (reading_of second bytes).rest rest left mid new after answers others runs (subst (λ (m : State). AreReplies second (line_of second) (reading_of second bytes).rest m others left after) (sym one.state) behind)
       (omega (arith, e)) (All-tail IsSettled a answers s) (All-tail IsSettled b others t) in
       (ap (λ x. x ∷ answers) one.answer ∙ ap (λ xs. b ∷ xs) all.0, all.1, all.2)
 
@@ -117,7 +117,7 @@ module _ (second : Bool) where
     stops (Last fault) e p = p
     stops Ended e p = p
 
-  same_length : (bytes rest left : List ℕ) (old new after : State) (answers others : List Reply) (end last : End) → JaggedVec second (line_of second) bytes old answers rest new → JaggedVec second (line_of second) bytes old others left after →
+  same_length : (bytes rest left : List ℕ) (old new after : State) (answers others : List Reply) (end last : End) → AreReplies second (line_of second) bytes old answers rest new → AreReplies second (line_of second) bytes old others left after →
       EndsSo (reading_of second rest).next end → EndsSo (reading_of second left).next last → All IsSettled answers → All IsSettled others → length answers ≡ length others
   same_length bytes rest left old new after [] [] end last p q e f s t = refl
   same_length bytes rest left old new after [] (b ∷ others) end last p (mid', other, behind) e f s t =
@@ -126,7 +126,7 @@ module _ (second : Bool) where
       absurd (no_turn bytes old mid a last (subst (λ l. EndsSo (reading_of second l).next last) q.0 f) turn (All-head IsSettled a answers s))
   same_length bytes rest left old new after (a ∷ answers) (b ∷ others) end last (mid, turn, runs) (mid', other, behind) e f s t =
       let one = same_turn bytes old mid mid' a b turn other (All-head IsSettled a answers s) (All-head IsSettled b others t) in
-      ap suc (same_length (reading_of second bytes).rest rest left mid new after answers others end last runs (subst (λ (m : State). JaggedVec second (line_of second) (reading_of second bytes).rest m others left after) (sym one.state) behind)
+      ap suc (same_length (reading_of second bytes).rest rest left mid new after answers others end last runs (subst (λ (m : State). AreReplies second (line_of second) (reading_of second bytes).rest m others left after) (sym one.state) behind)
       e f (All-tail IsSettled a answers s) (All-tail IsSettled b others t))
 
   one_end : (next : Next) (end last : End) → EndsSo next end → EndsSo next last → end ≡ last

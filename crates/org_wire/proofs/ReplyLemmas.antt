@@ -15,7 +15,7 @@ use Rattle.org_base.specs.declared.code.Code.{Code}
 use Rattle.org_base.specs.declared.code.Code.TheVariants as code
 use Rattle.org_base.specs.declared.fault.Fault.{Fault}
 use Rattle.org_base.specs.declared.fault.Fault.TheVariants as fault
-use Rattle.org_wire.specs.ReadBack.{Got, HasNumbers, RepliesAreReadBack, all_codes, fault_of, first_reply, part_of, reply_behind, reply_of, render_view}
+use Rattle.org_wire.specs.ReadBack.{Got, HasNumbers, RepliesAreReadBack, all_codes, fault_of, first_reply, part_of, reply_behind, reply_of, view_behind}
 use Rattle.org_wire.specs.Replies.{reply_bytes}
 use Rattle.org_wire.specs.Spelled.{parted}
 use Rattle.org_wire.specs.declared.reply.Replaced.{Replaced}
@@ -281,7 +281,7 @@ fault_got (fault.Plain c) rest small = coded c [] rest ∙ ap (λ f. got (Refuse
 fault_got (fault.Stale serial) rest small = coded code.Stale (decimal serial ∷ []) rest ∙ ap (λ n. got (Refused (fault.Stale n)) rest) (digits_value-decimal numerals serial small)
 fault_got (fault.MatchAt at) rest small = coded code.Match (decimal at ∷ []) rest ∙ ap (λ n. got (Refused (fault.MatchAt n)) rest) (digits_value-decimal numerals at small)
 
-view_so : (text rest : List ℕ) → render_view (length text) (text ++ rest) ≡ got (Shown text) rest
+view_so : (text rest : List ℕ) → view_behind (length text) (text ++ rest) ≡ got (Shown text) rest
 view_so text rest = rw (le_yes (length text) (length (text ++ rest)) (omega (arith, length-append text rest)), take-append_seam text rest, drop-append_seam text rest) refl
 
 part_so : (serial : ℕ) (part : Replaced) (rest : List ℕ) → part_of serial part.at part.del (length part.ins) (part.ins ++ rest) ≡ got (Changed serial part) rest
@@ -300,7 +300,7 @@ read_so serial part rest small =
 got_so : (r : Reply) (rest : List ℕ) → HasNumbers r → reply_of (words_of r) (tail_of r ++ rest) ≡ got r rest
 got_so (Serial serial) rest small = ap (λ n. got (Serial n) rest) (digits_value-decimal numerals serial small)
 got_so (Changed serial part) rest small = read_so serial part (part.ins ++ rest) small ∙ part_so serial part rest
-got_so (Shown text) rest small = ap (λ n. render_view n (text ++ rest)) (digits_value-decimal numerals (length text) small) ∙ view_so text rest
+got_so (Shown text) rest small = ap (λ n. view_behind n (text ++ rest)) (digits_value-decimal numerals (length text) small) ∙ view_so text rest
 got_so (Refused f) rest small = fault_got f rest small
 
 first_back : (r : Reply) (rest : List ℕ) → HasNumbers r → first_reply (reply_bytes r ++ rest) ≡ got r rest
@@ -347,7 +347,7 @@ too_short (Changed serial part) mid lost small e some =
     read_so serial part mid small ∙ rw (le_no (length part.ins) (length mid) short) refl
 too_short (Shown text) mid lost small e some =
     let short : length mid < length text = omega (arith, ap length e, length-append mid lost, some) in
-    ap (λ n. render_view n mid) (digits_value-decimal numerals (length text) small) ∙ rw (le_no (length text) (length mid) short) refl
+    ap (λ n. view_behind n mid) (digits_value-decimal numerals (length text) small) ∙ rw (le_no (length text) (length mid) short) refl
 too_short (Refused f) mid lost small e some = absurd (omega (arith, ap length e, length-append mid lost, some))
 
 cut_off : (r : Reply) (part lost : List ℕ) → HasNumbers r → reply_bytes r ≡ part ++ lost → 0 < length lost → first_reply part ≡ None

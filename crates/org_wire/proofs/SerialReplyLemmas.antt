@@ -8,7 +8,7 @@ use Rattle.org_base.specs.declared.code.Code.TheVariants as code
 use Rattle.org_base.specs.declared.fault.Fault.TheVariants.{Plain}
 use Rattle.org_wire.specs.Lines.{cut_at}
 use Rattle.org_wire.specs.Stream.{Bad, Framed, Line, Plainly, after_cut, after_line, line_of, reading_of}
-use Rattle.org_wire.specs.SerialReplies.{StreamsAreFramed}
+use Rattle.org_wire.specs.Framing.{StreamsAreFramed}
 use Rattle.org_wire.specs.declared.command.Next.TheVariants as next
 use Rattle.org_wire.proofs.SpelledWords.{cut_back, no_cut}
 

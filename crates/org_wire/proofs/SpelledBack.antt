@@ -11,7 +11,7 @@ use Rattle.org_base.specs.declared.profile.Profile.{Profile as AnyProfile}
 use Rattle.org_base.specs.declared.profile.Profile.TheVariants.{One, Two}
 use Rattle.org_wire.specs.Laws.{LinesAreSpelled}
 use Rattle.org_wire.specs.Lines.{cut_at}
-use Rattle.org_wire.specs.Spelled.{AreKeywords, AreNames, IsFileOf, IsFrameLine, IsLineOf, IsName, IsNumber, IsQuestion, IsSeen, IsView, IsViewWith, IsWord, file_parts, form_parts, keyword_parts, parted, profile_word, seen_parts, spaced}
+use Rattle.org_wire.specs.Spelled.{AreKeywords, AreNames, IsFileOf, IsFrameLine, IsLineOf, IsName, IsNumber, IsQuestion, IsSeen, IsView, IsViewWith, IsWord, file_parts, keyword_parts, parted, profile_word, seen_parts, spaced}
 use Rattle.org_wire.specs.Stream.{Bad, Framed, Line, Plainly, add_line, agenda_line, at_line, complete_at, complete_line, dated_line, edit_at, edit_del, edit_line, file_line, first_number, inherit_line, is_name, is_one_word, line_of, list_line, match_line, moment_of, number_of, pin_line, pinned_line, question_line, seen_name, seen_of, seen_serial, seen_session, sized, todo_line, unpin_line, view_line, view_words, words_from, words_line}
 use Rattle.org_wire.specs.declared.command.Command.{Command}
 use Rattle.org_wire.specs.declared.command.Command.TheVariants.{Add, Agenda, At, Clock, Complete, Drop, Edit, Inherit, Keywords, Match, Pin, Profile, Text, Todo, Unpin, Version}

@@ -6,7 +6,7 @@ use Rattle.org_wire.specs.Run.{Turn}
 use Rattle.org_wire.specs.Stream.{line_of, reading_of}
 use Rattle.org_wire.specs.Turns.{CountsFor}
 use Rattle.org_wire.specs.declared.command.Next.{Next}
-use Rattle.org_wire.specs.declared.command.Next.TheVariants.{Given, Refused, Last, Ended}
+use Rattle.org_wire.specs.declared.command.Next.TheVariants.{Given}
 use Rattle.org_wire.specs.declared.reply.Reply.{Reply}
 
 -- a command counts no more than it may, and nothing else that is read counts

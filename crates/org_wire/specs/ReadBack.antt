@@ -32,15 +32,16 @@ fault_of code.Match (at ∷ []) = fault.MatchAt (digits_value 10 at)
 fault_of c words = fault.Plain c
 
 -- a view of so many bytes, if they are there
-abbrev pub render_view : ℕ → List ℕ → Option Got
-render_view n rest = if nat_le n (length rest) then Some (record { reply = Shown (take n rest); rest = drop n rest }) else None
+abbrev pub view_behind : ℕ → List ℕ → Option Got
+view_behind n rest = if nat_le n (length rest) then Some (record { reply = Shown (take n rest); rest = drop n rest }) else None
 
 -- a change whose new bytes are so many, if they are there
 abbrev pub part_of : ℕ → ℕ → ℕ → ℕ → List ℕ → Option Got
 part_of serial at del n rest =
     if nat_le n (length rest) then Some (record { reply = Changed serial (record { at = at; del = del; ins = take n rest }); rest = drop n rest }) else None
 
--- the same by its words: a serial, a place, and how many bytes went and came
+-- the reply that says what a completion replaced, of the words of its line: a serial, a place, how many bytes went and
+-- how many came
 abbrev pub change_of : List ℕ → List ℕ → List (List ℕ) → List ℕ → Option Got
 change_of serial at (del ∷ (len ∷ [])) rest = part_of (digits_value 10 serial) (digits_value 10 at) (digits_value 10 del) (digits_value 10 len) rest
 change_of serial at words rest = None
@@ -48,7 +49,7 @@ change_of serial at words rest = None
 -- the reply whose line has these words
 abbrev pub reply_of : List (List ℕ) → List ℕ → Option Got
 reply_of (word ∷ (number ∷ [])) rest = if bytes_eq word (codes "ok") then Some (record { reply = Serial (digits_value 10 number); rest = rest })
-    else if bytes_eq word (codes "view") then render_view (digits_value 10 number) rest
+    else if bytes_eq word (codes "view") then view_behind (digits_value 10 number) rest
     else None
 reply_of (word ∷ (number ∷ (name ∷ words))) rest =
     if bytes_eq word (codes "err") then option_map (λ c. record { reply = Refused (fault_of c words); rest = rest }) (slice_get all_codes (digits_value 10 number - 1))
@@ -56,7 +57,7 @@ reply_of (word ∷ (number ∷ (name ∷ words))) rest =
     else None
 reply_of words rest = None
 
--- the same of a stream that is cut after its first line
+-- the first reply of a stream that is cut after its first line
 abbrev pub reply_behind : Option Cut → Option Got
 reply_behind None = None
 reply_behind (Some cut) = reply_of (slice_split (λ b. b == 32) cut.before) cut.after
@@ -65,7 +66,7 @@ reply_behind (Some cut) = reply_of (slice_split (λ b. b == 32) cut.before) cut.
 abbrev pub first_reply : List ℕ → Option Got
 first_reply bytes = reply_behind (cut_at 10 bytes)
 
--- its numbers are of 64 bits
+-- the numbers of a reply are below 2^64
 abbrev pub HasNumbers : Reply → Type 0
 HasNumbers (Serial serial) = serial < 2 ^ 64
 HasNumbers (Changed serial part) = (serial < 2 ^ 64) × (part.at < 2 ^ 64) × (part.del < 2 ^ 64) × (length part.ins < 2 ^ 64)

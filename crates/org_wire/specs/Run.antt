@@ -27,7 +27,7 @@ use Rattle.org_wire.specs.declared.reply.Reply.TheVariants as reply
 use Rattle.org_wire.specs.declared.stream.End.{End}
 use Rattle.org_wire.specs.declared.stream.End.TheVariants.{Done, Stopped}
 
--- the command of another moment; where none is spelled, one that is refused
+-- the command of another moment; where the words spell none, a question that is refused as no date
 abbrev pub moment_command : Option Moment → step.Command
 moment_command None = step.Ask (step.Unread date_fault) form.Text None
 moment_command (Some moment) = step.At moment
@@ -37,7 +37,7 @@ abbrev pub MeansView : (ℕ → step.Query → Type 0) → Request → State →
 MeansView asks request s said =
     (question : step.Query) × AsksOf asks (step.world_for request.session s) question × (said ≡ step.Ask question request.form request.session)
 
--- the engine's command
+-- what a command of the stream says to the engine, in a state
 abbrev pub Means : Command → State → step.Command → Type 0
 Means (Add name text) s said = said ≡ step.AddFile name text
 Means (Drop name) s said = said ≡ step.DropFile name
@@ -67,7 +67,7 @@ abbrev pub part_if : Result Part Fault → Option Part
 part_if (Ok part) = Some part
 part_if (Err fault) = None
 
--- the same of a file
+-- what completing a heading replaces in a file, if the file is there and the heading can be completed
 abbrev pub part_in : ℕ → List ℕ → Moment → Option FileView → Option Part
 part_in line keyword moment None = None
 part_in line keyword moment (Some file) = part_if (completion_part file.text line keyword moment)
@@ -93,7 +93,7 @@ told_to second command s answer = shown answer
 abbrev pub out_of_memory : Reply
 out_of_memory = reply.Refused memory_fault
 
--- what is read is answered so, and leaves this state
+-- what comes next on a stream is answered so in a state, and leaves this state
 abbrev pub AnswersSo : Bool → Next → State → Reply → State → Type 0
 AnswersSo second (Given command) old answer new =
     (said : step.Command) × Means command old said × (answer ≡ told_to second command old (step.step said old).reply) × (new ≡ (step.step said old).after)
@@ -105,21 +105,21 @@ pub record Turn (second : Bool) (says : List ℕ → Line) (bytes : List ℕ) (o
   pub done : (answer ≡ out_of_memory → ⊥) → AnswersSo second (read_by says bytes).next old answer new
   pub memory : answer ≡ out_of_memory → (new ≡ old) × IsReplaceable (read_by says bytes).next
 
--- these are the replies to what stands first on the stream; then these bytes and this state are left
-abbrev pub JaggedVec : Bool → (List ℕ → Line) → List ℕ → State → List Reply → List ℕ → State → Type 0
-JaggedVec second says bytes old [] rest new = (rest ≡ bytes) × (new ≡ old)
-JaggedVec second says bytes old (answer ∷ answers) rest new = (mid : State) × Turn second says bytes old answer mid × JaggedVec second says (read_by says bytes).rest mid answers rest new
+-- these are the replies to what stands first on the stream, one after the other; then these bytes and this state are left
+abbrev pub AreReplies : Bool → (List ℕ → Line) → List ℕ → State → List Reply → List ℕ → State → Type 0
+AreReplies second says bytes old [] rest new = (rest ≡ bytes) × (new ≡ old)
+AreReplies second says bytes old (answer ∷ answers) rest new = (mid : State) × Turn second says bytes old answer mid × AreReplies second says (read_by says bytes).rest mid answers rest new
 
 -- what is written of replies
 abbrev pub written : List Reply → List ℕ
 written answers = flat_map reply_bytes answers
 
--- what is written where the stream stops at a fault
+-- what is written besides replies where the stream stops at a fault: the line of the fault
 abbrev pub last_bytes : Next → List ℕ
 last_bytes (Last fault) = fault_bytes fault
 last_bytes _ = []
 
--- how a run ends at the last reading
+-- how a run ends by what comes last: the end of the stream, or a fault at which it stops
 abbrev pub EndsSo : Next → End → Type 0
 EndsSo Ended end = end ≡ Done
 EndsSo (Last fault) end = end ≡ Stopped (code_of fault)
@@ -129,7 +129,7 @@ EndsSo _ end = ⊥
 pub record IsWhole (second : Bool) (says : List ℕ → Line) (bytes : List ℕ) (old : State) (end : End) (new : State) (had has : Option (List ℕ)) : Type 0 where
   pub answers : List Reply
   pub rest : List ℕ
-  pub runs : JaggedVec second says bytes old answers rest new
+  pub runs : AreReplies second says bytes old answers rest new
   pub ends : EndsSo (read_by says rest).next end
   pub wrote : Appends had has (written answers ++ last_bytes (read_by says rest).next)
 
@@ -138,12 +138,12 @@ abbrev pub cut_bytes : Option Reply → Next → List ℕ
 cut_bytes (Some answer) next = reply_bytes answer
 cut_bytes None next = last_bytes next
 
--- a front of the stream was answered; all replies but the last were written, and of the last a front
+-- a front of the stream was answered; all replies but the last were written whole, and of the last a front
 pub record IsFront (second : Bool) (says : List ℕ → Line) (bytes : List ℕ) (old new : State) (had has : Option (List ℕ)) : Type 0 where
   pub answers : List Reply
   pub cut : Option Reply
   pub rest : List ℕ
-  pub runs : JaggedVec second says bytes old (answers ++ option_to_list cut) rest new
+  pub runs : AreReplies second says bytes old (answers ++ option_to_list cut) rest new
   pub part : List ℕ
   pub lost : List ℕ
   pub is : cut_bytes cut (read_by says rest).next ≡ part ++ lost
@@ -166,7 +166,7 @@ pub record IsRun (second : Bool) (says : List ℕ → Line) (bytes : List ℕ) (
   pub whole : (end ≡ broken → ⊥) → IsWhole second says bytes old end new had has
   pub front : end ≡ broken → IsFront second says bytes old new had has
 
--- the same of the known bytes of a stream, of a writer and of an engine
+-- a run over a stream whose bytes are known; of a reader that doesn't tell its bytes nothing is said
 abbrev pub IsRunOver : {W : Type 0} → Bool → (List ℕ → Line) → (W → Option (List ℕ)) → Option (List ℕ) → CountedView W → EngineView → End → CountedView W → EngineView → Type 0
 IsRunOver second says contents stream had old end has new =
     IfSome stream (λ bytes. IsRun second says bytes old.state end new.state (contents had.inner) (contents has.inner))
@@ -176,20 +176,21 @@ pub record AnswersTaken (second : Bool) (says : List ℕ → Line) (bytes : List
   pub answers : List Reply
   pub rest : List ℕ
   pub part : List ℕ
-  pub runs : JaggedVec second says bytes old answers rest new
+  pub runs : AreReplies second says bytes old answers rest new
   pub wrote : Appends had has (written answers)
   pub taken : Consumes (Some rest) held part
   pub ends : IsUnfinished (read_by says part).next
 
--- the same of the known bytes of a stream, of those that its reader still holds, of a writer and of an engine
+-- all commands that are whole in the bytes taken were answered, where the bytes of the stream are known
 abbrev pub AnswersAllTaken : {W : Type 0} → Bool → (List ℕ → Line) → (W → Option (List ℕ)) → Option (List ℕ) → CountedView W → EngineView → Option (List ℕ) → CountedView W → EngineView → Type 0
 AnswersAllTaken second says contents stream had old held has new =
     IfSome stream (λ bytes. AnswersTaken second says bytes old.state new.state (contents had.inner) (contents has.inner) held)
 
--- the same of lines that say what they spell
+-- a run over a stream, where whatever says what lines are says what they spell
 abbrev pub IsSpelledRun : {W : Type 0} → Bool → (W → Option (List ℕ)) → Option (List ℕ) → CountedView W → EngineView → End → CountedView W → EngineView → Type 0
 IsSpelledRun second contents stream had old end has new = (says : List ℕ → Line) → IsSpelled second says → IsRunOver second says contents stream had old end has new
 
+-- all commands that are whole in the bytes taken were answered, where whatever says what lines are says what they spell
 abbrev pub AnswersAllSpelled : {W : Type 0} → Bool → (W → Option (List ℕ)) → Option (List ℕ) → CountedView W → EngineView → Option (List ℕ) → CountedView W → EngineView → Type 0
 AnswersAllSpelled second contents stream had old held has new =
     (says : List ℕ → Line) → IsSpelled second says → AnswersAllTaken second says contents stream had old held has new

@@ -24,11 +24,11 @@ parted gap [] = []
 parted gap (part ∷ []) = part
 parted gap (part ∷ (next ∷ parts)) = part ++ (gap ∷ parted gap (next ∷ parts))
 
--- the same, with a space between
+-- parts with one space between
 abbrev pub spaced : List (List ℕ) → List ℕ
 spaced parts = parted 32 parts
 
--- not empty, and without a byte
+-- a part: it isn't empty, and the byte that parts it from others doesn't stand in it
 abbrev pub IsApart : ℕ → List ℕ → Type 0
 IsApart gap word = (0 < length word) × All (λ b. b ≢ gap) word
 
@@ -36,7 +36,7 @@ IsApart gap word = (0 < length word) × All (λ b. b ≢ gap) word
 abbrev pub IsWord : List ℕ → Type 0
 IsWord word = IsApart 32 word × IsUtf8 word
 
--- a file's name: a word of at most 255 bytes without control characters
+-- a file's name: UTF-8 of 1 to 255 bytes, no space and no ASCII control character among them
 abbrev pub IsName : List ℕ → Type 0
 IsName name = (is_file_name name ≡ true) × IsUtf8 name
 
@@ -48,7 +48,7 @@ IsNumber n = n ≤ most_number
 abbrev pub seen_parts : BaseVersion → List (List ℕ)
 seen_parts seen = decimal seen.session ∷ (seen.name ∷ (decimal seen.serial ∷ []))
 
--- its numbers aren't too large, and its name is one
+-- what a session says that it saw: its numbers aren't too large, and its name is a file's
 abbrev pub IsSeen : BaseVersion → Type 0
 IsSeen seen = IsNumber seen.session × IsName seen.name × IsNumber seen.serial
 
@@ -57,7 +57,7 @@ abbrev pub form_parts : Form → List (List ℕ)
 form_parts form.Text = []
 form_parts form.Places = codes "places" ∷ []
 
--- that is known, if it stands there
+-- a protocol knows the form: each knows text, the second one knows places too
 abbrev pub IsKnown : Bool → Form → Type 0
 IsKnown second form.Text = Unit {0}
 IsKnown second form.Places = second ≡ true
@@ -67,7 +67,7 @@ abbrev pub IsQuestion : Option ℕ → List (List ℕ) → List ℕ → Type 0
 IsQuestion None parts line = line ≡ spaced parts
 IsQuestion (Some session) parts line = (line ≡ spaced (codes "pinned" ∷ (decimal session ∷ parts))) × IsNumber session
 
--- the same of a request, with `places` in front of the view's parts where they are asked for
+-- the line of a request: `pinned S` if a session is asked, `places` if places are asked for, and then the view's parts
 abbrev pub IsView : Bool → Request → List (List ℕ) → List ℕ → Type 0
 IsView second request parts line = IsQuestion request.session (form_parts request.form ++ parts) line × IsKnown second request.form
 
@@ -81,7 +81,7 @@ abbrev pub file_parts : Option (List ℕ) → List (List ℕ)
 file_parts None = []
 file_parts (Some name) = (codes "file=" ++ name) ∷ []
 
--- its name is one
+-- the file that a list is over, if it is over one, is named by a file's name
 abbrev pub IsFileOf : Option (List ℕ) → Type 0
 IsFileOf None = Unit {0}
 IsFileOf (Some name) = IsName name
@@ -95,16 +95,16 @@ keyword_parts (keyword ∷ keywords) = parted 124 (keyword ∷ keywords) ∷ []
 abbrev pub AreKeywords : List (List ℕ) → Type 0
 AreKeywords keywords = All (IsApart 124) keywords × All (λ b. b ≢ 32) (parted 124 keywords) × IsUtf8 (parted 124 keywords)
 
--- names to inherit
+-- names to inherit: UTF-8 words, which hold any character but the space
 abbrev pub AreNames : List (List ℕ) → Type 0
 AreNames names = All (IsApart 32) names × IsUtf8 (spaced names)
 
--- the word of a profile
+-- the word of a profile in the command `profile`
 abbrev pub profile_word : AnyProfile → List ℕ
 profile_word One = codes "1"
 profile_word Two = codes "2"
 
--- the moment that two words spell, if they do
+-- the line is `at` with two words, and this is the moment that they spell, if they spell one
 abbrev pub IsAt : Option Moment → List ℕ → Type 0
 IsAt moment line = (date : List ℕ) × (time : List ℕ) × (line ≡ spaced (codes "at" ∷ (date ∷ (time ∷ [])))) × IsWord date × IsWord time × (moment ≡ moment_of (date_of date) (time_of time))
 

@@ -123,7 +123,7 @@ abbrev pub agenda_line : Request → Option lines.Cut → Line
 agenda_line request None = Bad
 agenda_line request (Some cut) = if is_one_word cut.before then dated_line request cut.before (number_of cut.after) else Bad
 
--- the moment of a day and a time, where both are read
+-- the moment of a day and a time, where both could be read
 abbrev pub moment_of : Option ℕ → Option ℕ → Option Moment
 moment_of None time = None
 moment_of (Some day) None = None
@@ -277,17 +277,17 @@ line_of second line = if bytes_eq line (codes "inherit") then Plainly (Inherit [
     else if bytes_eq line (codes "version") && second then Plainly Version
     else words_line second line (cut_at 32 line)
 
--- what comes next on a stream, and what follows it
+-- what comes next on a stream, and the bytes that follow it
 pub record Reading : Type 0 where
   pub next : Next
   pub rest : List ℕ
 
--- the command of a frame and its payload
+-- the command whose line announced a payload, with that payload
 abbrev pub command_of_frame : PayloadHeader → List ℕ → Command
 command_of_frame (frame.Add name) bytes = Add name bytes
 command_of_frame (frame.Edit seen at del) bytes = Edit seen at del bytes
 
--- what comes next, after a line: a payload follows a frame, and is taken only where it may be that long
+-- what comes next after a line. A payload that it announces is taken where it may be that long and is whole
 abbrev pub after_line : Line → List ℕ → Reading
 after_line Bad rest = record { next = Refused (Plain code.Command); rest = rest }
 after_line (Plainly command) rest = record { next = Given command; rest = rest }
@@ -295,7 +295,7 @@ after_line (Framed frame size) rest = if nat_lt max_bytes size then record { nex
     else if nat_lt (length rest) size then record { next = Last (Plain Cut); rest = [] }
     else record { next = Given (command_of_frame frame (take size rest)); rest = drop size rest }
 
--- what comes next, after the bytes of a line, where this is what lines say
+-- what comes next after a line, by what lines say; the bytes behind the line may be its payload
 abbrev pub behind_by : (List ℕ → Line) → List ℕ → List ℕ → Reading
 behind_by says line = after_line (says line)
 
@@ -318,15 +318,15 @@ read_by says (b ∷ bytes) = after_cut says (cut_at 10 (b ∷ bytes))
 abbrev pub reading_of : Bool → List ℕ → Reading
 reading_of second = read_by (line_of second)
 
--- a command that may take memory: all but those of another moment, of a profile, and of letting go of a world
+-- a command that may take memory: all but `at`, `profile` and `unpin`
 abbrev pub MayTakeMemory : Command → Type 0
 MayTakeMemory (At moment) = ⊥
 MayTakeMemory (Profile profile) = ⊥
 MayTakeMemory (Unpin session) = ⊥
 MayTakeMemory _ = Unit {0}
 
--- where out of memory may be answered instead: a whole command that may take memory, and not a bad line or a frame's own
--- checks
+-- where out of memory may be answered instead: a whole command that may take memory; not a bad line, nor a payload that
+-- is too long or cut off
 abbrev pub IsReplaceable : Next → Type 0
 IsReplaceable (Given command) = MayTakeMemory command
 IsReplaceable _ = ⊥

@@ -12,10 +12,10 @@ use Rattle.org_engine.specs.declared.changes.Completion.{Completion}
 use Rattle.org_engine.specs.declared.question.View.{View}
 use Rattle.org_wire.specs.Devices.{AppendsTo}
 use Rattle.org_wire.specs.Replies.{fault_bytes}
-use Rattle.org_wire.specs.Run.{AnswersAllTaken, AnswersSo, IsRunOver, JaggedVec, out_of_memory, shown, written}
+use Rattle.org_wire.specs.Run.{AnswersAllTaken, AnswersSo, IsRunOver, AreReplies, out_of_memory, shown, written}
 use Rattle.org_wire.specs.Stream.{MayTakeMemory, line_of}
 use Rattle.org_wire.specs.declared.command.Command.{Command}
-use Rattle.org_wire.specs.declared.command.Command.TheVariants.{Add, Agenda, At, Clock, Complete, Drop, Edit, Inherit, Keywords, Match, Pin, Profile, Text, Todo, Unpin, Version}
+use Rattle.org_wire.specs.declared.command.Command.TheVariants.{Add, Agenda, Clock, Complete, Edit, Match, Todo}
 use Rattle.org_wire.specs.declared.command.Next.{Next}
 use Rattle.org_wire.specs.declared.command.Request.{Request}
 use Rattle.org_wire.specs.declared.command.Next.TheVariants.{Given, Refused, Last, Ended}
@@ -30,7 +30,7 @@ pub record IsSoFar (second : Bool) (bytes : List ℕ) (old new : State) (had has
   pub answers : List Reply
   pub rest : List ℕ
   pub left : now ≡ Some rest
-  pub runs : JaggedVec second (line_of second) bytes old answers rest new
+  pub runs : AreReplies second (line_of second) bytes old answers rest new
   pub wrote : Appends had has (written answers)
 
 -- a run over a stream whose lines are read
@@ -85,10 +85,9 @@ pub record IsViewServed (view : View) (request : Request) (old : State) (answer 
 abbrev pub ServesView : View → Request → EngineView → Reply → EngineView → Type 0
 ServesView view request old answer new = IsViewServed view request old.state answer new.state
 
--- what a command may count: a view the sections of the world that it is asked of which are still to be read, as read, and an
--- agenda stamps that are examined besides; a file
--- that is added its sections, and a change of one the new ones, as classified; completing a heading one as read besides; all
--- others nothing
+-- what a command may count. A view reads the sections of the asked world that are still to be read, and an agenda
+-- examines stamps besides. A file that is added classifies its sections, and a change of one the new ones. Completing a
+-- heading reads one section besides. All others count nothing
 abbrev pub CountsFor : Command → EngineView → EngineView → Type 0
 CountsFor (Todo request file words) old new = Looks (pending_asked request.session old) NoStamps old new
 CountsFor (Match request file text) old new = Looks (pending_asked request.session old) NoStamps old new

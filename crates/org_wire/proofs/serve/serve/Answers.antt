@@ -1,3 +1,5 @@
+use Rattle.std.proofs.lemmas.Result.{on_ok_weaker}
+use Rattle.org_engine.specs.Marks.{PinsMarks}
 use Rattle.std.specs.Option.{option_copied}
 use Rattle.std.proofs.Common.{◌≡◌, ap, refl, subst}
 use Rattle.org_engine.specs.Questions.{AsksMatch, AsksOf, AsksTable, asked_agenda}
@@ -50,7 +52,8 @@ returns-in-Profile g c = record {
 pub returns-in-Pin : goal.returns-in-Pin
 returns-in-Pin g c = record {
   value = rw (c.in-Pin.is, c.serial_reply-in-Pin.ensures.value) (tells _ _ _ _ _ (λ r. refl) refl _ c.pin.ensures.ok c.pin.ensures.err tt);
-  counts = rw c.in-Pin.is (counts_none _ c.args.engine.now c.pin.new.self c.pin.result c.pin.ensures.marks c.pin.ensures.uncounted);
+  counts = rw c.in-Pin.is (counts_none _ c.args.engine.now c.pin.new.self c.pin.result
+      (on_ok_weaker c.pin.result (λ (m : PinsMarks c.in-Pin.session c.args.engine.now c.pin.new.self). (m.marks, m.counts)) c.pin.ensures.marks) c.pin.ensures.uncounted);
 }
 
 pub returns-in-Unpin : goal.returns-in-Unpin

@@ -1,4 +1,3 @@
-use Rattle.std.proofs.Common.{◌≡◌}
 use Rattle.org_index.proofs.LaneLemmas.{lanes_again}
 use Rattle.org_index.proofs.index.DayIndex.share.Goals as goal
 
