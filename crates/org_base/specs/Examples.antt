@@ -6,8 +6,9 @@ use Rattle.org_base.specs.Properties.{folded}
 use Rattle.org_base.specs.Words.{first_word, is_blank, same_word, trim_end, trim_start, trimmed}
 use Rattle.org_base.specs.declared.meter.Tick.TheVariants.{Examine, Read}
 
--- words and the white space around them, in either case; the longest name of a file and what is none; how a name is kept; what
--- a tick adds, and where counts end (Org Syntax, Headings, Property Syntax; white space, names of files and counts: profile)
+-- words and the white space around them, in either case; the longest name of a file and what is none; how a name is kept.
+-- What a tick adds, and where counts end (Org Syntax, Headings, Property Syntax; white space, names of files and counts:
+-- profile)
 pub record ExamplesHold : Type 0 where
   pub behind_space : trim_start (codes " \t\r a b ") ≡ codes "a b "
   pub before_space : trim_end (codes " a b \r\n") ≡ codes " a b"

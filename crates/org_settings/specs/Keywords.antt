@@ -20,7 +20,7 @@ is_bar w = bytes_eq w (codes "|")
 abbrev pub without_parens : List ℕ → List ℕ
 without_parens w = if slice_index w (length w - 1) == 41 then take_while (λ b. not (b == 40)) w else w
 
--- a keyword is left of the word
+-- the word names a keyword: what is left of it isn't empty and no bar
 abbrev pub is_named : List ℕ → Bool
 is_named w = not (length (without_parens w) == 0 || is_bar (without_parens w))
 
@@ -28,12 +28,12 @@ is_named w = not (length (without_parens w) == 0 || is_bar (without_parens w))
 abbrev pub bar_place : List (List ℕ) → ℕ
 bar_place ws = prefix_len (λ w. not (is_bar w)) ws
 
--- how many words go up to the last of which a keyword is left, with it
+-- how many words there are up to the last one that names a keyword, with it
 abbrev pub named_until : List (List ℕ) → ℕ
 named_until [] = 0
 named_until (w ∷ ws) = let n = named_until ws in if n == 0 then (if is_named w then 1 else 0) else suc n
 
--- the place from which on keywords are done: the first |, else the last keyword
+-- the place from which on keywords are done: the first bar, else the last word that names a keyword
 abbrev pub done_from : List (List ℕ) → ℕ
 done_from ws = if nat_lt (bar_place ws) (length ws) then bar_place ws else named_until ws - 1
 
@@ -41,20 +41,20 @@ done_from ws = if nat_lt (bar_place ws) (length ws) then bar_place ws else named
 abbrev pub keyword_place : List Keyword → List ℕ → Option ℕ
 keyword_place ks w = position (bytes_eq w) (map (λ k. k.word) ks)
 
--- one more, where none has its word
+-- keywords with one more, unless its word is there
 abbrev pub with_new : List Keyword → Keyword → List Keyword
 with_new ks k = if is_some (keyword_place ks k.word) then ks else ks ++ k ∷ []
 
--- the keyword that is left of a word
+-- keywords with the one that a word names, if it names one
 abbrev pub add_word : Bool → ℕ → List Keyword → List ℕ → List Keyword
 add_word done first ks w = if is_named w then with_new ks (record { word = without_parens w; done = done; first = first }) else ks
 
--- keywords, one after another
+-- keywords with those that words name, one after another
 abbrev pub add_words : Bool → ℕ → List Keyword → List (List ℕ) → List Keyword
 add_words done first ks [] = ks
 add_words done first ks (w ∷ ws) = add_words done first (add_word done first ks w) ws
 
--- the keywords of one more line: its first stands after all others
+-- keywords with those of one more line; the first of the line stands after all before
 abbrev pub add_sequence : List Keyword → List (List ℕ) → List Keyword
 add_sequence ks ws =
     let n = done_from ws in
@@ -64,16 +64,16 @@ add_sequence ks ws =
 abbrev pub is_keyword_line : List ℕ → Bool
 is_keyword_line line = has_key (codes "TODO") line || (has_key (codes "SEQ_TODO") line || has_key (codes "TYP_TODO") line)
 
--- a keyword line is one sequence
+-- keywords with the sequence of a line, if it is a keyword line
 abbrev pub add_line : List Keyword → List ℕ → List Keyword
 add_line ks line = if is_keyword_line line then add_sequence ks (words (setting_value line)) else ks
 
--- the keywords of lines, one after another
+-- keywords with the sequences of lines, one after another
 abbrev pub add_lines : List Keyword → List (List ℕ) → List Keyword
 add_lines ks [] = ks
 add_lines ks (line ∷ lines) = add_lines (add_line ks line) lines
 
--- those of a file that names none
+-- the keywords of a file that names none: TODO, and DONE as a done one
 abbrev pub standard_keywords : List Keyword
 standard_keywords = add_sequence [] (codes "TODO" ∷ codes "DONE" ∷ [])
 
@@ -81,7 +81,7 @@ standard_keywords = add_sequence [] (codes "TODO" ∷ codes "DONE" ∷ [])
 abbrev pub keywords : List (List ℕ) → List Keyword
 keywords lines = let named = add_lines [] lines in if length named == 0 then standard_keywords else named
 
--- the keyword at a place is done
+-- the keyword at a place is a done one
 abbrev pub keyword_done : List Keyword → ℕ → Bool
 keyword_done ks place = (get_or ks place (record { word = []; done = false; first = 0 })).done
 

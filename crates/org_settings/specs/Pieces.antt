@@ -12,7 +12,7 @@ put_before true x ps = (x ∷ []) ∷ ps
 put_before false x [] = (x ∷ []) ∷ []
 put_before false x (p ∷ ps) = (x ∷ p) ∷ ps
 
--- white space, a line feed, or the byte
+-- a separator: white space, a line feed, or the byte that is given
 abbrev pub is_between : ℕ → ℕ → Bool
 is_between also b = is_gap b || (b == also)
 
@@ -21,7 +21,7 @@ abbrev pub begins_between : ℕ → List ℕ → Bool
 begins_between also [] = true
 begins_between also (b ∷ bs) = is_between also b
 
--- the longest runs without a separator
+-- the longest runs of bytes without a separator
 abbrev pub pieces : ℕ → List ℕ → List (List ℕ)
 pieces also [] = []
 pieces also (b ∷ bs) = if is_between also b then pieces also bs else put_before (begins_between also bs) b (pieces also bs)

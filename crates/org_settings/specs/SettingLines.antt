@@ -12,11 +12,11 @@ use Rattle.org_settings.specs.Priority.{is_priority, priority_number}
 abbrev pub key_len : List ℕ → ℕ
 key_len text = prefix_len (λ b. not (b == 58)) text
 
--- KEY of a setting line #+KEY: VALUE
+-- KEY of a setting line `#+KEY: VALUE`: what stands before its first colon
 abbrev pub setting_key : List ℕ → List ℕ
 setting_key line = drop 2 (take_while (λ b. not (b == 58)) (trim_start line))
 
--- VALUE of a setting line
+-- VALUE of a setting line: what stands after its first colon, trimmed
 abbrev pub setting_value : List ℕ → List ℕ
 setting_value line = trimmed (drop (key_len (trim_start line) + 1) (trim_start line))
 
@@ -24,11 +24,11 @@ setting_value line = trimmed (drop (key_len (trim_start line) + 1) (trim_start l
 abbrev pub has_key : List ℕ → List ℕ → Bool
 has_key key line = same_word (setting_key line) key
 
--- the tags that a line names: the pieces between colons and white space
+-- the tags that a line names, if it is a line of `#+FILETAGS`: the pieces between colons and white space
 abbrev pub tags_in : List ℕ → List (List ℕ)
 tags_in line = if has_key (codes "FILETAGS") line then pieces 58 (setting_value line) else []
 
--- the category that a line names
+-- the category that a line names, if it is a line of `#+CATEGORY`
 abbrev pub category_in : List ℕ → Option (List ℕ)
 category_in line = if has_key (codes "CATEGORY") line then Some (setting_value line) else None
 
@@ -66,6 +66,6 @@ given_by text =
     let word = first_word text in
     if is_name (name_of word) then record { name = name_of word; appends = is_appended word; value = value_behind text } ∷ [] else []
 
--- what a line #+PROPERTY: NAME VALUE gives
+-- what a line gives, if it is a line `#+PROPERTY: NAME VALUE`
 abbrev pub property_in : List ℕ → List Given
 property_in line = if has_key (codes "PROPERTY") line then given_by (setting_value line) else []

@@ -25,12 +25,12 @@ settings_with keywords file_tags category properties default_priority = record {
   default_priority = default_priority;
 }
 
--- what the first line says that says anything
+-- what the first of the lines says that says anything
 abbrev pub first_said : {X : Type 0} → (List ℕ → Option X) → List (List ℕ) → Option X
 first_said says [] = None
 first_said says (line ∷ lines) = option_or (says line) (first_said says lines)
 
--- what setting lines say together; without a line that names it the default priority is B
+-- what setting lines say together; where no line says it the default priority is B
 abbrev pub settings_of : List (List ℕ) → FileSettings
 settings_of lines = record {
   keywords = keywords lines;

@@ -8,6 +8,8 @@ use Rattle.org_class.proofs.Views.{keeps_views}
 use Rattle.org_store.specs.File.{AreOf, IsKept, Says, bare, list_after}
 use Rattle.org_store.specs.Outline.{file_settings}
 use Rattle.org_store.specs.Sections.{SectionView, fresh_section, is_read}
+use Rattle.org_settings.specs.Alike.{AnswerAlike}
+use Rattle.org_store.proofs.ChangedSettingsLemmas.{say_alike}
 use Rattle.org_store.proofs.KeptLemmas.{bare_fresh, map_splice, marks_fresh, says_fresh, zip_splice}
 use Rattle.org_settings.specs.Settings.{FileSettings}
 use Rattle.org_text.specs.Replace.{replace}
@@ -58,11 +60,12 @@ marks_bare t list kept = ap (map is_read) kept ∙ marks_fresh (sections t)
 pub kept_fresh : (t : List ℕ) (settings : FileSettings) → settings ≡ file_settings t → IsKept t (map fresh_section (sections t)) settings
 kept_fresh t settings own = record { own = own; list_is = bare_fresh (sections t); says = says_fresh (file_settings t) (sections t) }
 
--- a file whose settings stay
-pub kept_changed : (t ins : List ℕ) (list : List SectionView) (at del : ℕ) (settings : FileSettings) → at + del ≤ length t → IsKept t list settings → file_settings (replace t at del ins) ≡ file_settings t →
-    IsKept (replace t at del ins) (list_after list t at del ins) settings
-kept_changed t ins list at del settings inside h stay = record {
-  own = h.own ∙ sym stay;
+-- a file whose settings stay, as nothing that is asked of them tells them apart
+pub kept_changed : (t ins : List ℕ) (list : List SectionView) (at del : ℕ) (old new : FileSettings) → at + del ≤ length t → IsKept t list old →
+    new ≡ file_settings (replace t at del ins) → AnswerAlike (file_settings (replace t at del ins)) (file_settings t) → IsKept (replace t at del ins) (list_after list t at del ins) new
+kept_changed t ins list at del old new inside h own alike = record {
+  own = own;
   list_is = list_changed t ins list at del inside h.list_is;
-  says = subst (λ (x : FileSettings). AllZip (Says x) (sections (replace t at del ins)) (list_after list t at del ins)) (sym stay) (says_changed t ins list at del inside h.list_is (file_settings t) h.says);
+  says = say_alike (file_settings t) (file_settings (replace t at del ins)) (sections (replace t at del ins)) (list_after list t at del ins) (sym alike.keywords)
+      (says_changed t ins list at del inside h.list_is (file_settings t) h.says);
 }

@@ -9,6 +9,7 @@ use Rattle.org_class.specs.Sections.{sections}
 use Rattle.org_entry.specs.Entry.{entry_of}
 use Rattle.org_store.specs.Outline.{file_settings}
 use Rattle.org_store.specs.Sections.{SectionView, fresh_section, is_pending}
+use Rattle.org_settings.specs.Alike.{AnswerAlike}
 use Rattle.org_settings.specs.Settings.{FileSettings}
 use Rattle.org_text.specs.Replace.{replace}
 
@@ -58,10 +59,10 @@ abbrev pub changed_file : Bool → FileView → ℕ → ℕ → List ℕ → ℕ
 changed_file stays file at del ins serial =
     record { text = replace file.text at del ins; serial = serial; marks = marks_after stays file at del ins }
 
--- this is what a change makes of a file: its settings stay, or they don't
+-- this is what a change makes of a file: its settings stay, as nothing that is asked of them tells them apart, or they don't
 pub record IsChanged (old : FileView) (at del : ℕ) (ins : List ℕ) (serial : ℕ) (new : FileView) : Type 0 where
   pub stays : Bool
-  pub settings : IsTrue stays ↔ (file_settings (replace old.text at del ins) ≡ file_settings old.text)
+  pub settings : IsTrue stays ↔ AnswerAlike (file_settings (replace old.text at del ins)) (file_settings old.text)
   pub is : new ≡ changed_file stays old at del ins serial
 
 -- a section without what it says

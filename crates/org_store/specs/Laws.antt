@@ -3,6 +3,7 @@ use Rattle.std.specs.Prelude.{◌≡◌, ℕ, ◌+◌, ◌≤◌, List, IsSome, 
 use Rattle.std.specs.List.{splice}
 use Rattle.org_class.specs.Changes.{first_touched, new_sections, touched_end}
 use Rattle.org_entry.specs.Entry.{entry_of, heading_line}
+use Rattle.org_settings.specs.Alike.{AnswerAlike}
 use Rattle.org_store.specs.Begun.{entry_there}
 use Rattle.org_store.specs.Outline.{file_entries, file_settings}
 use Rattle.org_store.specs.Places.{HasLine, place_at}
@@ -12,7 +13,7 @@ use Rattle.org_text.specs.Replace.{replace}
 -- where its settings stay, a file says after a change what it said before, but for the touched sections: in the place of
 -- their entries stand those of the new ones
 abbrev pub KeepsUntouchedEntries : Type 0
-KeepsUntouchedEntries = (t ins : List ℕ) (at del : ℕ) → at + del ≤ length t → file_settings (replace t at del ins) ≡ file_settings t →
+KeepsUntouchedEntries = (t ins : List ℕ) (at del : ℕ) → at + del ≤ length t → AnswerAlike (file_settings (replace t at del ins)) (file_settings t) →
     file_entries (replace t at del ins)
     ≡ splice (file_entries t) (first_touched t at del ins) (touched_end t at del) (map (entry_of (file_settings t)) (new_sections t at del ins))
 

@@ -15,10 +15,10 @@ file_settings text = settings_of (setting_lines text)
 abbrev pub file_entries : List ℕ → List Entry
 file_entries text = entries_of (file_settings text) text
 
--- what a text says as a file
+-- what the text of a file says: its entries and its settings
 abbrev pub outline_of : List ℕ → OutlineView
 outline_of text = record { entries = file_entries text; settings = file_settings text }
 
--- what inheritance looks at in a file of this text, of the file's name and the inherited names
+-- what inheritance looks at in a file: what its text says, its name, and the inherited names
 abbrev pub scope_of : List (List ℕ) → List ℕ → List ℕ → Scope
 scope_of inherited name text = scope_in (outline_of text) name inherited

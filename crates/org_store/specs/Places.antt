@@ -9,7 +9,7 @@ use Rattle.org_lines.specs.Cuts.{lines}
 abbrev pub place_of : List ℕ → ℕ → Place
 place_of text section = record { at = section_start text section; line = lines_before text section + 1 }
 
--- the same, where there is such a section
+-- where the section at a place begins, if there is one
 abbrev pub place_at : List ℕ → ℕ → Option Place
 place_at text section = if nat_lt section (length (sections text)) then Some (place_of text section) else None
 

@@ -5,7 +5,7 @@ ghost use Rattle.org_base.specs.Results.{Gives};
 ghost use Rattle.org_store.specs.Change.{IsChangedBy, LiesIn, edited};
 ghost use Rattle.org_store.specs.Counts.{NewClassified, FewNewClassified};
 ghost use Rattle.org_store.specs.File.{AreOf};
-ghost use Rattle.org_store.specs.ChangedSettings.{AreChangedSettings};
+ghost use Rattle.org_store.specs.ChangedSettings.{AreNewSettings};
 
 use crate::change::Change;
 use crate::classify::all_pending;
@@ -26,8 +26,9 @@ use std::rc::Rc;
 impl<T: Text> File<T> {
     /// Gives the file a text that is its own with a change, and a serial. The sections of the new text that stand in the
     /// place of those that the change touches are to be read anew: the meter counts each once as classified. Where the
-    /// file's settings stay, all others are as before; else they are to be read anew too, and are not counted. Out of memory
-    /// is the only refusal, and leaves the file as before; then some of the new sections may have been counted.
+    /// file's settings stay, as nothing that is asked of them tells them apart, all others are as before; else they are to be
+    /// read anew too, and are not counted. Out of memory is the only refusal, and leaves the file as before; then some of the
+    /// new sections may have been counted.
     pub fn set_text(
         &mut self,
         alloc: Global,
@@ -49,13 +50,20 @@ impl<T: Text> File<T> {
             list: self.sections.list(),
         };
         let changed = changed_list(alloc, meter, &old, &text, change)?;
-        let changed_settings = self.changed_settings(alloc, &text, &changed.list, change)?;
-        let Some(settings) = changed_settings else {
+        let new_settings = self.new_settings(alloc, &text, &changed.list, change)?;
+        let Some(settings) = new_settings else {
             self.text = text;
             self.serial = serial;
             self.sections.follow(changed);
             return Ok(());
         };
+        if settings.as_ref().answers_as(self.settings.as_ref()) {
+            self.text = text;
+            self.serial = serial;
+            self.sections.follow(changed);
+            self.settings = settings;
+            return Ok(());
+        }
         let pending = all_pending(alloc, &changed.list)?;
         self.text = text;
         self.serial = serial;
@@ -64,9 +72,9 @@ impl<T: Text> File<T> {
         Ok(())
     }
 
-    // The settings of a text that is the file's with a change, and of whose sections this is kept; None where they stay.
-    // Only where the change doesn't leave the setting lines as they are, those of all sections are gone over.
-    fn changed_settings(
+    // The settings of a text that is the file's with a change, and of whose sections this is kept; None where the change leaves
+    // the setting lines as they are. Only else those of all sections are gone over.
+    fn new_settings(
         &self,
         alloc: Global,
         text: &T,
@@ -76,7 +84,7 @@ impl<T: Text> File<T> {
         requires sections_of_text { AreOf (T.content text.now) list.now }
         requires within { LiesIn self.now.text change }
         requires changed { T.content text.now ≡ edited self.now.text change }
-        ensures value { IfOk result (AreChangedSettings self.now.text (T.content text.now)) }
+        ensures value { IfOk result (AreNewSettings self.now.text (T.content text.now)) }
         ensures memory { IsOkUnless result memory_fault }
     {
         let old = SectionedText {
@@ -88,9 +96,6 @@ impl<T: Text> File<T> {
             return Ok(None);
         }
         let settings = settings_of(alloc, text, list)?;
-        if self.settings.as_ref().is_same(&settings) {
-            return Ok(None);
-        }
         Ok(Some(Rc::new(alloc, settings)?))
     }
 }

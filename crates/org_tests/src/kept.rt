@@ -181,10 +181,25 @@ const KEYWORDS_LATER: &str = "add a.org 27
   a:          WAIT q
 ~5 7 0";
 
+// Another property line that says the same leaves all but its own section as it was.
+const PROPERTY_APPENDED: &str = "add a.org 24
+#+PROPERTY: A 1
+* q
+* q
+todo
+~ok 1
+view 0
+~3 3 0$edit 1 a.org 1 13 0 1
++~ok 2
+~4 3 1$edit 1 a.org 2 15 0 1
+0~ok 3
+~5 3 3";
+
 #[test]
 fn settings_of_an_edit(rt: HostRuntime) -> Result<(), Fail> {
     assert_eq!(rt; wrong_step(rt.alloc(), KEYWORDS_FIRST)?, None);
     assert_eq!(rt; wrong_step(rt.alloc(), KEYWORDS_LATER)?, None);
+    assert_eq!(rt; wrong_step(rt.alloc(), PROPERTY_APPENDED)?, None);
     Ok(())
 }
 
