@@ -36,6 +36,7 @@ use Rattle.org_stamp.specs.declared.stamp.Stamp.{Stamp}
 use Rattle.org_stamp.proofs.CanPrintLemmas.{can_print, stamp_bounds}
 use Rattle.org_stamp.proofs.ReadLemmas.{single_found}
 use Rattle.org_stamp.proofs.SpelledLemmas.{inner_is_spelled}
+pub use Rattle.org_agenda.specs.Came.{AreReadOf}
 use Rattle.org_agenda.specs.Near.{IsSound, ReadStampsAreSound}
 use Rattle.org_agenda.specs.Sources.{entry_sources, file_sources, head_sources, owner_of, sources_at, sources_from, sources_of, under}
 use Rattle.org_agenda.specs.declared.source.HeadingRef.{HeadingRef}
@@ -226,11 +227,6 @@ from_sound scope file i settings (s ∷ ss) =
 pub read_stamps_are_sound : ReadStampsAreSound
 read_stamps_are_sound scope file settings sections read =
     all_sound (file_sources scope file) (subst (λ (es : List Entry). AllSound (sources_from scope file 0 es)) (sym read) (from_sound scope file 0 settings sections))
-
--- the entries of each file were read of sections
-abbrev pub AreReadOf : List Scope → Type 0
-AreReadOf [] = Unit {0}
-AreReadOf (s ∷ ss) = ((settings : FileSettings) × (sections : List (List ℕ)) × (s.entries ≡ map (entry_of settings) sections)) × AreReadOf ss
 
 files_sound : (k : ℕ) (ss : List Scope) → AreReadOf ss → AllSound (sources_of k ss)
 files_sound k [] h = tt

@@ -20,7 +20,7 @@ use Rattle.org_agenda.specs.declared.row.RowKind.{RowKind}
 use Rattle.org_agenda.specs.declared.row.RowKind.TheVariants.{Listed, OnDay, InRange, OnSchedule, LateSchedule, OnDeadline, Warning, LateDeadline}
 use Rattle.org_agenda.specs.declared.as_of.AsOf.{AsOf}
 
--- `-N` moves each occurrence, `--N` the base day alone
+-- the stamp occurs on the day, with n days of delay: `-N` moves each occurrence, `--N` the stamp's own day alone
 abbrev pub occurs_later : Profile → Bool → Stamp → ℕ → ℕ → Bool
 occurs_later p true s n day = (day == s.day + n) || (not (day == s.day) && occurs p s day)
 occurs_later p false s n day = nat_lt n day && occurs p s (day - n)
@@ -30,8 +30,8 @@ abbrev pub occurs_delayed : Profile → Stamp → Option Delay → ℕ → Bool
 occurs_delayed p s None day = occurs p s day
 occurs_delayed p s (Some d) day = occurs_later p d.first_only s (days_in d.unit d.n) day
 
--- the day of which a deadline warns: in the first profile its own, in the second that of its next occurrence, or none,
--- before all days, where there is none
+-- the day of which a deadline warns. In the first profile it is its own; in the second it is that of the next occurrence
+-- after today, or 0, which is before all days, where there is none
 abbrev pub due_day : Profile → Stamp → ℕ → ℕ
 due_day One s today = s.day
 due_day Two s today = unwrap_or (next_after s today) 0
@@ -40,7 +40,7 @@ due_day Two s today = unwrap_or (next_after s today) 0
 abbrev pub is_due : HeadingStamp → ℕ → ℕ → Bool
 is_due s today day = (day == today) && s.owner.is_open
 
--- the test of each kind, on a day with the moment's day
+-- the test of each kind: whether a stamp gives a row of it on a day, where the moment's day is today
 abbrev pub is_shown : Profile → RowKind → HeadingStamp → ℕ → ℕ → Bool
 is_shown p Listed s today day = false
 is_shown p OnDay s today day = is_none s.stamp.last && occurs p s.stamp day
@@ -52,15 +52,15 @@ is_shown p Warning s today day =
     is_due s today day && nat_le (due_day p s.stamp today) (today + delay_or WARNING_DAYS s.stamp.delay) && nat_lt today (due_day p s.stamp today)
 is_shown p LateDeadline s today day = is_due s today day && nat_lt s.stamp.day today
 
--- the times that a row shows of a range's copy that begins on a day: its first day shows the start, and the second's start
--- as end if it is one day; a later last day shows the second's start
+-- the times that a row shows of a range's copy that begins on a day. The first day shows the range's start, and its end
+-- too if the range is of one day; a later last day shows the end alone. The end is the second stamp's start
 abbrev pub range_times : Stamp → Option (ℕ × Option ℕ) → ℕ → ℕ → Option ℕ × Option ℕ
 range_times s None begins day = (None, None)
 range_times s (Some last) begins day =
     if day == begins then (s.time, (if last.0 == s.day then last.1 else None))
     else (if day + s.day == begins + last.0 then (last.1, None) else (None, None))
 
--- the first day of the copy of a range that a day shows
+-- the first day of the copy of a range that a day shows; 0 where it shows none
 abbrev pub shown_from : Profile → Stamp → ℕ → ℕ
 shown_from p s day = unwrap_or (range_start p s day) 0
 
@@ -72,13 +72,13 @@ times p OnSchedule s day = (s.time, s.end_time)
 times p OnDeadline s day = (s.time, s.end_time)
 times p _ s day = (None, None)
 
--- the numbers of the label: day i of n days, as many as the written range has
+-- the numbers in a range's label: day i of n days, as many as the written range has, counted from the copy's first day
 abbrev pub range_numbers : Stamp → Option (ℕ × Option ℕ) → ℕ → ℕ → ℕ × ℕ
 range_numbers s None begins day = (0, 0)
 range_numbers s (Some last) begins day = (day - begins + 1, last.0 - s.day + 1)
 
--- the numbers in the label of a kind: of a range as above, of late rows the days from the base, of warnings those to the day
--- of which they warn
+-- the two numbers in the label of a kind. A range has day and number of days, a late row the days since the stamp's own
+-- day, a warning the days to the one of which it warns; all others have 0
 abbrev pub numbers : Profile → RowKind → Stamp → ℕ → ℕ × ℕ
 numbers p InRange s day = range_numbers s s.last (shown_from p s day) day
 numbers p LateSchedule s day = (day - s.day, 0)
@@ -99,7 +99,7 @@ stamp_row p kind s day = record {
   stamp_at = s.stamp_at;
 }
 
--- the row of a kind, where the day shows it
+-- the row of a kind, with its heading's priority, if the stamp gives one on the day
 abbrev pub kind_rows : Profile → RowKind → HeadingStamp → ℕ → ℕ → List Ranked
 kind_rows p kind s today day = if is_shown p kind s today day then record { priority = s.owner.priority; row = stamp_row p kind s day } ∷ [] else []
 
@@ -113,16 +113,16 @@ role_rows p Deadline s today day = kind_rows p OnDeadline s today day ++ (kind_r
 unfoldable pub source_rows : Profile → ℕ → ℕ → HeadingStamp → List Ranked
 source_rows p today day s = role_rows p s.role s today day
 
--- rows with a start first, by start
+-- the key of a start: rows with a start stand by it, and rows without one after them
 abbrev pub start_key : Option ℕ → ℕ
 start_key None = STARTS - 1
 start_key (Some start) = start
 
--- the row under the key of its start
+-- a row under the key of its start, where else its priority stands
 abbrev pub started : Row → Ranked
 started row = record { priority = start_key row.start; row = row }
 
--- rows in the order of their starts, those without one last; equal ones keep their order
+-- rows in the order of their starts, those without one last; those of one start keep their order
 abbrev pub by_start : List Row → List Row
 by_start rows = map (λ (r : Ranked). r.row) (by_key (λ (r : Ranked). r.priority) STARTS (map started rows))
 

@@ -39,9 +39,9 @@ one_below = scope_of (with_tags (record { at = 4; len = 4 } ∷ []) (section (co
 abbrev pub of_work : Moment → Listing
 of_work moment = Matching (Tags (item Direct Unsigned (Tag (codes "work")) ∷ [])) moment
 
--- an open list shows a heading neither with a done keyword nor without one, a list of keywords shows those alone, and a list over
--- a file that file; rows of one priority stand in the order of files, and a heading has the tags of those above it (Org manual
--- 9.6, "The Global TODO List"; "Tag Inheritance"; profile)
+-- an open list shows a heading neither with a done keyword nor without one, a list of keywords shows those alone, and a
+-- list over a file that file. Rows of one priority stand in the order of files, and a heading has the tags of those above
+-- it (Org manual 9.6, "The Global TODO List"; "Tag Inheritance"; profile)
 pub record ExamplesHold : Type 0 where
   pub open_alone : list_rows Open None (file_of (codes "* DONE A\n* B\n* TODO C\n") ∷ []) ≡ row_at 0 2 ∷ []
   pub named_alone : list_rows (Named (codes "DONE" ∷ [])) None (file_of (codes "* TODO A\n* DONE B\n") ∷ []) ≡ row_at 0 1 ∷ []

@@ -33,16 +33,17 @@ IsDays Week n days = days ≡ 7 * n
 IsDays Month n days = (10 * days ≤ 304 * n) × (304 * n < 10 * (days + 1))
 IsDays Year n days = (100 * days ≤ 36525 * n) × (36525 * n < 100 * (days + 1))
 
--- so many units count as these days
+-- a delay of so many units has the days that `IsDays` says
 abbrev pub DelaysAreDays : Type 0
 DelaysAreDays = (unit : TimeUnit) (n : ℕ) → IsDays unit n (days_in unit n)
 
--- so many days by the stamp's own mark, whichever dashes it has, else others
+-- the days of the stamp's own delay, whichever dashes it has; others where it has none
 abbrev pub IsDelayOr : ℕ → Option Delay → ℕ → Type 0
 IsDelayOr other None n = n ≡ other
 IsDelayOr other (Some d) n = IsDays d.unit d.n n
 
--- an occurrence so many days before; where the first alone is delayed, the base then, and else an occurrence on the day itself
+-- the day is so many days after an occurrence. Where the first alone is delayed, it is that many after the stamp's own
+-- day, or another occurrence itself
 abbrev pub IsLater : Profile → Bool → Stamp → ℕ → ℕ → Type 0
 IsLater p true s n day = (day ≡ s.day + n) ⊎ ((day ≢ s.day) × Occurs p s day)
 IsLater p false s n day = (on : ℕ) × (1 ≤ on) × Occurs p s on × (day ≡ on + n)
@@ -61,15 +62,15 @@ abbrev pub IsWarnedOf : Profile → Stamp → ℕ → ℕ → Type 0
 IsWarnedOf One s today due = due ≡ s.day
 IsWarnedOf Two s today due = IsNextAfter s today due
 
--- late from the day after the base, so many days more where it has a delay
+-- today is past the stamp's day and its delay
 abbrev pub IsLateBy : HeadingStamp → ℕ → Type 0
 IsLateBy s today = (n : ℕ) × IsDelayOr 0 s.stamp.delay n × (s.stamp.day + n < today)
 
--- it comes within 14 days, or within those of its delay
+-- the day of which the deadline warns is after today, by at most 14 days, or by at most those of its delay
 abbrev pub ComesNear : Profile → HeadingStamp → ℕ → Type 0
 ComesNear p s today = (due days : ℕ) × IsWarnedOf p s.stamp today due × IsDelayOr 14 s.stamp.delay days × (today < due) × (due ≤ today + days)
 
--- a range that has the day
+-- the stamp is a range, and has the day
 abbrev pub IsRangeOn : Profile → Stamp → ℕ → Type 0
 IsRangeOn p s day = (last : ℕ × Option ℕ) × (s.last ≡ Some last) × OccursInRange p s last.0 day
 
@@ -98,7 +99,7 @@ abbrev pub HasDoneKeyword : Scope → Entry → Head → Type 0
 HasDoneKeyword scope e head = (word : List ℕ) × (place : ℕ) × (keyword_in e.text head ≡ Some word)
     × (keyword_place scope.settings.keywords word ≡ Some place) × (keyword_done scope.settings.keywords place ≡ true)
 
--- a heading is open but where it has one
+-- a heading is open but where its keyword is a done one
 abbrev pub OwnersAreOpen : Type 0
 OwnersAreOpen = (scope : Scope) (file i : ℕ) (e : Entry) (head : Head) → ((owner_of scope file i e head).is_open ≡ false) ↔ HasDoneKeyword scope e head
 
@@ -110,7 +111,8 @@ pub record ShowsItsEnds (p : Profile) (s : Stamp) (last : ℕ × Option ℕ) (be
   pub between : begins < day → day + s.day < begins + last.0 → times p InRange s day ≡ (None, None)
   pub single : s.day ≡ last.0 → times p InRange s day ≡ (s.time, last.1)
 
--- so does each range, on each day that it has
+-- a range of several days shows its start on the first day, the second stamp's start on the last, and no time between;
+-- one of a single day shows both
 abbrev pub RangesShowTheirEnds : Type 0
 RangesShowTheirEnds = (p : Profile) (s : Stamp) (last : ℕ × Option ℕ) (begins day : ℕ) → IsDay s.day → s.last ≡ Some last →
     IsRangeStart p s day begins → ShowsItsEnds p s last begins day

@@ -9,3 +9,5 @@ pub mod PlanningLemmas
 pub mod ReadLemmas
 pub mod QuietLemmas
 pub mod ActiveLemmas
+pub mod CutLemmas
+pub mod RiseLemmas

@@ -23,26 +23,26 @@ is_planned Deadline = true
 abbrev pub stamp_at : Bool → Role → ℕ → Stamp → EntryStamp
 stamp_at opens role at stamp = record { at = at; role = role; stamp = stamp; is_open = opens }
 
--- a stamp before the first that stands after it
+-- stamps in the order of their places, with one more
 abbrev pub put : EntryStamp → List EntryStamp → List EntryStamp
 put s [] = s ∷ []
 put s (t ∷ ts) = if nat_lt s.at t.at then s ∷ t ∷ ts else t ∷ put s ts
 
--- a stamp of the planning line among others, if it is there and active
+-- stamps with one of the planning line, if it is there and active
 abbrev pub with_planned : Bool → Role → Option (Stamp × Span) → List EntryStamp → List EntryStamp
 with_planned opens role None stamps = stamps
 with_planned opens role (Some found) stamps = if found.0.active then put (stamp_at opens role found.1.at found.0) stamps else stamps
 
--- the scheduled stamp and the deadline of a planning line among others
+-- stamps with the scheduled stamp and the deadline of a planning line, in the order of their places
 abbrev pub with_line : Bool → Planning → List EntryStamp → List EntryStamp
 with_line opens planning stamps = with_planned opens Deadline planning.deadline (with_planned opens Scheduled planning.scheduled stamps)
 
--- the same, if there is a planning line
+-- stamps with those of the planning line, if there is one
 abbrev pub with_planning : Bool → Option Planning → List EntryStamp → List EntryStamp
 with_planning opens None stamps = stamps
 with_planning opens (Some planning) stamps = with_line opens planning stamps
 
--- the plain stamps
+-- the plain stamps of an entry, each with its role
 abbrev pub plain_stamps : Bool → List Found → List EntryStamp
 plain_stamps opens stamps = map (λ (f : Found). stamp_at opens Plain f.at f.stamp) stamps
 

@@ -31,18 +31,18 @@ placed at [] cs = []
 placed at (l ∷ ls) [] = []
 placed at (l ∷ ls) (c ∷ cs) = record { at = at; class = c; bytes = l } ∷ placed (at + length l) ls cs
 
--- what a line gives to the text
+-- what a line gives to the entry's text: a heading line and a planning line give themselves
 abbrev pub text_of : Class → List ℕ → List ℕ
 text_of Heading bytes = bytes
 text_of PlanningLine bytes = bytes
 text_of _ bytes = []
 
--- what it gives to the lines of the drawer
+-- what a line gives to the drawer's lines: a node line gives itself
 abbrev pub nodes_of : Class → List ℕ → List (List ℕ)
 nodes_of Node bytes = bytes ∷ []
 nodes_of _ bytes = []
 
--- the clock that it gives
+-- the clock that a line gives, if it is a clock line
 abbrev pub clocks_of : Class → List ℕ → List ClockLine
 clocks_of Clock bytes = option_to_list (clock_of bytes)
 clocks_of _ bytes = []
@@ -51,11 +51,11 @@ clocks_of _ bytes = []
 abbrev pub if_active : ℕ → Found → List Found
 if_active at f = if f.stamp.active then record { at = at + f.at; len = f.len; stamp = f.stamp } ∷ [] else []
 
--- the active stamps of bytes that stand at the place
+-- the active stamps of bytes that begin at the place of the section
 abbrev pub active_at : ℕ → List ℕ → List Found
 active_at at bytes = flat_map (if_active at) (stamps_of_line bytes)
 
--- the active stamps of the title of a heading line that stands at the place
+-- the active stamps of the title of a heading line that begins at the place of the section
 abbrev pub title_stamps : FileSettings → ℕ → List ℕ → List Found
 title_stamps settings at bytes = let title = (head_of settings bytes).title in active_at (at + title.at) (bytes_in bytes title)
 
@@ -66,12 +66,12 @@ stamps_of settings at Setting bytes = active_at at bytes
 stamps_of settings at Plain bytes = active_at at bytes
 stamps_of settings at _ bytes = []
 
--- the head after one more line
+-- the head after one more line: that of a heading line, else the one so far
 abbrev pub head_after : FileSettings → Option Head → Class → List ℕ → Option Head
 head_after settings so_far Heading bytes = Some (head_of settings bytes)
 head_after settings so_far _ bytes = so_far
 
--- the head of lines
+-- the head after lines: that of the last heading line among them, else the one so far
 abbrev pub head_from : FileSettings → Option Head → List PlacedLine → Option Head
 head_from settings so_far [] = so_far
 head_from settings so_far (l ∷ ls) = head_from settings (head_after settings so_far l.class l.bytes) ls

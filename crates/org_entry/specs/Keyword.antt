@@ -19,7 +19,7 @@ is_done_place settings (Some place) = keyword_done settings.keywords place
 abbrev pub is_done : FileSettings → List ℕ → Bool
 is_done settings word = is_done_place settings (keyword_place settings.keywords word)
 
--- the heading has a done keyword
+-- the heading's keyword is there, and is a done one
 abbrev pub is_finished : FileSettings → Option (List ℕ) → Bool
 is_finished settings None = false
 is_finished settings (Some word) = is_done settings word

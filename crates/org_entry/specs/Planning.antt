@@ -11,11 +11,11 @@ use Rattle.org_entry.specs.Entry.{PlacedLine, heading_line}
 use Rattle.org_entry.specs.declared.entry.Entry.{Entry}
 use Rattle.org_stamp.specs.declared.stamp.Stamp.{Stamp}
 
--- a stamp's part so much further
+-- a stamp, with its part of the text so many bytes further on
 abbrev pub moved_stamp : ℕ → Stamp × Span → Stamp × Span
 moved_stamp at s = (s.0, record { at = at + s.1.at; len = s.1.len })
 
--- planning with its parts so much further
+-- planning, with the parts of its stamps so many bytes further on
 abbrev pub moved : ℕ → Planning → Planning
 moved at p = record {
   scheduled = option_map (moved_stamp at) p.scheduled;
@@ -23,7 +23,7 @@ moved at p = record {
   closed = option_map (moved_stamp at) p.closed;
 }
 
--- the planning of an entry: what stands after its heading line in its text says it
+-- the planning of an entry: what stands after the heading line in the entry's text says it
 abbrev pub entry_planning : Entry → Option Planning
 entry_planning entry = let at = length (heading_line entry) in option_map (moved at) (planning_of (drop at entry.text))
 

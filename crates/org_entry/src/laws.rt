@@ -1,6 +1,13 @@
 //! Laws of the definitions. Each is a function without parameters whose contract is the law.
 ghost use Rattle.org_entry.specs.Examples.{ExamplesHold};
-ghost use Rattle.org_entry.specs.Laws.{HeadsAreOfTheirLines, LinesAreRead, PlanningIsOfItsLine};
+ghost use Rattle.org_entry.specs.Laws.{EntriesAreOfSections, HeadsAreOfTheirLines, LinesAreRead, PlanningIsOfItsLine, StampsRise};
+
+/// A text that is cut where a heading line begins has the entries of its first part, then those of its second: what a
+/// section says depends on the settings and on that section alone.
+#[tactic(auto, using(crate::proofs::CutLemmas::entries_of_sections))]
+pub fn entries_are_of_sections()
+    ensures { EntriesAreOfSections }
+{}
 
 /// The head of a section's entry is what its heading line says by the file's settings, the heading line being the first
 /// of the entry's text.
@@ -20,6 +27,12 @@ pub fn planning_is_of_its_line()
 #[tactic(auto, using(crate::proofs::ReadLemmas::lines_are_read))]
 pub fn lines_are_read()
     ensures { LinesAreRead }
+{}
+
+/// The active stamps of an entry stand by their places in the section, those of its planning line among them.
+#[tactic(auto, using(crate::proofs::RiseLemmas::stamps_rise))]
+pub fn stamps_rise()
+    ensures { StampsRise }
 {}
 
 /// An active stamp counts, and an inactive one doesn't.
