@@ -7,3 +7,4 @@ pub mod PlanLemmas
 pub mod ChangeLemmas
 pub mod CompleteLemmas
 pub mod LawLemmas
+pub mod RefusalLemmas

@@ -5,7 +5,7 @@ use Rattle.std.proofs.lemmas.Bool.{cases_Bool}
 use Rattle.org_base.specs.Counts.{Counts}
 use Rattle.org_base.specs.Results.{IfRefused}
 use Rattle.org_base.specs.declared.fault.Fault.{Fault}
-use Rattle.org_complete.specs.Reading.{HasReadLine, HasReadOne, NoHeading, Own, ReadsOwn, with_one_read}
+use Rattle.org_complete.specs.Reading.{HasReadOne, NoHeading, Own, ReadsOwn, with_one_read}
 use Rattle.org_store.specs.Begun.{IsBegunBy, has_heading}
 use Rattle.org_store.specs.Counts.{have_read}
 use Rattle.org_store.specs.File.{FileView, marked, unread_at}

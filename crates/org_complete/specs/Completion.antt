@@ -34,12 +34,12 @@ abbrev pub shifts : Option (Stamp × Span) → Bool
 shifts None = false
 shifts (Some s) = s.0.active && is_some s.0.repeater
 
--- and can't, for want of a time
+-- the stamp would shift, and can't for want of a time
 abbrev pub lacks : Option (Stamp × Span) → Bool
 lacks None = false
 lacks (Some s) = shifts (Some s) && lacks_time s.0
 
--- the stamp that takes a part's place
+-- the stamp that takes a part's place, unless its shift is refused
 abbrev pub put_at : Span → Result Stamp Fault → Result (Option Shift) Fault
 put_at span (Err fault) = Err fault
 put_at span (Ok stamp) = Ok (Some (record { span = span; stamp = stamp }))
@@ -49,30 +49,30 @@ abbrev pub shift_at : Moment → Option (Stamp × Span) → Result (Option Shift
 shift_at now None = Ok None
 shift_at now (Some s) = if shifts (Some s) then put_at s.1 (shift_answer s.0 now) else Ok None
 
--- two shifts by their places
+-- two shifts in the order of their places
 abbrev pub by_place : Option Shift → Option Shift → Option Shift × Option Shift
 by_place None b = (None, b)
 by_place (Some a) None = (Some a, None)
 by_place (Some a) (Some b) = if nat_lt a.span.at b.span.at then (Some a, Some b) else (Some b, Some a)
 
--- a keyword is written and no stamp shifts
+-- the plan by which a keyword is written and no stamp shifts
 abbrev pub plain_plan : ℕ → Plan
 plain_plan place = record { keyword = place; shifts = (None, None) }
 
--- a keyword is written and both stamps shift, of those that do
+-- the plan by which a keyword is written and stamps shift, unless a shift is refused
 abbrev pub shift_plan : ℕ → Result (Option Shift) Fault → Result (Option Shift) Fault → Result Plan Fault
 shift_plan place (Err fault) b = Err fault
 shift_plan place (Ok a) (Err fault) = Err fault
 shift_plan place (Ok a) (Ok b) = Ok (record { keyword = place; shifts = by_place a b })
 
--- stamps shift, or want of a time in one of them comes before all else
+-- the plan by which a keyword is written and stamps shift; that one of them lacks a time is refused before all else
 abbrev pub repeat_plan : Moment → ℕ → Planning → Result Plan Fault
 repeat_plan now place p =
     if lacks p.scheduled || lacks p.deadline then Err (Plain code.Hours)
     else shift_plan place (shift_at now p.scheduled) (shift_at now p.deadline)
 
--- what the keyword at a place of the file's does: where it is done and a stamp repeats, the first keyword of its sequence is
--- written and stamps shift, else it is written itself
+-- what the keyword at a place of the file's does. Where it is done and a stamp repeats, the first keyword of its sequence
+-- is written and stamps shift; else it is written itself
 abbrev pub keyword_plan : Moment → FileSettings → ℕ → Option Planning → Result Plan Fault
 keyword_plan now settings place None = Ok (plain_plan place)
 keyword_plan now settings place (Some p) =
@@ -114,7 +114,7 @@ plan_parts at line old settings plan =
     keyword_part at (keyword_span line old) (keyword_word settings.keywords plan.keyword ++ gap_behind old)
     ∷ (shift_part at plan.shifts.0 ++ shift_part at plan.shifts.1)
 
--- the same, unless the plan is refused
+-- the parts that a plan replaces, unless the plan is refused
 abbrev pub planned_parts : ℕ → List ℕ → Option Span → FileSettings → Result Plan Fault → Result (List Part) Fault
 planned_parts at line old settings (Err fault) = Err fault
 planned_parts at line old settings (Ok plan) = Ok (plan_parts at line old settings plan)
@@ -125,11 +125,11 @@ entry_parts at now settings keyword entry None = Err (Plain code.Heading)
 entry_parts at now settings keyword entry (Some head) =
     planned_parts at (heading_line entry) head.keyword settings (plan_for now settings (entry_planning entry) keyword)
 
--- the same, by the entry's own head
+-- what completing an entry replaces, by the entry's own head
 abbrev pub section_parts : ℕ → Moment → FileSettings → List ℕ → Entry → Result (List Part) Fault
 section_parts at now settings keyword entry = entry_parts at now settings keyword entry entry.head
 
--- where a line begins
+-- how many bytes of a text stand before a line. Lines count from 1
 abbrev pub line_start : List ℕ → ℕ → ℕ
 line_start text line = length (concat (take (line - 1) (lines text)))
 
@@ -152,7 +152,7 @@ sized text = if nat_lt max_bytes (length text) then Err (Plain code.Size) else O
 abbrev pub replaced : List ℕ → ℕ → ℕ → List ℕ → Result (List ℕ) Fault
 replaced text at del ins = sized (replace text at del ins)
 
--- the text with the parts replaced
+-- the text with the parts replaced, unless they are refused or it gets too long
 abbrev pub completed_by : List ℕ → Result (List Part) Fault → Result (List ℕ) Fault
 completed_by text (Err fault) = Err fault
 completed_by text (Ok parts) = sized (with_parts text parts)
@@ -161,7 +161,7 @@ completed_by text (Ok parts) = sized (with_parts text parts)
 unfoldable pub completed : List ℕ → ℕ → List ℕ → Moment → Result (List ℕ) Fault
 completed text line keyword now = completed_by text (completion_parts text line keyword now)
 
--- parts as one change, if there are some
+-- parts as one change, unless they are refused
 abbrev pub as_one : List ℕ → Result (List Part) Fault → Result Part Fault
 as_one text (Err fault) = Err fault
 as_one text (Ok parts) = Ok (one_part text parts)

@@ -37,7 +37,7 @@ pub record IsShifted (now : Moment) (s : Stamp × Span) (shift : Option Shift) :
   pub repeated : IsRepeated (Some s) → (new : Stamp) × (shift_answer s.0 now ≡ Ok new) × (shift ≡ Some (record { span = s.1; stamp = new }))
   pub single : (IsRepeated (Some s) → ⊥) → shift ≡ None
 
--- the same of a stamp that may be missing
+-- a stamp that may be missing is shifted in its place if it repeats; without one there is no shift
 abbrev pub IsShiftOf : Moment → Option (Stamp × Span) → Option Shift → Type 0
 IsShiftOf now None shift = shift ≡ None
 IsShiftOf now (Some s) shift = IsShifted now s shift
@@ -56,5 +56,7 @@ pub record IsWritten (now : Moment) (settings : FileSettings) (place : ℕ) (p :
   pub repeated : Repeats settings place p → (plan.keyword ≡ keyword_first settings.keywords place) × AreShifts now p plan.shifts
   pub single : (Repeats settings place p → ⊥) → plan ≡ record { keyword = place; shifts = (None, None) }
 
+-- where a plan isn't refused: of a task that repeats, the first keyword of the sequence is written and repeated stamps
+-- shift; of any other the given keyword is written, and no stamp shifts
 abbrev pub KeywordsAreWritten : Type 0
 KeywordsAreWritten = (now : Moment) (settings : FileSettings) (place : ℕ) (p : Planning) (plan : Plan) → keyword_plan now settings place (Some p) ≡ Ok plan → IsWritten now settings place p plan

@@ -4,3 +4,4 @@ pub mod Completion
 pub mod Written
 pub mod Examples
 pub mod Laws
+pub mod Reasons

@@ -19,12 +19,12 @@ abbrev pub with_parts : List ℕ → List Part → List ℕ
 with_parts t [] = t
 with_parts t (p ∷ ps) = replace (with_parts t ps) p.at p.del p.ins
 
--- where the last part ends
+-- where the last part ends; without parts the place that is given
 abbrev pub end_of_parts : ℕ → List Part → ℕ
 end_of_parts end [] = end
 end_of_parts end (p ∷ ps) = end_of_parts (p.at + p.del) ps
 
--- what stands from a place up to there when they are replaced
+-- what stands from a place up to the end of the last part, once the parts are replaced
 abbrev pub joined_parts : List ℕ → ℕ → List Part → List ℕ
 joined_parts t at [] = []
 joined_parts t at (p ∷ ps) = slice_range t at p.at ++ (p.ins ++ joined_parts t (p.at + p.del) ps)

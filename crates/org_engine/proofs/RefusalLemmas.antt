@@ -5,12 +5,15 @@ use Rattle.std.specs.Str.{is_utf8}
 use Rattle.std.proofs.lemmas.Bool.Decides.{nat_tests}
 use Rattle.std.proofs.lemmas.List.{length-take-le, length-drop}
 use Rattle.org_base.specs.FileName.{is_file_name}
+use Rattle.org_base.specs.Reasons.{Reason, first_of}
 use Rattle.org_base.specs.declared.code.Code.TheVariants as code
 use Rattle.org_base.specs.declared.fault.Fault.{Fault}
 use Rattle.org_base.specs.declared.fault.Fault.TheVariants.{Plain, Stale}
 use Rattle.org_complete.specs.Completion.{completed}
+use Rattle.org_complete.specs.Reasons.{completion_reasons}
+use Rattle.org_complete.proofs.RefusalLemmas.{in_order as completion_in_order}
 use Rattle.org_text.specs.Replace.{is_boundary, max_bytes, replace}
-use Rattle.org_engine.specs.Refusals.{RefusalsComeInOrder, complete_reasons, edit_reasons, first_of, spent, text_reasons, unmade}
+use Rattle.org_engine.specs.Refusals.{RefusalsComeInOrder, complete_reasons, edit_reasons, spent, text_reasons}
 use Rattle.org_engine.specs.Step.{Refused, Reply, Serial, changes, completed_at, edited, file_named, is_session, last_serial, most_files, put, text_at, unless_refused, with_file, with_text, without}
 use Rattle.org_engine.specs.World.{FileView, State}
 use Rattle.org_engine.proofs.LawLemmas.{next_state}
@@ -47,7 +50,7 @@ drop_says name s true = last_says s (without name s.world.files)
 drop_says name s false = says (Plain code.Unknown)
 
 -- the text that a session saw
-module _ (name : List ℕ) (serial : ℕ) (s : State) (make : Result (List ℕ) Fault → Result (List ℕ) Fault) (wrong : List ℕ → List (Bool × Fault))
+module _ (name : List ℕ) (serial : ℕ) (s : State) (make : Result (List ℕ) Fault → Result (List ℕ) Fault) (wrong : List ℕ → List Reason)
     (none : (f : Fault) → make (Err f) ≡ Err f) (some : (text : List ℕ) → Says (changes s (put name s (make (Ok text)))).reply (first_of (wrong text))) where
   unmade_says : (f : Fault) → Says (changes s (put name s (make (Err f)))).reply (Some f)
   unmade_says f = rw (none f) (says f)
@@ -100,9 +103,28 @@ module _ (name : List ℕ) (s : State) (at del : ℕ) (ins text : List ℕ) wher
   edit_says : Says (changes s (put name s (edited at del ins (Ok text)))).reply (first_of (edit_reasons at del ins s text))
   edit_says = edit_at (nat_lt (length text) (at + del)) refl
 
-complete_made : (name : List ℕ) (s : State) (r : Result (List ℕ) Fault) → Says (changes s (put name s r)).reply (first_of (unmade r ++ spent s ∷ []))
-complete_made name s (Err f) = says f
-complete_made name s (Ok text) = last_says s (with_text name text (s.serial + 1) s.world.files)
+-- reasons with others behind them
+first_some : (reasons others : List Reason) (g : Fault) → first_of reasons ≡ Some g → first_of (reasons ++ others) ≡ Some g
+first_some [] others g is = absurd cc
+first_some ((true, fault) ∷ reasons) others g is = is
+first_some ((false, fault) ∷ reasons) others g is = first_some reasons others g is
+
+first_none : (reasons others : List Reason) → first_of reasons ≡ None → first_of (reasons ++ others) ≡ first_of others
+first_none [] others is = refl
+first_none ((true, fault) ∷ reasons) others is = absurd cc
+first_none ((false, fault) ∷ reasons) others is = first_none reasons others is
+
+abbrev made_text : List ℕ → Result (List ℕ) Fault
+made_text text = Ok text
+
+module _ (name : List ℕ) (s : State) (reasons : List Reason) where
+  made_says : (text : List ℕ) (o : Option Fault) → first_of reasons ≡ o → ((f : Fault) → (made_text text ≡ Err f) ↔ (first_of reasons ≡ Some f)) → Says (changes s (put name s (Ok text))).reply (first_of (reasons ++ spent s ∷ []))
+  made_says text (Some g) is same = absurd (let e = (same g).1 is in cc)
+  made_says text None is same = rw (first_none reasons (spent s ∷ []) is) (last_says s (with_text name text (s.serial + 1) s.world.files))
+
+  complete_made : (r : Result (List ℕ) Fault) → ((f : Fault) → (r ≡ Err f) ↔ (first_of reasons ≡ Some f)) → Says (changes s (put name s r)).reply (first_of (reasons ++ spent s ∷ []))
+  complete_made (Err f) same = rw (first_some reasons (spent s ∷ []) f ((same f).0 refl)) (says f)
+  complete_made (Ok text) same = made_says text (first_of reasons) refl same
 
 pub in_order : RefusalsComeInOrder
 in_order s = record {
@@ -111,5 +133,5 @@ in_order s = record {
   edits = λ session name serial at del ins.
       seen_says name serial s (edited at del ins) (edit_reasons at del ins s) (λ f. refl) (λ text. edit_says name s at del ins text) session (is_session session) (file_named name s.world.files) refl;
   completes = λ session name serial line keyword.
-      seen_says name serial s (completed_at line keyword s.world.moment) (complete_reasons line keyword s) (λ f. refl) (λ text. complete_made name s (completed text line keyword s.world.moment)) session (is_session session) (file_named name s.world.files) refl;
+      seen_says name serial s (completed_at line keyword s.world.moment) (complete_reasons line keyword s) (λ f. refl) (λ text. complete_made name s (completion_reasons text line keyword s.world.moment) (completed text line keyword s.world.moment) (completion_in_order text line keyword s.world.moment)) session (is_session session) (file_named name s.world.files) refl;
 }

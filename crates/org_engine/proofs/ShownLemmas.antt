@@ -5,7 +5,10 @@ use Rattle.std.specs.List.{All, AllZip}
 use Rattle.std.proofs.lemmas.List.{drop_all, drop_more, length-map}
 use Rattle.std.proofs.lemmas.Option.{get_or_from_slice_get}
 use Rattle.org_agenda.specs.Headings.{AllHaveHeads}
+use Rattle.org_agenda.specs.Near.{IsSound}
+use Rattle.org_agenda.specs.Sources.{sources_of}
 use Rattle.org_base.specs.declared.limits.TheConstants.{MOST_FILES}
+use Rattle.org_agenda.proofs.BoundLemmas.{rows_are_of_near}
 use Rattle.org_agenda.proofs.SoundLemmas.{AreReadOf, read_sound}
 use Rattle.org_class.specs.Sections.{sections}
 use Rattle.org_near.specs.Stamps.{IsOf}
@@ -16,6 +19,7 @@ use Rattle.org_text.specs.Replace.{max_bytes}
 use Rattle.org_engine.proofs.HeadLemmas.{file_heads, first_heads}
 use Rattle.org_engine.specs.Tables.{AreShort}
 use Rattle.org_engine.specs.Views.{is_wanted, scopes_named, wanted_scope}
+use Rattle.org_engine.specs.Examined.{RowsAreExamined, near_in_world}
 use Rattle.org_engine.specs.Outlines.{AreRead, outlines_of, scopes_of}
 use Rattle.org_engine.proofs.ListLemmas.{all_named}
 use Rattle.org_engine.specs.World.{FileView, WorldView}
@@ -150,3 +154,10 @@ named_read wanted world scopes short few are = subst AreRead (sym are) (record {
   texts = named_texts wanted world.inherited world.files short;
   few = omega (arith, few, named_few wanted (scopes_of world), length-map world.files (λ (f : FileView). scope_of world.inherited f.name f.text));
 })
+
+-- the stamps of a world's files are sound, so those that give a row are near
+pub rows_examined : RowsAreExamined
+unfolding near_in_world
+rows_examined world first count =
+    let named : All IsSound (sources_of 0 (scopes_named None (scopes_of world))) = read_sound 0 (scopes_named None (scopes_of world)) (named_sections None world.inherited world.files) in
+    rows_are_of_near world.profile first count world.moment.day (scopes_of world) (subst (λ ss. All IsSound (sources_of 0 ss)) (all_named (scopes_of world)) named)

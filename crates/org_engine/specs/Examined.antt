@@ -1,6 +1,6 @@
 -- How many stamps views examine (profile).
-use Rattle.std.specs.Prelude.{◌≡◌, ℕ, ◌+◌, ◌-◌, List, Option, Result, Ok, Err}
-use Rattle.org_agenda.specs.Bound.{near_count}
+use Rattle.std.specs.Prelude.{◌≡◌, ◌≤◌, ℕ, ◌+◌, ◌-◌, List, Option, Result, Ok, Err}
+use Rattle.org_agenda.specs.Bound.{near_count, row_count}
 use Rattle.org_agenda.specs.declared.as_of.AsOf.{AsOf}
 use Rattle.org_base.specs.Counts.{Counts}
 use Rattle.org_base.specs.declared.fault.Fault.{Fault}
@@ -17,6 +17,10 @@ use Rattle.org_engine.specs.declared.question.View.TheVariants.{Agenda, Match, T
 -- how many stamps of a world are near so many days from a first one on
 unfoldable pub near_in_world : ℕ → ℕ → WorldView → ℕ
 near_in_world first count world = near_count world.profile first (first + count - 1) world.moment.day (scopes_of world)
+
+-- an agenda of a world examines at least the stamps that give it a row
+abbrev pub RowsAreExamined : Type 0
+RowsAreExamined = (world : WorldView) (first count : ℕ) → row_count world.profile first count world.moment.day (scopes_of world) ≤ near_in_world first count world
 
 -- those that are near so many days from a first one on were examined, each once, and nothing else was counted
 abbrev pub ExaminesNear : AsOf → List Scope → ℕ → ℕ → Counts → Counts → Type 0

@@ -12,7 +12,7 @@ abbrev pub bar_before : Bool → List ℕ
 bar_before false = []
 bar_before true = codes "| "
 
--- the end of a line whose last keyword is of this kind; the bar stands in each line
+-- what ends a line, by whether its last keyword is a done one: a bar, where none stood before, and the line feed
 abbrev pub line_end : Bool → List ℕ
 line_end false = codes " |\n"
 line_end true = codes "\n"
@@ -29,7 +29,7 @@ gap_before None next = bar_before next.is_done
 gap_before (Some last) next =
     if last.first == next.first then gap_between last.is_done next.is_done else line_end last.is_done ++ bar_before next.is_done
 
--- the end of the last line, if there is one
+-- what ends the last line, if there is one
 abbrev pub last_end : Option Kind → List ℕ
 last_end None = []
 last_end (Some last) = line_end last.is_done

@@ -376,9 +376,11 @@ pub data ReadsOwnOnly (session : ℕ) (name : List ℕ) (serial line : ℕ) (old
 abbrev pub KeepsRest : ℕ → List ℕ → ℕ → ℕ → EngineView → EngineView → Fault → Type 0
 KeepsRest session name serial line old new fault = ReadsOwnOnly session name serial line old new
 
--- a session keeps the marks as they are
-abbrev pub PinsMarks : EngineView → EngineView → Type 0
-PinsMarks old new = (new.marks ≡ record old.marks { pins = old.marks.pins ++ old.marks.world ∷ [] }) × (new.counts ≡ old.counts)
+-- a session keeps the marks as they are, and as many sections of its world are still to be read
+pub record PinsMarks (session : ℕ) (old new : EngineView) : Type 0 where
+  pub marks : new.marks ≡ record old.marks { pins = old.marks.pins ++ old.marks.world ∷ [] }
+  pub counts : new.counts ≡ old.counts
+  pub pending : pending_asked (Some session) new ≡ pending_in old.marks.world
 
 -- those of the session's world went with it
 abbrev pub UnpinsMarks : ℕ → EngineView → EngineView → Type 0

@@ -36,7 +36,7 @@ named_by (Unread fault) = None
 abbrev pub files_for : Query → WorldView → List FileView
 files_for question world = files_named (named_by question) world.files
 
--- and what inheritance looks at in each of them
+-- what inheritance looks at in each of the files that the rows of a question are of
 abbrev pub scopes_for : Query → WorldView → List Scope
 scopes_for question world = scopes_named (named_by question) (scopes_of world)
 
@@ -64,6 +64,7 @@ pub record AreOfOneList (question : Query) (world : WorldView) : Type 0 where
   pub answered : (shown : List ℕ) → render_view Text question world ≡ Shown shown → (places : List ℕ) × (render_view Places question world ≡ Shown places)
   pub refused : (fault : Fault) → render_view Text question world ≡ Refused fault → render_view Places question world ≡ Refused fault
 
+-- the text of a view and where its lines lead are two renderings of one list of lines, and are refused alike
 abbrev pub TextAndPlacesAreOfOneList : Type 0
 TextAndPlacesAreOfOneList = (question : Query) (world : WorldView) → AreOfOneList question world
 
@@ -88,7 +89,8 @@ pub record WorksThereAlone (file : FileView) (make : List ℕ → Result (List �
   pub stale : (now : FileView) → file_named file.name s.world.files ≡ Some now → now ≢ file → (step command s).reply ≡ Refused (fault.Stale now.serial)
   pub gone : file_named file.name s.world.files ≡ None → (step command s).reply ≡ Refused (fault.Plain code.Unknown)
 
--- so does each completion and each edit that names this version, of any session
+-- a version of a file leads back: each completion and each edit that names it, of any session, works on its text, or is
+-- refused where the file has another
 pub record LeadsBack (file : FileView) (s : State) : Type 0 where
   pub completes : (session line : ℕ) (keyword : List ℕ) → is_session session ≡ true →
       WorksThereAlone file (λ text. completed text line keyword s.world.moment) (Complete session file.name file.serial line keyword) s
@@ -101,8 +103,8 @@ VersionsLeadBack = (before between : List Command) (start : State) (asked : Opti
     start.world.files ≡ [] → start.pins ≡ [] → world_for asked (after_all before start) ≡ Ok world → IsIn file world.files →
     LeadsBack file (after_all between (after_all before start))
 
--- so a completion or an edit that is made from a place in an answer works on the heading that the row shows, or is refused:
--- at the place stands the heading line of the row, in the text of the version that it names, and that version leads back
+-- a completion or an edit that is made from a place in an answer works on the heading that the row shows, or is refused.
+-- At the place stands the heading line of the row, in the text of the version that it names, and that version leads back
 abbrev pub PlacesLeadBack : Type 0
 PlacesLeadBack = (before between : List Command) (start : State) (asked : Option ℕ) (question : Query) (world : WorldView) (k heading : ℕ) (line : Line) (file : FileView) (place : Place) →
     start.world.files ≡ [] → start.pins ≡ [] → world_for asked (after_all before start) ≡ Ok world →

@@ -6,7 +6,7 @@ use Rattle.org_base.specs.declared.profile.Profile.{Profile}
 use Rattle.org_cal.specs.declared.moment.Moment.{Moment}
 use Rattle.org_clocktable.specs.Request.{TableRequest}
 use Rattle.org_expression.specs.Grammar.{Expr}
-use Rattle.org_engine.specs.Step.{Command, AddFile, DropFile, EditFile, Complete, At, Inherit, SetProfile, PinWorld, Unpin, TextOf, KeywordsOf, Version, Ask, Query, ClockTable, Serial, Refused, file_named, step}
+use Rattle.org_engine.specs.Step.{Command, AddFile, DropFile, EditFile, Complete, At, Inherit, SetProfile, PinWorld, Unpin, TextOf, KeywordsOf, Version, Ask, Query, ClockTable, MatchList, TodoList, Serial, Refused, file_named, step}
 use Rattle.org_engine.specs.World.{FileView, State}
 use Rattle.org_engine.specs.declared.question.Form.{Form}
 use Rattle.org_engine.specs.declared.limits.TheConstants.{LAST_SERIAL, MOST_SESSIONS}
@@ -19,7 +19,7 @@ LimitsAreNamed = (LAST_SERIAL ≡ 1_000_000_000_000_000_000) × (MOST_SESSIONS �
 abbrev pub names_in : List FileView → List (List ℕ)
 names_in files = map (λ (file : FileView). file.name) files
 
--- the same of a state
+-- the names of a state's files, in order
 abbrev pub names_of : State → List (List ℕ)
 names_of s = names_in s.world.files
 
@@ -65,7 +65,7 @@ pub record KeepsOrder (s : State) : Type 0 where
   pub added : (name text : List ℕ) (serial : ℕ) → (step (AddFile name text) s).reply ≡ Serial serial → names_of (step (AddFile name text) s).after ≡ names_of s ++ name ∷ []
   pub dropped : (name : List ℕ) (serial : ℕ) → (step (DropFile name) s).reply ≡ Serial serial → TakesOut name (names_of s) (names_of (step (DropFile name) s).after)
 
--- so is it in each state
+-- in each state commands leave as it was all that they aren't about, and files stay in their order
 abbrev pub CommandsLeaveTheRest : Type 0
 CommandsLeaveTheRest = (s : State) → LeavesTheRest s × KeepsOrder s
 
@@ -78,11 +78,11 @@ PinsKeepTheWorld = (session serial : ℕ) (question : Query) (form : Form) (s : 
 abbrev pub with_files : List FileView → State → State
 with_files files s = record s { world = record s.world { files = files } }
 
--- the same table over all files
+-- a table's request, over all files
 abbrev pub over_all : TableRequest Expr → TableRequest Expr
 over_all table = record table { file = None }
 
--- the name is no file's
+-- the name is that of no file
 abbrev pub IsNoName : List ℕ → List FileView → Type 0
 IsNoName name files = All (λ (file : FileView). name ≢ file.name) files
 
@@ -91,3 +91,21 @@ abbrev pub TablesAreOverTheirFiles : Type 0
 TablesAreOverTheirFiles = (table : TableRequest Expr) (form : Form) (file : FileView) (before behind : List FileView) (s : State) → table.file ≡ Some file.name →
     s.world.files ≡ before ++ file ∷ behind → IsNoName file.name before → IsNoName file.name behind →
     (step (Ask (ClockTable table) form None) s).reply ≡ (step (Ask (ClockTable (over_all table)) form None) (with_files (file ∷ []) s)).reply
+
+-- the same list over all files
+abbrev pub list_over_all : Query → Query
+list_over_all (TodoList file words) = TodoList None words
+list_over_all (MatchList file read) = MatchList None read
+list_over_all question = question
+
+-- the question is for a list over the file of a name
+abbrev pub IsListOver : List ℕ → Query → Type 0
+IsListOver name (TodoList file words) = file ≡ Some name
+IsListOver name (MatchList file read) = file ≡ Some name
+IsListOver name _ = ⊥
+
+-- a list over one file is the list over all files of a world that has that file alone
+abbrev pub ListsAreOverTheirFiles : Type 0
+ListsAreOverTheirFiles = (question : Query) (form : Form) (file : FileView) (before behind : List FileView) (s : State) → IsListOver file.name question →
+    s.world.files ≡ before ++ file ∷ behind → IsNoName file.name before →
+    (step (Ask question form None) s).reply ≡ (step (Ask (list_over_all question) form None) (with_files (file ∷ []) s)).reply

@@ -22,7 +22,7 @@ use Rattle.org_engine.specs.World.{WorldView}
 unfoldable pub list_view : Listing → Option ℕ → WorldView → List ℕ
 list_view listing over world = list_lines (scopes_of world) (list_rows listing over (scopes_of world))
 
--- the text of so many days from a first one on, over all stamps
+-- the text of an agenda of so many days from a first one on, over all active stamps
 abbrev pub days_over : Profile → List Scope → ℕ → ℕ → ℕ → List ℕ
 days_over p scopes today first count = agenda_lines scopes (record { profile = p; sources = sources_of 0 scopes; today = today; first = first; count = count })
 
@@ -30,7 +30,7 @@ days_over p scopes today first count = agenda_lines scopes (record { profile = p
 unfoldable pub agenda_view : ℕ → ℕ → WorldView → List ℕ
 agenda_view first count world = days_over world.profile (scopes_of world) world.moment.day first count
 
--- a view is over this file: over all, or over the one that it names
+-- a view is over the file of this name: it is over all, or names that one
 abbrev pub is_wanted : Option (List ℕ) → List ℕ → Bool
 is_wanted None name = true
 is_wanted (Some wanted) name = bytes_eq wanted name
@@ -39,7 +39,7 @@ is_wanted (Some wanted) name = bytes_eq wanted name
 abbrev pub wanted_scope : Option (List ℕ) → Scope → List Scope
 wanted_scope file scope = if is_wanted file scope.file then scope ∷ [] else []
 
--- the files that a view is over
+-- the files that a view is over: all, or the one that it names
 abbrev pub scopes_named : Option (List ℕ) → List Scope → List Scope
 scopes_named file scopes = filter (λ (scope : Scope). is_wanted file scope.file) scopes
 
@@ -51,7 +51,7 @@ scopes_over file world = scopes_named file (scopes_of world)
 unfoldable pub step_text : TableRequest Expr → List Scope → List Counted → ℕ × ℕ → List ℕ
 step_text table scopes files days = step_lines table.with_effort scopes days (step_rows days table.most files)
 
--- the text of steps
+-- the text of a table's steps, one after the other
 abbrev pub steps_text : TableRequest Expr → List Scope → List Counted → List (ℕ × ℕ) → List ℕ
 steps_text table scopes files steps = concat (map (step_text table scopes files) steps)
 

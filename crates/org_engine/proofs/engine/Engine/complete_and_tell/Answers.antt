@@ -2,7 +2,7 @@ use Rattle.std.proofs.Common.{◌≡◌, refl}
 use Rattle.std.specs.Prelude.{Ok}
 use Rattle.org_complete.specs.Parts.{Part}
 use Rattle.org_complete.specs.Written.{part_of}
-use Rattle.org_engine.specs.Marks.{ReadsOwnOnly, Unseen}
+use Rattle.org_engine.specs.Marks.{Unseen}
 use Rattle.org_engine.specs.Step.{text_seen}
 use Rattle.org_engine.proofs.CompletedLemmas.{completed_few, completed_err, completed_marks, completed_none, completed_own, none_completed}
 use Rattle.org_engine.proofs.MarkLemmas.{on_err, refused_so}
