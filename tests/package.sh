@@ -64,9 +64,10 @@ check "each program, client and script of the package has its SPDX line" spdx
 one_version() {
     version=$(cat "$here/VERSION")
     cd "$here" && grep -qx "pkgver=$version" contrib/aur/PKGBUILD && grep -qx "## $version" CHANGELOG.md &&
+        grep -q "orgviews $version 2" crates/org_engine/src/engine.rt &&
         [ "$(grep -ohE 'orgviews[-_][0-9.]+[0-9]' README.md | sed 's/orgviews.//' | sort -u)" = "$version" ]
 }
-check "VERSION, the change log, README and the recipes say one version" one_version
+check "VERSION, the change log, README, the recipes and the reply to version say one version" one_version
 
 # 2. Without rt.
 without_rt() {

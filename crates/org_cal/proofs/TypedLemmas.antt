@@ -1,13 +1,13 @@
 -- Laws of days as people type them.
-use Rattle.std.proofs.Common.{◌≡◌, ◌↔◌, ℕ, ◌+◌, ◌-◌, ◌*◌, ◌≤◌, true, nat_le, ◌&&◌, refl, sym, ◌∙◌, ap, subst, arith, ℤ, pos, ◌+ℤ◌, ◌*ℤ◌, if◌then◌else◌}
+use Rattle.std.proofs.Common.{◌≡◌, ◌↔◌, ℕ, ◌+◌, ◌-◌, ◌*◌, ◌≤◌, true, nat_le, ◌&&◌, refl, sym, ◌∙◌, ap, arith, ℤ, pos, ◌+ℤ◌, ◌*ℤ◌, if◌then◌else◌}
 use Rattle.std.specs.Prelude.{Some, None, neg_ℤ}
 use Rattle.std.proofs.lemmas.Bool.Decides.{nat_tests}
 use Rattle.jiff_core.proofs.SignedLemmas.{signed_arith}
-use Rattle.org_cal.specs.Added.{IsAdded, IsMonthsAfter, day_of_month, month_index}
+use Rattle.org_cal.specs.Added.{IsMonthsAfter, day_of_month, month_index}
 use Rattle.org_cal.specs.Blocks.{this_month}
 use Rattle.org_cal.specs.Days.{IsDay}
 use Rattle.org_cal.specs.Parts.{year_of, month_of, month_day_of}
-use Rattle.org_cal.specs.Typed.{earlier, in_calendar, in_month, later}
+use Rattle.org_cal.specs.Typed.{in_calendar, in_month}
 use Rattle.org_cal.specs.TypedLaws.{WeekdaysAreNext, LaterIsAdded, EarlierIsAdded}
 use Rattle.org_cal.specs.declared.unit.Unit.TheVariants.{Hour, Day, Week, Month, Year}
 use Rattle.org_cal.proofs.PartLemmas.{date_holds, parts_are}

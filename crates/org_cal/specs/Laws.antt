@@ -37,7 +37,7 @@ abbrev pub FirstWeekHasFourth : Type 0
 FirstWeekHasFourth = (y : ℕ) → IsInRange 1 9999 y →
     (iso_year (day_number y 1 4) ≡ y) × (iso_week (day_number y 1 4) ≡ 1)
 
--- and of the year's first Thursday
+-- the first week of a year is that of the year's first Thursday
 abbrev pub FirstWeekHasThursday : Type 0
 FirstWeekHasThursday = (y thursday : ℕ) → IsInRange 1 9999 y → weekday_of thursday ≡ 3 →
     day_number y 1 1 ≤ thursday → thursday < day_number y 1 1 + 7 →

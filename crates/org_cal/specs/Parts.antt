@@ -7,15 +7,15 @@ unfoldable pub greatest : (ℕ → Bool) → ℕ → ℕ
 greatest passes zero = 0
 greatest passes (suc n) = if passes (suc n) then suc n else greatest passes n
 
--- the last year that has begun by the day
+-- the year of a day: the last one that has begun by then
 unfoldable pub year_of : ℕ → ℕ
 year_of day = greatest (λ y. nat_le (day_number y 1 1) day) 9999
 
--- the last month of that year that has begun by the day
+-- the month of a day: the last one of its year that has begun by then
 unfoldable pub month_of : ℕ → ℕ
 month_of day = greatest (λ m. nat_le (day_number (year_of day) m 1) day) 12
 
--- the day's place in that month, from 1
+-- the day's place in its month, from 1
 unfoldable pub month_day_of : ℕ → ℕ
 month_day_of day = day - day_number (year_of day) (month_of day) 1 + 1
 

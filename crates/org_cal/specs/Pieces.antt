@@ -6,13 +6,14 @@ use Rattle.org_cal.specs.declared.steps.Step.TheVariants.{Whole, Day, Week}
 use Rattle.org_cal.specs.Parts.{weekday_of}
 use Rattle.org_cal.specs.Weeks.{monday_of}
 
--- the last day of a piece that begins on a day, in a period with this last day
+-- the last day of a piece that begins on a day, in a period with this last day; by weeks it is a Sunday or the period's
+-- last
 abbrev pub piece_end : Step → ℕ → ℕ → ℕ
 piece_end Whole last first = last
 piece_end Day last first = first
 piece_end Week last first = min last (monday_of first + 6)
 
--- up to so many pieces, from a day on
+-- the pieces from a day to the last one, at most n of them
 unfoldable pub cut_from : ℕ → Step → ℕ → ℕ → List (ℕ × ℕ)
 cut_from zero step last first = []
 cut_from (suc n) step last first =

@@ -1,6 +1,6 @@
 -- Times of day and days as texts, by cases on the bytes (Org manual 9.6, "Timestamps").
 -- Characters by their codes: 45 -, 48 0, 58 :.
-use Rattle.std.specs.Prelude.{ℕ, ◌+◌, ◌-◌, ◌*◌, ◌/◌, ◌%◌, ◌++◌, Bool, ◌&&◌, ◌==◌, nat_lt, nat_le, if◌then◌else◌, List, [], ◌∷◌, Option, Some, None, pos, codes, ◌≡◌, ◌⊎◌}
+use Rattle.std.specs.Prelude.{ℕ, ◌+◌, ◌-◌, ◌*◌, ◌/◌, ◌%◌, ◌++◌, Bool, ◌&&◌, ◌==◌, nat_lt, nat_le, if◌then◌else◌, List, [], ◌∷◌, Option, Some, None, pos, get_or, take, drop, codes, ◌≡◌, ◌⊎◌}
 use Rattle.std.specs.Option.{option_and_then, option_map}
 use Rattle.std.specs.Char.{is_ascii_digit}
 use Rattle.jiff_core.specs.Calendar.{days_in_month}
@@ -16,16 +16,16 @@ two_digits a b = if is_ascii_digit a && is_ascii_digit b then Some ((a - 48) * 1
 abbrev pub four_digits : ℕ → ℕ → ℕ → ℕ → Option ℕ
 four_digits a b c d = option_and_then (λ high. option_map (λ low. high * 100 + low) (two_digits c d)) (two_digits a b)
 
--- the minutes since 00:00 of an hour and a minute
+-- the minutes since 00:00 of an hour and a minute, if there is such a time
 abbrev pub time_at : ℕ → ℕ → Option ℕ
 time_at h m = if nat_lt h 24 && nat_lt m 60 then Some (h * 60 + m) else None
 
--- the bytes are digits of an hour, a colon and two digits of a minute
+-- the time that two digits, a colon and two digits spell
 abbrev pub hour_minute : ℕ → ℕ → ℕ → ℕ → ℕ → Option ℕ
 hour_minute a b colon c d =
     if colon == 58 then option_and_then (λ h. option_and_then (time_at h) (two_digits c d)) (two_digits a b) else None
 
--- H:MM or HH:MM
+-- the time that a text spells as H:MM or HH:MM, in minutes since 00:00
 abbrev pub time_of : List ℕ → Option ℕ
 time_of (b ∷ colon ∷ c ∷ d ∷ []) = hour_minute 48 b colon c d
 time_of (a ∷ b ∷ colon ∷ c ∷ d ∷ []) = hour_minute a b colon c d
@@ -40,7 +40,7 @@ is_year_month_day y m d =
 abbrev pub day_of : ℕ → ℕ → ℕ → Option ℕ
 day_of y m d = if is_year_month_day y m d then Some (day_number y m d) else None
 
--- YYYY-MM-DD of a day that there is
+-- the number of the day that a text spells as YYYY-MM-DD, if there is such a day
 abbrev pub date_of : List ℕ → Option ℕ
 date_of (a ∷ b ∷ c ∷ d ∷ x ∷ e ∷ f ∷ y ∷ g ∷ h ∷ []) =
     if x == 45 && y == 45 then
@@ -57,15 +57,15 @@ two n = (48 + n / 10) ∷ (48 + n % 10) ∷ []
 abbrev pub four : ℕ → List ℕ
 four n = two (n / 100) ++ two (n % 100)
 
--- HH:MM of a number of minutes
+-- minutes since 00:00 as HH:MM
 abbrev pub time_text : ℕ → List ℕ
 time_text c = two (c / 60) ++ 58 ∷ two (c % 60)
 
--- YYYY-MM-DD of parts
+-- a year, a month and a day of it as YYYY-MM-DD
 abbrev pub parts_text : ℕ → ℕ → ℕ → List ℕ
 parts_text y m d = four y ++ 45 ∷ two m ++ 45 ∷ two d
 
--- YYYY-MM-DD of a day
+-- a day as YYYY-MM-DD
 abbrev pub date_text : ℕ → List ℕ
 date_text day = parts_text (year_of day) (month_of day) (month_day_of day)
 
@@ -86,3 +86,12 @@ IsMomentOf date time moment = (date_of date ≡ Some moment.day) × (time_of tim
 -- one of two texts spells no day or no time
 abbrev pub IsNoMoment : List ℕ → List ℕ → Type 0
 IsNoMoment date time = (date_of date ≡ None) ⊎ (time_of time ≡ None)
+
+-- a day and a time, if both are there
+abbrev pub moment_with : Option ℕ → Option ℕ → Option Moment
+moment_with None minute = None
+moment_with (Some day) minute = option_map (λ at. record { day = day; minute = at }) minute
+
+-- the moment that a text spells: a date, which has ten bytes, a space and a time
+abbrev pub moment_of : List ℕ → Option Moment
+moment_of text = if get_or text 10 0 == 32 then moment_with (date_of (take 10 text)) (time_of (drop 11 text)) else None

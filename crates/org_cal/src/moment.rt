@@ -2,7 +2,7 @@
 ghost use Rattle.std.specs.Prelude.{◌≡◌, IfOk, IfErr};
 ghost use Rattle.org_cal.specs.Faults.{date_fault};
 ghost use Rattle.org_cal.specs.Minutes.{minute_of};
-ghost use Rattle.org_cal.specs.Texts.{IsMomentOf, IsNoMoment};
+ghost use Rattle.org_cal.specs.Texts.{IsMomentOf, IsNoMoment, moment_of};
 
 use crate::day::Day;
 use crate::minute::Minute;
@@ -25,6 +25,18 @@ impl Moment {
         let day = Day::read(date)?;
         let minute = TimeOfDay::read(time).ok_or(Fault::Plain(Code::Date))?;
         Ok(Moment { day, minute })
+    }
+
+    /// The moment that one text spells, if there is one: `YYYY-MM-DD`, one space, and `H:MM` or `HH:MM`.
+    pub fn of_text(text: &[u8]) -> Option<Moment>
+        ensures value { result ≡ moment_of text.now }
+    {
+        if text.len() < 11 || text[10] != b' ' {
+            return None;
+        }
+        let day = Day::of_text(&text[..10])?;
+        let minute = TimeOfDay::read(&text[11..])?;
+        Some(Moment { day, minute })
     }
 
     /// The minutes since 0001-01-01 00:00.

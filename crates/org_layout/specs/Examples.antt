@@ -29,8 +29,8 @@ short = entry_of (codes "* B\n") (head_of None None (part 2 1))
 abbrev pub long : Entry
 long = entry_of (codes "* TODO [#A] Title\n") (head_of (Some (part 2 4)) (Some (part 7 4)) (part 12 5))
 
--- two spaces stand before a title for each level, and the tags after it; a range has the number of its day before that of all its
--- days, and a deadline ahead says in how many days it comes (Org manual 9.6, "The clock table"; Emacs 29,
+-- two spaces stand before a title for each level, and the tags after it. A range has the number of its day before that of
+-- all its days, and a deadline ahead says in how many days it comes (Org manual 9.6, "The clock table"; Emacs 29,
 -- `org-agenda-deadline-leaders`; profile)
 pub record ExamplesHold : Type 0 where
   pub two_a_level : (scope : Scope) → name_text (record scope { entries = short ∷ [] } ∷ []) (Heading 0 0 2) ≡ codes "    B"

@@ -7,6 +7,7 @@
 use crate::engine_calls::{changes, keeps, works};
 use crate::outline_calls::{gathers, pushes_entries, replaces_entries, tests_an_expression};
 use crate::text_calls::{assembles_a_line, copies_texts, cuts_lines, edits};
+use crate::view_calls::{opens_a_stream, pads};
 use org_base::{Code, Fault};
 use org_pieces::Pieces;
 use org_text::Whole;
@@ -27,9 +28,11 @@ enum Call {
     Changes,
     Pins,
     Work,
+    Column,
+    Stream,
 }
 
-const CALLS: [Call; 12] = [
+const CALLS: [Call; 14] = [
     Call::Texts,
     Call::Whole,
     Call::Pieces,
@@ -42,6 +45,8 @@ const CALLS: [Call; 12] = [
     Call::Changes,
     Call::Pins,
     Call::Work,
+    Call::Column,
+    Call::Stream,
 ];
 
 // The exit statuses: no memory was refused; one call gave something else; memory was refused, and all was well.
@@ -105,5 +110,7 @@ fn run_call(alloc: Global, call: Call) -> Result<bool, Fault> {
         Call::Changes => changes(alloc),
         Call::Pins => keeps(alloc),
         Call::Work => works(alloc),
+        Call::Column => pads(alloc),
+        Call::Stream => opens_a_stream(alloc),
     }
 }

@@ -27,6 +27,7 @@ mod sequences;
 mod streams;
 mod text_calls;
 mod texts;
+mod view_calls;
 
 ghost use Rattle.std.specs.Prelude.{◌≡◌, length};
 ghost use Rattle.org_stamp.specs.Line.{stamps_of};

@@ -36,8 +36,8 @@ fn section_entry(alloc: Global) -> Result<Entry, Fault> {
     entry_of(alloc, &text)
 }
 
-// Out of memory, where what was given is as before.
-fn refused_if(is_as_before: bool) -> Result<bool, Fault> {
+/// Out of memory, where what was given is as before.
+pub fn refused_if(is_as_before: bool) -> Result<bool, Fault> {
     if is_as_before {
         Err(Fault::Plain(Code::Memory))
     } else {

@@ -5,7 +5,6 @@ ghost use Rattle.org_wire.specs.declared.protocol.Protocol.TheVariants.{First, S
 
 use clap::{Arg, ArgAction, Command, value_parser};
 use org_base::Profile;
-use org_cal::Moment;
 use org_wire::Protocol;
 use std::alloc::{AllocError, Global};
 
@@ -73,11 +72,4 @@ pub fn protocol(number: u64) -> Protocol
     } else {
         Protocol::First
     }
-}
-
-/// The moment that a text spells: a date, one space and a time.
-pub fn moment(text: &str) -> Option<Moment> {
-    let text = text.as_bytes();
-    let space = text.iter().position(|byte| *byte == b' ')?;
-    Moment::read(&text[..space], &text[space + 1..]).ok()
 }

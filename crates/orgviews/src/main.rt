@@ -7,10 +7,11 @@ mod exit;
 mod load;
 mod new_engine;
 
-use crate::arguments::{command, moment, profile, protocol};
+use crate::arguments::{command, profile, protocol};
 use crate::exit::{BAD_ARGUMENTS, BAD_FILE, exit_of};
 use crate::load::load;
 use crate::new_engine::new_engine;
+use org_cal::Moment;
 use org_engine::Engine;
 use org_pieces::Pieces;
 use org_wire::{Counted, End, Options, run};
@@ -43,7 +44,8 @@ fn start<R: AllocGlobal + Files + Input + Print + Eprint>(rt: &R, words: &[Strin
             return BAD_ARGUMENTS;
         }
     };
-    let Some(moment) = matches.get_str("at").and_then(moment) else {
+    let at = matches.get_str("at").map(str::as_bytes);
+    let Some(moment) = at.and_then(Moment::of_text) else {
         let _ = eprintln!(rt; "orgviews: date");
         return BAD_ARGUMENTS;
     };
