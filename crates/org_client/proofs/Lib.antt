@@ -1,9 +1,11 @@
 pub mod BarLemmas
 pub mod CleanLemmas
+pub mod ClockLemmas
 pub mod FileLemmas
 pub mod FirstLemmas
 pub mod JsonLemmas
 pub mod LawLemmas
+pub mod LinePlaceLemmas
 pub mod MatchingLemmas
 pub mod MissedLemmas
 pub mod NextLemmas

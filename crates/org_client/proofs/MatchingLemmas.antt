@@ -1,5 +1,5 @@
 -- Rows whose headings pass a test are those of all rows, in the same order.
-use Rattle.std.proofs.Common.{◌≡◌, ◌∙◌, ℕ, zero, suc, ◌+◌, Bool, true, false, cond, List, [], ◌∷◌, ◌++◌, map, refl, sym, ap, arith, not, append-nil}
+use Rattle.std.proofs.Common.{◌≡◌, ◌∙◌, ℕ, zero, suc, Bool, true, false, cond, List, [], ◌∷◌, ◌++◌, map, refl, sym, ap, arith, not, append-nil}
 use Rattle.std.specs.Prelude.{◌&&◌, ◌||◌, ◌==◌, filter, fold}
 use Rattle.std.specs.List.{flat_map, list_any, range_with_len}
 use Rattle.std.proofs.lemmas.Bool.{and_parts}
@@ -16,14 +16,12 @@ use Rattle.org_agenda.specs.declared.row.RowKind.TheVariants.{OnDay, InRange, On
 use Rattle.org_agenda.specs.declared.source.HeadingStamp.{HeadingStamp}
 use Rattle.org_base.specs.declared.profile.Profile.{Profile}
 use Rattle.org_cal.specs.declared.moment.Moment.{Moment}
-use Rattle.org_client.specs.Matching.{matching, meets, meets_all, of_row, of_stamp, of_upcoming}
+use Rattle.org_client.specs.Matching.{meets, meets_all, of_row, of_stamp, of_upcoming}
 use Rattle.org_client.specs.MatchingLaws.{DaysAreFiltered, MatchingMeetsAll, NextIsFiltered, over}
 use Rattle.org_client.specs.Next.{is_ahead, is_of, is_of_row, with_day, with_row}
 use Rattle.org_client.specs.declared.next.Upcoming.{Upcoming}
 use Rattle.org_entry.specs.declared.active.Role.{Role}
 use Rattle.org_entry.specs.declared.active.Role.TheVariants.{Plain, Scheduled, Deadline}
-use Rattle.org_expression.specs.Grammar.{Expr}
-use Rattle.org_inherit.specs.Scope.{Scope}
 
 -- filters of lists
 

@@ -1,6 +1,6 @@
 -- What is told from one moment to a third is what is told from it to a second, and then from there on.
-use Rattle.std.proofs.Common.{◌≡◌, ◌∙◌, ℕ, zero, suc, ◌+◌, ◌-◌, ◌<◌, ◌≤◌, Bool, true, false, cond, List, [], ◌∷◌, ◌++◌, map, inl, inr, refl, sym, ap, subst, arith, not, append_assoc, append-nil}
-use Rattle.std.specs.Prelude.{◌&&◌, ◌||◌, ◌==◌, nat_lt, Option, Some, None, filter, slice_get}
+use Rattle.std.proofs.Common.{◌≡◌, ◌∙◌, ℕ, zero, suc, ◌+◌, ◌-◌, ◌<◌, ◌≤◌, Bool, true, false, cond, List, [], ◌∷◌, ◌++◌, map, inl, inr, refl, sym, ap, arith, not, append_assoc, append-nil}
+use Rattle.std.specs.Prelude.{◌&&◌, ◌||◌, Option, Some, None, filter, slice_get}
 use Rattle.std.specs.List.{All, flat_map, range_with_len}
 use Rattle.std.proofs.lemmas.Bool.Decides.{nat_tests}
 use Rattle.std.proofs.lemmas.Grind.{flat_map-append}
@@ -10,13 +10,13 @@ use Rattle.org_agenda.specs.Kept.{IsReal, MayStandBefore}
 use Rattle.org_agenda.specs.Lists.{Ranked, in_order}
 use Rattle.org_agenda.specs.declared.row.Row.{Row}
 use Rattle.org_agenda.specs.declared.row.RowKind.{RowKind}
-use Rattle.org_agenda.specs.declared.row.RowKind.TheVariants.{OnDay, InRange, OnSchedule, LateSchedule, OnDeadline, Warning, LateDeadline}
+use Rattle.org_agenda.specs.declared.row.RowKind.TheVariants.{OnSchedule, LateSchedule, OnDeadline, Warning, LateDeadline}
 use Rattle.org_agenda.specs.declared.source.HeadingStamp.{HeadingStamp}
 use Rattle.org_agenda.proofs.KeptLemmas.{starts_rise}
 use Rattle.org_base.specs.declared.profile.Profile.{Profile}
 use Rattle.org_cal.specs.declared.moment.Moment.{Moment}
 use Rattle.org_client.specs.ReminderLaws.{IsNoLater, RemindersJoin}
-use Rattle.org_client.specs.Reminders.{between, day_between, is_after, is_between, reminders, starts_between}
+use Rattle.org_client.specs.Reminders.{day_between, is_after, is_between, starts_between}
 use Rattle.org_client.specs.declared.next.Upcoming.{Upcoming}
 use Rattle.org_client.proofs.MatchingLemmas.{order_filtered, starts_filtered}
 use Rattle.org_client.proofs.NextLemmas.{range_more}

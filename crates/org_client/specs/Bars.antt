@@ -1,5 +1,5 @@
 -- How long bars are: of a sum beside the longest, in eighths of a column or in columns.
-use Rattle.std.specs.Prelude.{ℕ, ◌+◌, ◌-◌, ◌*◌, ◌/◌, Bool, ◌&&◌, ◌==◌, min, nat_lt, if◌then◌else◌, List, [], ◌∷◌}
+use Rattle.std.specs.Prelude.{ℕ, ◌+◌, ◌-◌, ◌*◌, ◌/◌, ◌&&◌, ◌==◌, min, nat_lt, if◌then◌else◌, List, [], ◌∷◌}
 
 -- as much of some units as a part is of a whole, rounded to the nearest, halves up; nothing of nothing
 abbrev pub share_of : ℕ → ℕ → ℕ → ℕ

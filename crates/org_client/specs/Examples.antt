@@ -2,6 +2,7 @@
 use Rattle.std.specs.Prelude.{◌≡◌, ℕ, ◌∷◌, [], false, true, None, Some, codes}
 use Rattle.org_cal.specs.declared.moment.Moment.{Moment}
 use Rattle.org_client.specs.Bars.{bar_eighths, hundredths, part_lengths}
+use Rattle.org_client.specs.Clocks.{rows_of}
 use Rattle.org_client.specs.Json.{field_text, quoted}
 use Rattle.org_client.specs.Reminders.{starts_between}
 use Rattle.org_client.specs.Visible.{visible}
@@ -26,3 +27,10 @@ pub record ExamplesHold : Type 0 where
   pub longest : bar_eighths 90 90 20 ≡ 160
   pub half_up : hundredths 1 8 ≡ 13
   pub of_nothing : hundredths 0 0 ≡ 0
+  -- of day 9 alone, 11,520 to 12,960: a clock from an hour before it to an hour into it, one that runs since its hour ten, and
+  -- one of the day before
+  pub cut_and_running : rows_of (9, 9) 0 4 0
+      (record { from = 11_460; to = Some 11_580 } ∷ record { from = 12_120; to = None } ∷ record { from = 11_400; to = Some 11_460 } ∷ []) ≡
+      record { file = 0; heading = 4; number = 0; from = 11_520; to = Some 11_580; minutes = 60 }
+      ∷ record { file = 0; heading = 4; number = 1; from = 12_120; to = None; minutes = 0 }
+      ∷ []

@@ -18,8 +18,11 @@ text_member name text = named name ++ quoted text
 abbrev pub number_member : List ℕ → ℕ → List ℕ
 number_member name number = named name ++ decimal number
 
+abbrev pub flag_text : Bool → List ℕ
+flag_text flag = if flag then codes "true" else codes "false"
+
 abbrev pub flag_member : List ℕ → Bool → List ℕ
-flag_member name flag = named name ++ (if flag then codes "true" else codes "false")
+flag_member name flag = named name ++ flag_text flag
 
 -- a quotation mark stands in front
 abbrev pub begins_quoted : List ℕ → Bool

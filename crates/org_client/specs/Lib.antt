@@ -1,10 +1,14 @@
 pub mod BarLaws
 pub mod Bars
 pub mod Clean
+pub mod ClockLaws
+pub mod Clocks
 pub mod Examples
+pub mod Fields
 pub mod Files
 pub mod Json
 pub mod Laws
+pub mod LinePlaces
 pub mod Matching
 pub mod MatchingLaws
 pub mod Next

@@ -1,6 +1,6 @@
 //! What the object of a row says of its heading beside the heading line.
 
-use crate::one_line::OneLine;
+use crate::members::Members;
 use org_base::{Fault, Span, Texts};
 use org_drawer::effort_minutes;
 use org_entry::Entry;
@@ -8,27 +8,27 @@ use org_inherit::Heading;
 use org_stamp::PlanningKeyword;
 use std::alloc::{AllocError, Global};
 
-/// Appends the stamps of the planning line as they are written, the effort in minutes, and the titles of the headings
-/// above, the topmost first; what isn't there is left out.
-pub(crate) fn push_details(
+/// Puts the stamps of the planning line as they are written, the effort in minutes, and the titles of the headings above,
+/// the topmost first; what isn't there is left out.
+pub(crate) fn put_details<M: Members>(
     alloc: Global,
-    line: &mut OneLine,
+    to: &mut M,
     heading: &Heading<'_, '_>,
 ) -> Result<(), Fault> {
-    push_planning(line, heading.entry)?;
-    push_effort(line, heading.entry)?;
-    push_path(alloc, line, heading)
+    put_planning(to, heading.entry)?;
+    put_effort(to, heading.entry)?;
+    put_path(alloc, to, heading)
 }
 
-fn push_planning(line: &mut OneLine, entry: &Entry) -> Result<(), AllocError> {
-    push_written(line, entry, "scheduled", PlanningKeyword::Scheduled)?;
-    push_written(line, entry, "deadline", PlanningKeyword::Deadline)?;
-    push_written(line, entry, "closed", PlanningKeyword::Closed)
+fn put_planning<M: Members>(to: &mut M, entry: &Entry) -> Result<(), AllocError> {
+    put_written(to, entry, "scheduled", PlanningKeyword::Scheduled)?;
+    put_written(to, entry, "deadline", PlanningKeyword::Deadline)?;
+    put_written(to, entry, "closed", PlanningKeyword::Closed)
 }
 
-// Appends what stands between the brackets of the stamp under a keyword.
-fn push_written(
-    line: &mut OneLine,
+// Puts what stands between the brackets of the stamp under a keyword.
+fn put_written<M: Members>(
+    to: &mut M,
     entry: &Entry,
     name: &str,
     word: PlanningKeyword,
@@ -37,7 +37,7 @@ fn push_written(
         return Ok(());
     };
     match entry.part(part) {
-        [_, inner @ .., _] => line.text(name, inner),
+        [_, inner @ .., _] => to.put_text(name, inner),
         _ => Ok(()),
     }
 }
@@ -50,23 +50,23 @@ fn part_under(entry: &Entry, word: PlanningKeyword) -> Option<Span> {
     }
 }
 
-fn push_effort(line: &mut OneLine, entry: &Entry) -> Result<(), AllocError> {
+fn put_effort<M: Members>(to: &mut M, entry: &Entry) -> Result<(), AllocError> {
     let Some(text) = entry.details.property(b"Effort") else {
         return Ok(());
     };
     match effort_minutes(text) {
-        Some(minutes) => line.number("effort", minutes),
+        Some(minutes) => to.put_number("effort", minutes),
         None => Ok(()),
     }
 }
 
-fn push_path(alloc: Global, line: &mut OneLine, heading: &Heading<'_, '_>) -> Result<(), Fault> {
+fn put_path<M: Members>(alloc: Global, to: &mut M, heading: &Heading<'_, '_>) -> Result<(), Fault> {
     let places = places_above(alloc, heading)?;
     if places.is_empty() {
         return Ok(());
     }
     let titles = titles_of(alloc, heading, places.as_slice())?;
-    Ok(line.texts("path", &titles)?)
+    Ok(to.put_texts("path", &titles)?)
 }
 
 // The places of the headings above, the nearest first.

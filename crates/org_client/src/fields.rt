@@ -1,7 +1,12 @@
 //! Rows as fields between commas, those of Org's own batch agendas.
+ghost use Rattle.std.specs.Prelude.{◌≡◌, ◌++◌, ◌*◌, ◌-◌, decimal, string_bytes, IfOk, OnOk};
+ghost use Rattle.std.specs.Option.{option_copied};
+ghost use Rattle.org_base.specs.Results.{GivesText};
+ghost use Rattle.org_client.specs.Fields.{between, end_field, heading_priority, kind_field, label_field, next_field, parts_field, priority_fields, row_fields, spoken_of, start_field, tags_field, when_fields};
 
+use crate::clocks::push_clock_minute;
 use crate::one_line::OneLine;
-use crate::rows::{LoadReport, ShownSum};
+use crate::rows::{LoadReport, ShownClock, ShownSum, ViewRow};
 use org_agenda::{Row, RowKind};
 use org_base::Fault;
 use org_cal::{Day, Unit, push_date, push_time};
@@ -11,15 +16,33 @@ use org_layout::ShownRow;
 use org_text::Text;
 use std::alloc::{AllocError, Global};
 
-/// The fields of a row (Org manual 9.6, "Extracting Agenda Information"): category, title, kind, keyword, tags, date,
-/// time, what stands before the heading, priority, its number, and the day; the kind of a list's rows is named by the
-/// caller.
+/// The fields of a row. Those of a list or a day (Org manual 9.6, "Extracting Agenda Information") are category, title, kind,
+/// keyword, tags, date, time, what stands before the heading, priority, its number, and the day; the kind of a list's rows is
+/// named by the caller. Those of a clock table are the first and the last day of the table, the file, and the line, the level,
+/// the title and the tags of its heading, each of which is empty where it doesn't apply; then the sums of clocks and of
+/// efforts in minutes. Those of a clock line are the same but for efforts, with its beginning and end and its own line.
 pub fn csv_line<T: Text>(
+    alloc: Global,
+    files: &LoadReport<'_, '_, T>,
+    row: &ViewRow,
+    list: &str,
+) -> Result<OneLine, Fault> {
+    match row {
+        ViewRow::Row(shown) => row_fields(alloc, files, shown, list),
+        ViewRow::Sum(shown) => sum_fields(alloc, files, shown),
+        ViewRow::Clock(shown) => clock_fields(alloc, files, shown),
+    }
+}
+
+// The fields of a row of a list or a day.
+fn row_fields<T: Text>(
     alloc: Global,
     files: &LoadReport<'_, '_, T>,
     shown: &ShownRow,
     list: &str,
-) -> Result<OneLine, Fault> {
+) -> Result<OneLine, Fault>
+    ensures value { IfOk result (λ line. line ≡ row_fields files.now.inherits.now shown.now list.now) }
+{
     let mut line = OneLine::new(alloc);
     let row = &shown.row;
     let Some(heading) = Heading::find(files.inherits, row.file, row.heading) else {
@@ -37,10 +60,8 @@ pub fn csv_line<T: Text>(
     Ok(line)
 }
 
-/// The fields of a row of a clock table: the first and the last day of the table, the file, and the line, the level,
-/// the title and the tags of its heading, each of which is empty where it doesn't apply; then the sums of clocks and of
-/// efforts in minutes.
-pub fn table_fields<T: Text>(
+// The fields of a row of a clock table.
+fn sum_fields<T: Text>(
     alloc: Global,
     files: &LoadReport<'_, '_, T>,
     shown: &ShownSum,
@@ -55,6 +76,32 @@ pub fn table_fields<T: Text>(
     Ok(line)
 }
 
+// The fields of a clock line.
+fn clock_fields<T: Text>(
+    alloc: Global,
+    files: &LoadReport<'_, '_, T>,
+    shown: &ShownClock,
+) -> Result<OneLine, Fault> {
+    let row = &shown.row;
+    let mut line = OneLine::new(alloc);
+    push_minute(alloc, &mut line, Some(row.from))?;
+    line.push(b',')?;
+    push_minute(alloc, &mut line, row.to)?;
+    push_name(&mut line, files, row.file)?;
+    push_number(alloc, &mut line, u64::from(shown.place.line))?;
+    push_heading(alloc, &mut line, files, row.file, row.heading)?;
+    push_number(alloc, &mut line, row.minutes)?;
+    Ok(line)
+}
+
+fn push_minute(alloc: Global, line: &mut OneLine, minute: Option<u64>) -> Result<(), AllocError> {
+    let mut text = String::new(alloc);
+    if let Some(minute) = minute {
+        push_clock_minute(&mut text, minute)?;
+    }
+    line.field(text.as_bytes())
+}
+
 // Appends a date as the calendar's standard has it, as the first field or after a comma.
 fn push_iso(alloc: Global, line: &mut OneLine, day: Day) -> Result<(), AllocError> {
     let mut date = String::new(alloc);
@@ -62,7 +109,9 @@ fn push_iso(alloc: Global, line: &mut OneLine, day: Day) -> Result<(), AllocErro
     line.field(date.as_bytes())
 }
 
-fn push_number(alloc: Global, line: &mut OneLine, number: u64) -> Result<(), AllocError> {
+fn push_number(alloc: Global, line: &mut OneLine, number: u64) -> Result<(), AllocError>
+    ensures ok { OnOk result (line.new ≡ line.old ++ next_field (decimal number)) }
+{
     let text = format!(in alloc; "{number}")?;
     next(line, text.as_bytes())
 }
@@ -112,25 +161,40 @@ fn push_place<T: Text>(
     file: usize,
     place: usize,
 ) -> Result<(), Fault> {
-    let Some(at) = files.file_set.place(file, place) else {
-        return Ok(push_empty(line, 4)?);
-    };
+    match files.file_set.place(file, place) {
+        Some(at) => push_number(alloc, line, u64::from(at.line))?,
+        None => next(line, &[])?,
+    }
+    push_heading(alloc, line, files, file, place)
+}
+
+// Appends the level, the title and the tags of a heading.
+fn push_heading<T: Text>(
+    alloc: Global,
+    line: &mut OneLine,
+    files: &LoadReport<'_, '_, T>,
+    file: usize,
+    place: usize,
+) -> Result<(), Fault> {
     let Some(heading) = Heading::find(files.inherits, file, place) else {
-        return Ok(push_empty(line, 4)?);
+        return Ok(push_empty(line, 3)?);
     };
-    push_number(alloc, line, u64::from(at.line))?;
     push_number(alloc, line, u64::from(heading.level()))?;
     next(line, heading.title())?;
     push_tags(alloc, line, &heading)
 }
 
 // Appends one field more.
-fn next(line: &mut OneLine, text: &[u8]) -> Result<(), AllocError> {
+fn next(line: &mut OneLine, text: &[u8]) -> Result<(), AllocError>
+    ensures ok { OnOk result (line.new ≡ line.old ++ next_field text.now) }
+{
     line.push(b',')?;
     line.field(text)
 }
 
-fn kind_name(kind: RowKind, list: &str) -> &str {
+fn kind_name(kind: RowKind, list: &str) -> &str
+    ensures value { result.now ≡ kind_field kind list.now }
+{
     match kind {
         RowKind::Listed => list,
         RowKind::OnDay => "timestamp",
@@ -143,33 +207,53 @@ fn kind_name(kind: RowKind, list: &str) -> &str {
 }
 
 // All tags, with colons between them.
-fn push_tags(alloc: Global, line: &mut OneLine, heading: &Heading<'_, '_>) -> Result<(), Fault> {
+fn push_tags(alloc: Global, line: &mut OneLine, heading: &Heading<'_, '_>) -> Result<(), Fault>
+    ensures ok { let h = heading.now in OnOk result (line.new ≡ line.old ++ next_field (tags_field h.inherit.now h.place)) }
+{
     let tags = heading.tags()?;
     let text = tags_text(alloc, &tags)?;
-    let inner = match text.as_slice() {
-        [b':', inner @ .., b':'] => inner,
-        all => all,
-    };
-    next(line, inner)?;
+    next(line, between(text.as_slice()))?;
     Ok(())
 }
 
+// What stands between the first byte and the last.
+fn between(text: &[u8]) -> &[u8]
+    ensures value { result.now ≡ between text.now }
+{
+    match text {
+        [_, inner @ .., _] => inner,
+        _ => &[],
+    }
+}
+
 // The date that a row speaks of, and its times.
-fn push_when(alloc: Global, line: &mut OneLine, shown: &ShownRow) -> Result<(), AllocError> {
+fn push_when(alloc: Global, line: &mut OneLine, shown: &ShownRow) -> Result<(), AllocError>
+    ensures ok { OnOk result (line.new ≡ line.old ++ when_fields shown.now) }
+{
     push_parts(alloc, line, spoken_of(shown))?;
-    let mut times = String::new(alloc);
-    if let Some(start) = shown.row.start {
-        push_time(&mut times, start)?;
-    }
-    if let Some(end) = shown.row.end {
-        times.push_str("-")?;
-        push_time(&mut times, end)?;
-    }
+    let times = times_of(alloc, &shown.row)?;
     next(line, times.as_bytes())
 }
 
+// The start of a row, and a dash and its end, those that it has.
+fn times_of(alloc: Global, row: &Row) -> Result<String, AllocError>
+    ensures value { GivesText result (start_field row.now.start ++ end_field row.now.end) }
+{
+    let mut times = String::new(alloc);
+    if let Some(start) = row.start {
+        push_time(&mut times, start)?;
+    }
+    if let Some(end) = row.end {
+        times.push_str("-")?;
+        push_time(&mut times, end)?;
+    }
+    Ok(times)
+}
+
 // The day of a row, or the one of which it warns or for which it is late.
-fn spoken_of(shown: &ShownRow) -> Option<Day> {
+fn spoken_of(shown: &ShownRow) -> Option<Day>
+    ensures value { result ≡ spoken_of shown.now shown.now.day }
+{
     let day = shown.day?;
     let days = i64::from(shown.row.number);
     match shown.row.kind {
@@ -179,7 +263,9 @@ fn spoken_of(shown: &ShownRow) -> Option<Day> {
     }
 }
 
-fn push_parts(alloc: Global, line: &mut OneLine, day: Option<Day>) -> Result<(), AllocError> {
+fn push_parts(alloc: Global, line: &mut OneLine, day: Option<Day>) -> Result<(), AllocError>
+    ensures ok { OnOk result (line.new ≡ line.old ++ next_field (parts_field day)) }
+{
     let Some(day) = day else {
         return next(line, &[]);
     };
@@ -189,10 +275,19 @@ fn push_parts(alloc: Global, line: &mut OneLine, day: Option<Day>) -> Result<(),
 }
 
 // What an agenda shows before the heading.
-fn push_label(alloc: Global, line: &mut OneLine, row: &Row) -> Result<(), AllocError> {
+fn push_label(alloc: Global, line: &mut OneLine, row: &Row) -> Result<(), AllocError>
+    ensures ok { let r = row.now in OnOk result (line.new ≡ line.old ++ next_field (label_field r.kind r.number r.of)) }
+{
+    let text = label_of(alloc, row)?;
+    next(line, text.as_bytes())
+}
+
+fn label_of(alloc: Global, row: &Row) -> Result<String, AllocError>
+    ensures value { let r = row.now in GivesText result (label_field r.kind r.number r.of) }
+{
     let number = row.number;
     let of = row.of;
-    let text = match row.kind {
+    Ok(match row.kind {
         RowKind::Listed | RowKind::OnDay => String::new(alloc),
         RowKind::InRange => format!(in alloc; "({number}/{of}):")?,
         RowKind::OnSchedule => String::from_str(alloc, "Scheduled:")?,
@@ -200,8 +295,7 @@ fn push_label(alloc: Global, line: &mut OneLine, row: &Row) -> Result<(), AllocE
         RowKind::OnDeadline => String::from_str(alloc, "Deadline:")?,
         RowKind::Warning => format!(in alloc; "In {number} d.:")?,
         RowKind::LateDeadline => format!(in alloc; "{number} d. ago:")?,
-    };
-    next(line, text.as_bytes())
+    })
 }
 
 // The priority, and a thousand for each step above C.
@@ -209,7 +303,9 @@ fn push_priority(
     alloc: Global,
     line: &mut OneLine,
     heading: &Heading<'_, '_>,
-) -> Result<(), AllocError> {
+) -> Result<(), AllocError>
+    ensures ok { OnOk result (line.new ≡ line.old ++ heading_priority heading.now) }
+{
     next(line, heading.priority().unwrap_or(&[]))?;
     let number = u32::from(b'C'.saturating_sub(heading.priority_number())) * 1000;
     let text = format!(in alloc; "{number}")?;

@@ -1,5 +1,6 @@
 //! Laws of the definitions. Each is a function without parameters whose contract is the law.
 ghost use Rattle.org_client.specs.BarLaws.{BarsFollowSums, LengthsAreNearest, NothingHasNoBar, PartsAddUp};
+ghost use Rattle.org_client.specs.ClockLaws.{ClocksMakeTheTotal};
 ghost use Rattle.org_client.specs.Examples.{ExamplesHold};
 ghost use Rattle.org_client.specs.Laws.{AgendasShowNext, CleanStands, NextIsFirst, NextLiesAhead, NoStampIsMissed, StampsComeOnce, VisibleIsClean};
 ghost use Rattle.org_client.specs.MatchingLaws.{DaysAreFiltered, MatchingMeetsAll, NextIsFiltered};
@@ -98,4 +99,9 @@ pub fn nothing_has_no_bar()
 #[tactic(auto, using(crate::proofs::BarLemmas::parts_add_up))]
 pub fn parts_add_up()
     ensures { PartsAddUp }
+{}
+
+/// The minutes of the listed clock lines of some days add up to the total of the clock table of the same days.
+pub fn clocks_make_the_total()
+    ensures { ClocksMakeTheTotal }
 {}

@@ -11,39 +11,45 @@
 //! ```
 //! let inherits = file_set.inherits()?;
 //! // ..
-//! let files = LoadReport {
-//!     file_set,
-//!     inherits: &inherits,
-//! };
-//! // ..
-//! let text = answer_bytes(rt.alloc(), &files, view, lines, look)?;
+//! let files = LoadReport::new(alloc, file_set, inherits, properties, has_stamps)?;
+//! let text = answer_bytes(alloc, &files, answer.text.as_str(), lines, look)?;
 //! ```
 //!
 //! Lines of `orgq/src/session.rt`. Tests: cases `tests/orgq/*`.
 #![tactic(auto)]
 
 mod bars;
+mod clock_places;
+mod clocks;
 mod details;
 mod fields;
 mod file_set;
 mod json;
 pub mod laws;
+mod line_starts;
 mod matching;
+mod members;
 mod next;
 mod one_line;
+mod properties;
 mod read_file;
 mod reminders;
 mod rows;
+mod template;
 mod visible;
 
 pub use bars::{bar_eighths, hundredths, part_lengths};
-pub use fields::{csv_line, table_fields};
+pub use clock_places::shown_clocks;
+pub use clocks::{ClockRow, clock_rows, push_clock_minute};
+pub use fields::csv_line;
 pub use file_set::FileSet;
-pub use json::{day_line, json_line, table_line};
+pub use json::{day_line, json_line};
+pub use line_starts::{LinePlace, LineStarts};
 pub use matching::matching_stamps;
 pub use next::{Upcoming, next_rows};
 pub use one_line::OneLine;
 pub use read_file::ReadFile;
 pub use reminders::{Window, rows_between};
-pub use rows::{LoadReport, ShownSum};
+pub use rows::{LoadReport, ShownClock, ShownSum, ViewRow};
+pub use template::{MEMBERS, Template, template_line};
 pub use visible::{Escape, push_visible};

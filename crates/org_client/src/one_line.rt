@@ -1,8 +1,8 @@
 //! Bytes of one line.
-ghost use Rattle.std.specs.Prelude.{◌≡◌, ◌<◌, ◌≤◌, [], ◌∷◌, ◌++◌, IfOk, OnOk};
+ghost use Rattle.std.specs.Prelude.{◌≡◌, ◌<◌, ◌≤◌, [], ◌∷◌, ◌++◌, decimal, IfOk, OnOk};
 ghost use Rattle.org_base.specs.Results.{GivesItems};
 ghost use Rattle.org_client.specs.Clean.{IsClean};
-ghost use Rattle.org_client.specs.Json.{begins_quoted, field_text, flag_member, named, number_member, quoted, text_member};
+ghost use Rattle.org_client.specs.Json.{begins_quoted, field_text, flag_member, flag_text, named, number_member, quoted, text_member};
 ghost use Rattle.org_client.specs.Visible.{visible};
 
 use crate::visible::{Escape, push_visible};
@@ -93,13 +93,28 @@ impl OneLine {
         self.push_quoted(text)
     }
 
+    /// Appends a number in decimal.
+    pub fn push_number(&mut self, number: u64) -> Result<(), AllocError>
+        ensures ok { OnOk result (self.new ≡ self.old ++ decimal number) }
+    {
+        let digits = format!(in self.alloc; "{number}")?;
+        self.push_all(digits.as_bytes())
+    }
+
     /// Appends a member whose value is a number.
     pub fn number(&mut self, name: &str, number: u64) -> Result<(), AllocError>
         ensures ok { OnOk result (self.new ≡ self.old ++ number_member name.now number) }
     {
         self.push_name(name)?;
-        let digits = format!(in self.alloc; "{number}")?;
-        self.push_all(digits.as_bytes())
+        self.push_number(number)
+    }
+
+    /// Appends `true` or `false`.
+    pub fn push_flag(&mut self, flag: bool) -> Result<(), AllocError>
+        ensures ok { OnOk result (self.new ≡ self.old ++ flag_text flag) }
+    {
+        let word: &[u8] = if flag { b"true" } else { b"false" };
+        self.push_all(word)
     }
 
     /// Appends a member whose value is true or false.
@@ -107,8 +122,7 @@ impl OneLine {
         ensures ok { OnOk result (self.new ≡ self.old ++ flag_member name.now flag) }
     {
         self.push_name(name)?;
-        let word: &[u8] = if flag { b"true" } else { b"false" };
-        self.push_all(word)
+        self.push_flag(flag)
     }
 
     /// Appends a member whose value is a list of texts.
@@ -122,6 +136,50 @@ impl OneLine {
             self.push_quoted(texts.get(place))?;
         }
         self.push(b']')
+    }
+
+    /// Appends a member whose value is an object of texts: of each name the value at its place.
+    pub fn object(&mut self, name: &str, names: &Texts, values: &Texts) -> Result<(), AllocError> {
+        self.push_name(name)?;
+        self.push(b'{')?;
+        for place in 0..names.count().min(values.count()) {
+            if place > 0 {
+                self.push(b',')?;
+            }
+            self.push_quoted(names.get(place))?;
+            self.push(b':')?;
+            self.push_quoted(values.get(place))?;
+        }
+        self.push(b'}')
+    }
+
+    /// Appends a text so that its control characters can be seen.
+    pub fn push_seen(&mut self, text: &[u8]) -> Result<(), AllocError>
+        ensures ok { OnOk result (self.new ≡ self.old ++ visible Escape.Caret text.now) }
+    {
+        let bytes = seen_bytes(self.alloc, text)?;
+        self.push_all(bytes.as_slice())
+    }
+
+    /// Appends texts so, with a byte between them.
+    pub fn push_joined(&mut self, texts: &Texts, between: u8) -> Result<(), AllocError>
+        requires low { 32 ≤ between }
+        requires high { between < 127 }
+    {
+        for place in 0..texts.count() {
+            if place > 0 {
+                self.push(between)?;
+            }
+            self.push_seen(texts.get(place))?;
+        }
+        Ok(())
+    }
+
+    /// Appends what another line has.
+    pub fn append(&mut self, other: &OneLine) -> Result<(), AllocError>
+        ensures ok { OnOk result (self.new ≡ self.old ++ other.now) }
+    {
+        self.push_all(other.as_slice())
     }
 
     /// Appends a text as a field between commas: in it a comma is a semicolon, a control character a space, and a quotation
@@ -142,6 +200,14 @@ fn quote(alloc: Global, text: &[u8]) -> Result<Vec<u8>, AllocError>
     bytes.push(b'"')?;
     push_visible(&mut bytes, text, Escape::Json)?;
     bytes.push(b'"')?;
+    Ok(bytes)
+}
+
+fn seen_bytes(alloc: Global, text: &[u8]) -> Result<Vec<u8>, AllocError>
+    ensures value { GivesItems result (visible Escape.Caret text.now) }
+{
+    let mut bytes = Vec::new(alloc);
+    push_visible(&mut bytes, text, Escape::Caret)?;
     Ok(bytes)
 }
 

@@ -4,10 +4,13 @@ ghost use Rattle.org_agenda.specs.Headings.{HaveHeads};
 ghost use Rattle.org_base.specs.Codes.{memory_fault};
 ghost use Rattle.org_base.specs.Results.{Gives};
 ghost use Rattle.org_client.specs.Files.{named_text, scope_of};
+ghost use Rattle.org_lines.specs.Cuts.{lines, starts};
 ghost use Rattle.org_store.specs.Places.{place_at};
 ghost use Rattle.org_sum.specs.Texts.{AreOfText};
 
-use org_base::{Fault, Meter, Texts};
+use crate::clock_places::clock_places;
+use crate::line_starts::LineStarts;
+use org_base::{Fault, Meter, Span, Texts};
 use org_inherit::Inherit;
 use org_store::{File, ParsedFile, Place};
 use org_text::Text;
@@ -67,6 +70,13 @@ impl<T: Text> ReadFile<T> {
         self.path.as_str()
     }
 
+    /// The text, lent.
+    pub fn text(&self) -> &T
+        ensures value { T.content result.now ≡ self.now.text }
+    {
+        self.file.text()
+    }
+
     /// What the outline says of headings, where the values of these names are inherited.
     pub fn inherit<'a>(&'a self, alloc: Global, inherited: &'a Texts) -> Result<Inherit<'a>, Fault>
         ensures value { Gives result (scope_of inherited.now self.now) }
@@ -82,5 +92,34 @@ impl<T: Text> ReadFile<T> {
         ensures value { result ≡ place_at self.now.text heading }
     {
         self.file.place(heading)
+    }
+
+    /// Where the lines of the text begin.
+    pub fn line_starts(&self, alloc: Global) -> Result<LineStarts, Fault>
+        ensures value { Gives result (starts 0 (lines self.now.text)) }
+        ensures memory { IsOkUnless result memory_fault }
+    {
+        LineStarts::of(alloc, self.file.text())
+    }
+
+    /// Where the clock lines of the section at a place begin, in order; none past the last section.
+    pub fn clock_places(&self, alloc: Global, heading: usize) -> Result<Vec<Place>, Fault> {
+        let text = self.file.text();
+        let Some(begin) = self.place(heading) else {
+            return Ok(Vec::new(alloc));
+        };
+        let length = text.len() as u32;
+        let end = match self.place_behind(heading) {
+            Some(next) => next.at.min(length),
+            None => length,
+        };
+        let at = begin.at.min(end);
+        let section = Span { at, len: end - at };
+        clock_places(alloc, text, section, begin.line)
+    }
+
+    // Where the section behind the one at a place begins.
+    fn place_behind(&self, heading: usize) -> Option<Place> {
+        self.place(heading.checked_add(1)?)
     }
 }

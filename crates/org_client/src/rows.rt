@@ -1,16 +1,67 @@
 //! Rows, and the files that they are of.
 
+use crate::clocks::ClockRow;
 use crate::file_set::FileSet;
+use crate::line_starts::{LinePlace, LineStarts};
+use org_base::{Fault, Texts};
 use org_cal::Day;
-use org_clocktable::TableRow;
+use org_clocktable::{Of, TableRow};
 use org_inherit::Inherits;
+use org_layout::ShownRow;
+use org_store::Place;
 use org_text::Text;
+use std::alloc::Global;
 
-/// Files, and what their headings inherit.
+/// Files, what their headings inherit, and what is asked of rows beside their views.
 #[derive(Drop)]
 pub struct LoadReport<'a, 'b, T: Text> {
     pub file_set: &'a FileSet<T>,
     pub inherits: &'a Inherits<'b>,
+    /// The properties that are asked for.
+    pub properties: Texts,
+    // Of each file; none where no row needs them.
+    starts: Vec<LineStarts>,
+}
+
+impl<'a, 'b, T: Text> LoadReport<'a, 'b, T> {
+    /// Files of which rows are shown. Where rows have their stamps' lines each file is passed over once for them.
+    pub fn new(
+        alloc: Global,
+        file_set: &'a FileSet<T>,
+        inherits: &'a Inherits<'b>,
+        properties: Texts,
+        has_lines: bool,
+    ) -> Result<LoadReport<'a, 'b, T>, Fault> {
+        let starts = if has_lines {
+            all_starts(alloc, file_set)?
+        } else {
+            Vec::new(alloc)
+        };
+        Ok(LoadReport {
+            file_set,
+            inherits,
+            properties,
+            starts,
+        })
+    }
+
+    // The line of a file's byte, and the byte of that line, where lines are known.
+    pub(crate) fn line_place(&self, file: usize, at: u64) -> Option<LinePlace> {
+        if file >= self.starts.len() {
+            return None;
+        }
+        let at = u32::try_from(at).ok()?;
+        self.starts[file].place(at)
+    }
+}
+
+fn all_starts<T: Text>(alloc: Global, file_set: &FileSet<T>) -> Result<Vec<LineStarts>, Fault> {
+    let mut all = Vec::new(alloc);
+    for place in 0..file_set.count() {
+        let starts = file_set.file(place).line_starts(alloc)?;
+        all.push(starts)?;
+    }
+    Ok(all)
 }
 
 /// A row of a clock table, with the first and the last day of its step.
@@ -19,4 +70,36 @@ pub struct ShownSum {
     pub first: Day,
     pub last: Day,
     pub row: TableRow,
+}
+
+/// A clock line that is listed, and where it begins in its file.
+#[derive(Clone, Copy, Debug, PartialEq, Eq)]
+pub struct ShownClock {
+    pub row: ClockRow,
+    pub place: Place,
+}
+
+/// A row of any view.
+#[derive(Clone, Copy, Debug, PartialEq, Eq)]
+pub enum ViewRow {
+    /// Of a list or of a day.
+    Row(ShownRow),
+    /// Of a clock table.
+    Sum(ShownSum),
+    /// A clock line.
+    Clock(ShownClock),
+}
+
+impl ViewRow {
+    /// The places of the file and of the heading that it is of, if it is of one.
+    pub fn heading(&self) -> Option<(usize, usize)> {
+        match self {
+            ViewRow::Row(shown) => Some((shown.row.file, shown.row.heading)),
+            ViewRow::Sum(shown) => match shown.row.of {
+                Of::Heading(file, place, _) => Some((file, place)),
+                Of::All | Of::File(_) => None,
+            },
+            ViewRow::Clock(shown) => Some((shown.row.file, shown.row.heading)),
+        }
+    }
 }

@@ -7,7 +7,7 @@ use Rattle.org_entry.specs.declared.entry.Entry.{Entry}
 use Rattle.org_inherit.specs.Scope.{Scope}
 use Rattle.org_inherit.specs.Values.{nearest_value, file_value}
 
--- what stands after the last slash
+-- what stands after the last slash of a file's name
 abbrev pub base_name : List ℕ → List ℕ
 base_name name = after_last (λ b. b == 47) name
 

@@ -21,7 +21,7 @@ hides_by text (Some head) = head.comment || list_any is_archive (map (bytes_in t
 abbrev pub hides : Entry → Bool
 hides e = hides_by e.text e.head
 
--- the same of the entry at a place
+-- the entry at a place hides itself and what is below it
 abbrev pub hides_at : List Entry → ℕ → Bool
 hides_at es j = get_or (map hides es) j false
 

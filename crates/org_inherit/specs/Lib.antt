@@ -9,3 +9,4 @@ pub mod Special
 pub mod Examples
 pub mod Laws
 pub mod Headings
+pub mod Priorities

@@ -56,7 +56,7 @@ priority_value settings text (Some cookie) = cookie_value (bytes_in text cookie)
 abbrev pub stamp_span : PlanningKeyword → Option Planning → Option Span
 stamp_span word planning = option_map (λ s. s.1) (option_and_then (stamp_under word) planning)
 
--- what a heading's own lines say, of its entry and its head
+-- what a heading's own lines say under a special name, of its entry and its head
 abbrev pub heading_value : FileSettings → Entry → Head → HeadingValue → Option (List ℕ)
 heading_value settings e head heading.Keyword = option_map (bytes_in e.text) head.keyword
 heading_value settings e head heading.Priority = Some (priority_value settings e.text head.priority)
@@ -76,7 +76,7 @@ special_value scope i special.File = Some scope.file
 special_value scope i special.AllTags = by_head scope.entries i (λ e head. tags_value (all_tags scope i))
 special_value scope i (special.Own v) = by_head scope.entries i (λ e head. heading_value scope.settings e head v)
 
--- the value by what a name names
+-- the value of a name at a place, by what the name names
 abbrev pub value_by : Scope → ℕ → List ℕ → Option Special → Option (List ℕ)
 value_by scope i name (Some s) = special_value scope i s
 value_by scope i name None = plain_value scope i name

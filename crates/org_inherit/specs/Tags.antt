@@ -27,15 +27,15 @@ own_tags_at es j = get_or (map own_tags es) j []
 abbrev pub lineage : List Entry → ℕ → List ℕ
 lineage es i = reverse (ancestors (levels es) i) ++ i ∷ []
 
--- a tag at the end, if it isn't there
+-- tags with one more at the end, unless it is there
 abbrev pub with_tag : List (List ℕ) → List ℕ → List (List ℕ)
 with_tag tags tag = if list_any (bytes_eq tag) tags then tags else tags ++ tag ∷ []
 
--- tags at the end, those that aren't there
+-- tags with more at the end, each unless it is there
 abbrev pub with_tags : List (List ℕ) → List (List ℕ) → List (List ℕ)
 with_tags tags more = fold with_tag tags more
 
--- of equal tags the first
+-- tags without those that stood before
 abbrev pub firsts : List (List ℕ) → List (List ℕ)
 firsts tags = with_tags [] tags
 

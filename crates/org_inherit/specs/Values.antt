@@ -12,7 +12,7 @@ use Rattle.org_outline.specs.Levels.{levels}
 use Rattle.org_outline.specs.Tree.{ancestors}
 use Rattle.org_settings.specs.Settings.{FileSettings}
 
--- what the first of the places has that has one
+-- what the first of the places has that has anything
 abbrev pub first_of : {X : Type 0} → (ℕ → Option X) → List ℕ → Option X
 first_of f [] = None
 first_of f (j ∷ js) = option_or (f j) (first_of f js)
@@ -25,7 +25,7 @@ own_value es name j = get_or (map (λ e. value_in e.details.drawer name) es) j N
 abbrev pub nearest_value : List Entry → List ℕ → ℕ → Option (List ℕ)
 nearest_value es name i = first_of (own_value es name) (i ∷ ancestors (levels es) i)
 
--- what a drawer gives that stands under no heading
+-- what a drawer gives that stands under no heading; one under a heading gives nothing
 abbrev pub value_without_head : Option Head → List Property → List ℕ → Option (List ℕ)
 value_without_head None drawer name = value_in drawer name
 value_without_head (Some head) drawer name = None
@@ -39,7 +39,7 @@ front_value (e ∷ es) name = value_without_head e.head e.details.drawer name
 abbrev pub value_of_file : List Entry → FileSettings → List ℕ → Option (List ℕ)
 value_of_file es settings name = option_or (front_value es name) (value_in settings.properties name)
 
--- the file's value
+-- the value that the file itself gives a name
 abbrev pub file_value : Scope → List ℕ → Option (List ℕ)
 file_value scope name = value_of_file scope.entries scope.settings name
 
@@ -47,7 +47,8 @@ file_value scope name = value_of_file scope.entries scope.settings name
 abbrev pub is_inherited : List (List ℕ) → List ℕ → Bool
 is_inherited names name = list_any (same_word name) names
 
--- The own value; else, if the name is inherited, that of the nearest ancestor that has one, else the file's.
+-- the value of a name that isn't special. The own one; else, if the name is inherited, that of the nearest ancestor that
+-- has one, else the file's
 abbrev pub plain_value : Scope → ℕ → List ℕ → Option (List ℕ)
 plain_value scope i name =
     if is_inherited scope.inherited name then option_or (nearest_value scope.entries name i) (file_value scope name)

@@ -1,5 +1,5 @@
 //! Headings by their places.
-ghost use Rattle.org_inherit.specs.Headings.{IsFoundAt};
+ghost use Rattle.org_inherit.specs.Headings.{IsFoundAt, IsFoundIn};
 
 use crate::headings::Heading;
 use crate::inherit::Inherit;
@@ -29,7 +29,9 @@ impl<'a, 'b> Heading<'a, 'b> {
     }
 
     /// The heading at a place of the file at another; none where it isn't there.
-    pub fn find(inherits: &'a Inherits<'b>, file: usize, place: usize) -> Option<Heading<'a, 'b>> {
+    pub fn find(inherits: &'a Inherits<'b>, file: usize, place: usize) -> Option<Heading<'a, 'b>>
+        ensures { IsFoundIn inherits.now file place result }
+    {
         if file >= inherits.count() {
             return None;
         }

@@ -33,7 +33,7 @@ fn decimal(alloc: Global, number: u32) -> Result<Bytes, AllocError>
 }
 
 // X of the cookie `[#X]`.
-fn cookie_value(cookie: &[u8]) -> &[u8]
+pub(crate) fn cookie_value(cookie: &[u8]) -> &[u8]
     ensures value { result.now ≡ cookie_value cookie.now }
 {
     let behind = &cookie[cookie.len().min(2)..];

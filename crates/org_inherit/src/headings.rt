@@ -5,8 +5,10 @@ ghost use Rattle.org_base.specs.Results.{Gives};
 ghost use Rattle.org_base.specs.Spans.{bytes_in};
 ghost use Rattle.org_entry.specs.Keyword.{is_finished, keyword_in};
 ghost use Rattle.org_inherit.specs.Category.{category};
+ghost use Rattle.org_inherit.specs.Priorities.{cookie_of, priority_by};
 ghost use Rattle.org_inherit.specs.Tags.{all_tags};
 
+use crate::heading::cookie_value;
 use crate::inherit::Inherit;
 use org_base::{Fault, Texts};
 use org_entry::{Entry, is_finished, keyword_of};
@@ -55,12 +57,10 @@ impl<'a, 'b> Heading<'a, 'b> {
     }
 
     /// The X of its cookie `[#X]`, if it has one.
-    pub fn priority(&self) -> Option<&[u8]> {
-        let cookie = self.entry.part(self.head.priority?);
-        match cookie {
-            [b'[', b'#', inner @ .., b']'] => Some(inner),
-            _ => None,
-        }
+    pub fn priority(&self) -> Option<&[u8]>
+        ensures value { option_copied result ≡ cookie_of self.now.entry.now.text self.now.head.now }
+    {
+        Some(cookie_value(self.entry.part(self.head.priority?)))
     }
 
     /// Its title.
@@ -79,7 +79,9 @@ impl<'a, 'b> Heading<'a, 'b> {
     }
 
     /// The priority that counts, the file's default where there is no cookie: smaller ones are more urgent.
-    pub fn priority_number(&self) -> u8 {
+    pub fn priority_number(&self) -> u8
+        ensures value { let h = self.now in result ≡ priority_by h.inherit.now.settings (cookie_of h.entry.now.text h.head.now) }
+    {
         match self.priority() {
             Some(text) if is_priority(text) => priority_number(text),
             _ => self.inherit.settings().default_priority(),

@@ -1,7 +1,7 @@
 use Rattle.std.proofs.Common.{◌∙◌, arith, subst, sym}
 use Rattle.org_client.specs.Clean.{IsClean}
 use Rattle.org_client.proofs.JsonLemmas.{decimal_clean}
-use Rattle.org_client.proofs.one_line.OneLine.number.Goals as goal
+use Rattle.org_client.proofs.one_line.OneLine.push_number.Goals as goal
 
 pub push_all-requires : goal.push_all-requires
 push_all-requires c =

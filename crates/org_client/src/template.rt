@@ -1,0 +1,192 @@
+//! Lines with names of members in braces.
+
+use crate::members::{Members, kind_of, put_members};
+use crate::one_line::OneLine;
+use crate::rows::{LoadReport, ViewRow};
+use org_base::{Fault, Texts};
+use org_text::Text;
+use std::alloc::{AllocError, Global};
+
+/// The names of the members that rows have, but for `properties`.
+pub const MEMBERS: [&str; 30] = [
+    "kind",
+    "day",
+    "start",
+    "end",
+    "days",
+    "day_of",
+    "days_in",
+    "file",
+    "line",
+    "byte",
+    "stamp",
+    "stamp_line",
+    "stamp_column",
+    "category",
+    "level",
+    "keyword",
+    "done",
+    "priority",
+    "title",
+    "tags",
+    "scheduled",
+    "deadline",
+    "closed",
+    "effort",
+    "path",
+    "from",
+    "to",
+    "clock",
+    "minutes",
+    "text",
+];
+
+/// A line in which a name of a member in braces stands for its value; `{{` and `}}` stand for braces.
+#[derive(Clone, Copy, Debug, PartialEq, Eq)]
+pub struct Template<'a> {
+    text: &'a str,
+}
+
+// A part of a template.
+#[derive(Clone, Copy, Debug)]
+enum Part<'a> {
+    Text(&'a str),
+    Name(&'a str),
+    // A brace that is alone.
+    Brace,
+}
+
+impl<'a> Template<'a> {
+    /// The template that a text spells; none where it has a brace alone, or a name that no member has.
+    pub fn read(text: &'a str) -> Option<Template<'a>> {
+        let mut rest = text;
+        for _part in 0..text.len() {
+            if rest.is_empty() {
+                break;
+            }
+            let (part, behind) = first_part(rest);
+            if !is_known(part) {
+                return None;
+            }
+            rest = behind;
+        }
+        Some(Template { text })
+    }
+}
+
+fn is_known(part: Part<'_>) -> bool {
+    match part {
+        Part::Text(_) => true,
+        Part::Name(name) => MEMBERS.iter().any(|member| *member == name),
+        Part::Brace => false,
+    }
+}
+
+// The first part of a text, and what stands behind it; of an empty text it is empty.
+fn first_part(text: &str) -> (Part<'_>, &str) {
+    if let Some(behind) = text.strip_prefix("{{") {
+        return (Part::Text("{"), behind);
+    }
+    if let Some(behind) = text.strip_prefix("}}") {
+        return (Part::Text("}"), behind);
+    }
+    if let Some(named) = text.strip_prefix('{') {
+        return match named.split_once('}') {
+            Some((name, behind)) => (Part::Name(name), behind),
+            None => (Part::Brace, ""),
+        };
+    }
+    if text.starts_with('}') {
+        return (Part::Brace, "");
+    }
+    let end = text
+        .find(|c: char| c == '{' || c == '}')
+        .unwrap_or(text.len());
+    let (words, behind) = text.split_at(end);
+    (Part::Text(words), behind)
+}
+
+/// The line of a row after a template: what the row lacks is empty, the items of `tags` have colons between them and those
+/// of `path` slashes, and control characters stand so that they can be seen.
+pub fn template_line<T: Text>(
+    alloc: Global,
+    files: &LoadReport<'_, '_, T>,
+    row: &ViewRow,
+    text: &[u8],
+    template: &Template<'_>,
+) -> Result<OneLine, Fault> {
+    let mut line = OneLine::new(alloc);
+    let mut rest = template.text;
+    for _part in 0..template.text.len() {
+        if rest.is_empty() {
+            break;
+        }
+        let (part, behind) = first_part(rest);
+        match part {
+            Part::Text(words) => line.push_seen(words.as_bytes())?,
+            Part::Name(name) => {
+                let value = value_of(alloc, files, row, text, name)?;
+                line.append(&value)?;
+            }
+            Part::Brace => {}
+        }
+        rest = behind;
+    }
+    Ok(line)
+}
+
+// The value of a row's member; nothing where the row lacks it.
+fn value_of<T: Text>(
+    alloc: Global,
+    files: &LoadReport<'_, '_, T>,
+    row: &ViewRow,
+    text: &[u8],
+    name: &str,
+) -> Result<OneLine, Fault> {
+    let mut value = MemberValue {
+        name,
+        value: OneLine::new(alloc),
+    };
+    value.put_text("kind", kind_of(row).as_bytes())?;
+    put_members(alloc, &mut value, files, row)?;
+    value.put_text("text", text)?;
+    Ok(value.value)
+}
+
+// The value of the member of a name, as it is told to a person.
+#[derive(Drop)]
+struct MemberValue<'a> {
+    name: &'a str,
+    value: OneLine,
+}
+
+impl Members for MemberValue<'_> {
+    fn put_text(&mut self, name: &str, text: &[u8]) -> Result<(), AllocError> {
+        if name == self.name {
+            self.value.push_seen(text)?;
+        }
+        Ok(())
+    }
+
+    fn put_number(&mut self, name: &str, number: u64) -> Result<(), AllocError> {
+        if name == self.name {
+            self.value.push_number(number)?;
+        }
+        Ok(())
+    }
+
+    fn put_flag(&mut self, name: &str, flag: bool) -> Result<(), AllocError> {
+        if name == self.name {
+            self.value.push_flag(flag)?;
+        }
+        Ok(())
+    }
+
+    fn put_texts(&mut self, name: &str, texts: &Texts) -> Result<(), AllocError> {
+        if name == self.name {
+            let between = if name == "path" { b'/' } else { b':' };
+            self.value.push_joined(texts, between)?;
+        }
+        Ok(())
+    }
+}
