@@ -1,0 +1,5 @@
+use Rattle.org_look.specs.Grids.{AreWide, line_width}
+use Rattle.org_look.proofs.grid.grid_lines.Given as goal
+
+abbrev pub invariant-loop-place : goal.invariant-loop-place
+invariant-loop-place l = AreWide (line_width l.grid.cell) l.lines.items

@@ -1,0 +1,15 @@
+pub mod Widths
+pub mod Signs
+pub mod Cuts
+pub mod Strips
+pub mod Results
+pub mod Entries
+pub mod Lanes
+pub mod Bars
+pub mod Cells
+pub mod Grids
+pub mod Weeks
+pub mod Examples
+pub mod Gives
+pub mod Drawn
+pub mod Hours

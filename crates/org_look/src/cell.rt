@@ -1,0 +1,144 @@
+//! Cells of days.
+ghost use Rattle.std.specs.Prelude.{◌≡◌, ◌≤◌};
+ghost use Rattle.org_look.specs.Cells.{content_of, foot_of};
+ghost use Rattle.org_look.specs.Cuts.{row_text};
+ghost use Rattle.org_look.specs.Gives.{GivesStrip, GivesWide};
+
+use crate::fill::{cut, fill_text};
+use crate::sign::Signs;
+use crate::strip::Strip;
+use std::alloc::{AllocError, Global};
+
+/// How the lines of a cell are shared out: the lanes of bars, the rows that are shown, the number of all others, the notes at
+/// the foot, and all lines of the week below its days' numbers.
+#[derive(Clone, Copy, Debug, PartialEq, Eq)]
+pub struct Shape {
+    pub lanes: usize,
+    pub shown: usize,
+    pub left: usize,
+    pub notes: usize,
+    pub height: usize,
+}
+
+/// What a line of a cell shows: a row or a note by its place, the number of all others, or nothing.
+#[derive(Clone, Copy, Debug, PartialEq, Eq)]
+pub enum Content {
+    Row(usize),
+    Others,
+    Note(usize),
+    Blank,
+}
+
+impl Shape {
+    /// What a line of the cell shows.
+    pub fn content(&self, place: usize) -> Content
+        ensures value { result ≡ content_of self.now place }
+    {
+        if place < self.lanes {
+            return self.foot(place);
+        }
+        let own = place - self.lanes;
+        if own < self.shown {
+            Content::Row(own)
+        } else if own == self.shown && 0 < self.left {
+            Content::Others
+        } else {
+            self.foot(place)
+        }
+    }
+
+    fn foot(&self, place: usize) -> Content
+        ensures value { result ≡ foot_of self.now place }
+    {
+        if place < self.height && self.height - place <= self.notes {
+            Content::Note(self.notes - (self.height - place))
+        } else {
+            Content::Blank
+        }
+    }
+
+    /// How many lines the cell takes below its number.
+    pub fn lines(&self) -> usize {
+        let others = usize::from(0 < self.left);
+        self.lanes
+            .saturating_add(self.shown)
+            .saturating_add(others)
+            .saturating_add(self.notes)
+    }
+}
+
+/// The cell of a day: its number, the labels of its rows, and the notes at its foot.
+#[derive(Debug, Drop)]
+pub struct Cell {
+    pub number: String,
+    pub labels: Vec<String>,
+    pub notes: Vec<String>,
+    pub shape: Shape,
+}
+
+impl Cell {
+    /// A cell of no day.
+    pub fn empty(alloc: Global) -> Cell {
+        Cell {
+            number: String::new(alloc),
+            labels: Vec::new(alloc),
+            notes: Vec::new(alloc),
+            shape: Shape {
+                lanes: 0,
+                shown: 0,
+                left: 0,
+                notes: 0,
+                height: 0,
+            },
+        }
+    }
+
+    /// A line of the cell in so many columns.
+    pub fn strip(
+        &self,
+        alloc: Global,
+        place: usize,
+        columns: usize,
+        signs: Signs,
+    ) -> Result<Strip, AllocError>
+        requires room { 2 ≤ columns }
+        ensures wide { GivesWide result columns }
+    {
+        match self.shape.content(place) {
+            Content::Row(row) => row_strip(alloc, text_at(&self.labels, row), columns, signs),
+            Content::Note(note) => fill_text(alloc, text_at(&self.notes, note), columns, signs),
+            Content::Others => others_strip(alloc, self.shape.left, columns, signs),
+            Content::Blank => fill_text(alloc, "", columns, signs),
+        }
+    }
+}
+
+fn text_at(texts: &Vec<String>, place: usize) -> &str {
+    match texts.get(place) {
+        Some(text) => text.as_str(),
+        None => "",
+    }
+}
+
+// A label, with a space behind it.
+fn row_strip(alloc: Global, label: &str, columns: usize, signs: Signs) -> Result<Strip, AllocError>
+    requires room { 2 ≤ columns }
+    ensures value { GivesStrip result (row_text signs columns label.now) }
+    ensures wide { GivesWide result columns }
+{
+    let label = cut(alloc, label, columns - 1, signs)?;
+    fill_text(alloc, label.as_str(), columns, signs)
+}
+
+fn others_strip(
+    alloc: Global,
+    left: usize,
+    columns: usize,
+    signs: Signs,
+) -> Result<Strip, AllocError>
+    requires room { 2 ≤ columns }
+    ensures wide { GivesWide result columns }
+{
+    let text = format!(in alloc; "+{left} more")?;
+    fill_text(alloc, text.as_str(), columns, signs)
+}

@@ -1,0 +1,105 @@
+//! Days in a list below a small month, where a grid has no room.
+ghost use Rattle.std.specs.Prelude.{◌≡◌};
+
+use crate::day::GridDay;
+use crate::entry::{Entry, Stand};
+use crate::fill::cut;
+use crate::plan::notes_of;
+use crate::sign::Signs;
+use std::alloc::{AllocError, Global};
+
+/// How a list is written: the most columns of a line, and the signs.
+#[derive(Clone, Copy, Debug)]
+pub struct Narrow {
+    pub columns: usize,
+    pub signs: Signs,
+}
+
+/// Appends a week of a small month: its number, and the numbers of its days, today's in brackets, with a dot behind each other
+/// one that has rows of its own.
+pub fn push_small_week(
+    out: &mut String,
+    number: &str,
+    days: &[GridDay],
+    signs: Signs,
+) -> Result<(), AllocError> {
+    out.push_str(number)?;
+    for day in days {
+        let (before, after) = if day.is_today {
+            ('[', ']')
+        } else {
+            (' ', mark_of(day, signs))
+        };
+        let number = day.of_month;
+        write!(out, "{before}{number:>2}{after}")?;
+    }
+    out.push('\n')
+}
+
+fn mark_of(day: &GridDay, signs: Signs) -> char {
+    if !day.entries.iter().any(is_of_day) {
+        return ' ';
+    }
+    match signs {
+        Signs::Drawn => '·',
+        Signs::Ascii => '.',
+    }
+}
+
+// Whether a row is of its day: neither late nor a warning.
+fn is_of_day(entry: &Entry) -> bool {
+    match entry.stand {
+        Stand::Own | Stand::Range(..) => true,
+        Stand::Late | Stand::Soon => false,
+    }
+}
+
+/// Appends a day with its rows, each in a line, and the numbers of those that are late and due soon; nothing of a day that has
+/// none of its own.
+pub fn push_listed_day(
+    alloc: Global,
+    out: &mut String,
+    day: &GridDay,
+    look: &Narrow,
+) -> Result<(), AllocError> {
+    if !day.is_of_month || !day.entries.iter().any(is_of_day) {
+        return Ok(());
+    }
+    out.push_str(day.name.as_str())?;
+    out.push('\n')?;
+    for entry in &day.entries {
+        if is_of_day(entry) {
+            push_listed(alloc, out, entry, look)?;
+        }
+    }
+    for note in &notes_of(alloc, day.entries.as_slice())? {
+        push_indented(alloc, out, note.as_str(), look)?;
+    }
+    Ok(())
+}
+
+fn push_listed(
+    alloc: Global,
+    out: &mut String,
+    entry: &Entry,
+    look: &Narrow,
+) -> Result<(), AllocError> {
+    let mut label = String::new(alloc);
+    label.push_str(entry.label.as_str())?;
+    if let Stand::Range(day, of) = entry.stand {
+        write!(label, " ({day}/{of})")?;
+    }
+    push_indented(alloc, out, label.as_str(), look)
+}
+
+fn push_indented(
+    alloc: Global,
+    out: &mut String,
+    text: &str,
+    look: &Narrow,
+) -> Result<(), AllocError> {
+    let line = cut(alloc, text, look.columns.saturating_sub(2), look.signs)?;
+    out.push_str("  ")?;
+    out.push_str(line.as_str())?;
+    out.push('\n')
+}

@@ -1,0 +1,245 @@
+//! Weeks of rows: which bars lie in which lanes, and what each cell shows.
+ghost use Rattle.std.specs.Prelude.{◌≡◌, ◌<◌, ◌-◌, IfOk, vec_len};
+ghost use Rattle.org_look.specs.Weeks.{HoldsRows, LiesApart, spans_of};
+
+use crate::cell::{Cell, Shape};
+use crate::day::GridDay;
+use crate::entry::{Entry, Share, Stand, copy, own_labels};
+use crate::lanes::lanes_of;
+use crate::span::{Bar, Span};
+use crate::week::Week;
+use crate::wrap::broken_labels;
+use std::alloc::{AllocError, Global};
+
+/// How cells are filled: the most lines of a cell, and of how many columns the lines of a row are that is broken into several;
+/// without that each row takes one line.
+#[derive(Clone, Copy, Debug)]
+pub struct Plan {
+    pub lines: usize,
+    pub breaks: Option<usize>,
+}
+
+impl Week {
+    /// A week of seven days: its bars in lanes that leave a line for rows, and its cells.
+    pub fn of(
+        alloc: Global,
+        number: String,
+        days: &[GridDay],
+        plan: &Plan,
+    ) -> Result<Week, AllocError>
+        ensures apart { LiesApart result (plan.now.lines - 1) }
+    {
+        let bars = bars_of(alloc, days)?;
+        let spans = spans_of(alloc, bars.as_slice())?;
+        let most = plan.lines.saturating_sub(1);
+        let lanes = lanes_of(alloc, spans.as_slice(), most)?;
+        let covers = Covers {
+            spans: spans.as_slice(),
+            lanes: lanes.as_slice(),
+            most,
+        };
+        let mut cells = cells_of(alloc, days, &covers, plan)?;
+        let height = height_of(cells.as_slice());
+        set_heights(&mut cells, height);
+        Ok(Week {
+            number,
+            cells,
+            bars,
+            lanes,
+        })
+    }
+}
+
+fn spans_of(alloc: Global, bars: &[Bar]) -> Result<Vec<Span>, AllocError>
+    ensures { IfOk result (λ spans. spans.items ≡ spans_of bars.now) }
+{
+    bars.iter().map(|bar| bar.span).collect(alloc)
+}
+
+// The bars of a week: those that begin earlier first, of those that begin on one day the longer ones.
+fn bars_of(alloc: Global, days: &[GridDay]) -> Result<Vec<Bar>, AllocError> {
+    let mut bars = Vec::new(alloc);
+    for (column, day) in days.iter().enumerate() {
+        if column < 7 {
+            push_day_bars(alloc, &mut bars, day, column)?;
+        }
+    }
+    Ok(bars)
+}
+
+fn push_day_bars(
+    alloc: Global,
+    bars: &mut Vec<Bar>,
+    day: &GridDay,
+    column: usize,
+) -> Result<(), AllocError>
+    requires day { column < 7 }
+{
+    for shorter in 0..7 {
+        for entry in &day.entries {
+            push_bar(alloc, bars, entry, column, 6 - shorter)?;
+        }
+    }
+    Ok(())
+}
+
+// Appends the bar of a range that is seen first on a day, where it goes on for so many days.
+fn push_bar(
+    alloc: Global,
+    bars: &mut Vec<Bar>,
+    entry: &Entry,
+    column: usize,
+    more: usize,
+) -> Result<(), AllocError>
+    requires day { column < 7 }
+{
+    let Stand::Range(day, of) = entry.stand else {
+        return Ok(());
+    };
+    if column > 0 && day > 1 {
+        return Ok(());
+    }
+    let ahead = of.saturating_sub(day) as usize;
+    let last = (column + ahead).min(6);
+    if last - column != more {
+        return Ok(());
+    }
+    let label = copy(alloc, entry.label.as_str())?;
+    bars.push(Bar {
+        span: Span {
+            first: column,
+            last,
+        },
+        is_begun: day > 1,
+        goes_on: column + ahead > 6,
+        label,
+    })?;
+    Ok(())
+}
+
+// The bars of a week with their lanes.
+#[derive(Clone, Copy)]
+struct Covers<'a, 'b> {
+    spans: &'a [Span],
+    lanes: &'b [usize],
+    most: usize,
+}
+
+// The lanes of a day, and the number of its bars that have none.
+#[derive(Clone, Copy)]
+struct Cover {
+    lanes: usize,
+    bars: u32,
+}
+
+impl Covers<'_, '_> {
+    fn of(&self, column: usize) -> Cover {
+        let mut lanes = 0;
+        let mut bars: u32 = 0;
+        for (span, lane) in self.spans.iter().zip(self.lanes) {
+            if span.first <= column && column <= span.last {
+                if *lane < self.most {
+                    lanes = lanes.max(lane.saturating_add(1));
+                } else {
+                    bars = bars.saturating_add(1);
+                }
+            }
+        }
+        Cover { lanes, bars }
+    }
+}
+
+// Seven cells, empty ones where there are fewer days.
+fn cells_of(
+    alloc: Global,
+    days: &[GridDay],
+    covers: &Covers<'_, '_>,
+    plan: &Plan,
+) -> Result<Vec<Cell>, AllocError>
+    ensures { IfOk result (λ cells. vec_len cells ≡ 7) }
+{
+    let mut cells = Vec::new(alloc);
+    for column in 0..7 {
+        let cell = match days.get(column) {
+            Some(day) => cell_of(alloc, day, covers.of(column), plan)?,
+            None => Cell::empty(alloc),
+        };
+        cells.push(cell)?;
+    }
+    Ok(cells)
+}
+
+// How many lines a week takes below the numbers of its days, at least one.
+fn height_of(cells: &[Cell]) -> usize {
+    let mut height = 1;
+    for cell in cells {
+        height = cell.shape.lines().max(height);
+    }
+    height
+}
+
+fn set_heights(cells: &mut Vec<Cell>, height: usize)
+    ensures { vec_len cells.new ≡ vec_len cells.old }
+{
+    for cell in cells.iter_mut() {
+        cell.shape.height = height;
+    }
+}
+
+fn cell_of(alloc: Global, day: &GridDay, cover: Cover, plan: &Plan) -> Result<Cell, AllocError>
+    ensures labels { HoldsRows result plan.now.breaks day.now.entries.items }
+{
+    let labels = match plan.breaks {
+        Some(columns) => broken_labels(alloc, day.entries.as_slice(), columns)?,
+        None => own_labels(alloc, day.entries.as_slice())?,
+    };
+    let notes = notes_of(alloc, day.entries.as_slice())?;
+    let taken = cover.lanes.saturating_add(notes.len());
+    let share = Share::of(
+        labels.len(),
+        cover.bars,
+        plan.lines.saturating_sub(taken).max(1),
+    );
+    let shape = Shape {
+        lanes: cover.lanes,
+        shown: share.shown,
+        left: share.left,
+        notes: notes.len(),
+        height: 0,
+    };
+    Ok(Cell {
+        number: copy(alloc, day.number.as_str())?,
+        labels,
+        notes,
+        shape,
+    })
+}
+
+/// How many rows of a day are late, and how many are due soon.
+pub fn notes_of(alloc: Global, entries: &[Entry]) -> Result<Vec<String>, AllocError> {
+    let mut notes = Vec::new(alloc);
+    push_note(alloc, &mut notes, count_of(entries, Stand::Late), "late")?;
+    push_note(
+        alloc,
+        &mut notes,
+        count_of(entries, Stand::Soon),
+        "due soon",
+    )?;
+    Ok(notes)
+}
+
+fn count_of(entries: &[Entry], stand: Stand) -> usize {
+    entries.iter().filter(|entry| entry.stand == stand).count()
+}
+
+fn push_note(
+    alloc: Global,
+    notes: &mut Vec<String>,
+    count: usize,
+    name: &str,
+) -> Result<(), AllocError> {
+    if count > 0 {
+        notes.push(format!(in alloc; "{count} {name}")?)?;
+    }
+    Ok(())
+}
