@@ -1,5 +1,5 @@
 -- An act that is done to a file.
-use Rattle.std.proofs.Common.{◌≡◌, List, ℕ, refl, []}
+use Rattle.std.proofs.Common.{List, ℕ, refl, []}
 use Rattle.std.specs.Prelude.{Result, Ok, Err}
 use Rattle.org_act.specs.Amending.{StaysAmended}
 use Rattle.org_act.specs.declared.act.Refusal.{Refusal}

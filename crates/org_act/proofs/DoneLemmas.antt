@@ -1,6 +1,6 @@
 -- The first done keyword of a sequence, and the heading whose sequence it is.
-use Rattle.std.proofs.Common.{◌≡◌, ◌≢◌, ◌∙◌, ℕ, suc, ◌<◌, ◌&&◌, ◌==◌, true, false, inl, inr, List, [], None, Some, length, drop, refl, sym, ap, arith, drop-cons}
-use Rattle.std.specs.Prelude.{Option, Err, if◌then◌else◌, not}
+use Rattle.std.proofs.Common.{◌≡◌, ◌≢◌, ◌∙◌, ℕ, suc, ◌<◌, ◌&&◌, ◌==◌, true, false, inl, inr, List, [], Some, length, drop, refl, sym, ap, arith, drop-cons}
+use Rattle.std.specs.Prelude.{Option, Err, if◌then◌else◌}
 use Rattle.std.proofs.lemmas.Bool.{cases_Bool}
 use Rattle.std.proofs.lemmas.Bool.Decides.{nat_tests}
 use Rattle.org_act.specs.Completing.{done_word, done_word_in, done_word_of, first_done, no_heading}
@@ -10,7 +10,7 @@ use Rattle.org_complete.specs.Completion.{section_at}
 use Rattle.org_entry.specs.Entry.{entry_of}
 use Rattle.org_head.specs.declared.head.Head.{Head}
 use Rattle.org_settings.specs.Keywords.{Keyword, keyword_done, keyword_first}
-use Rattle.org_store.specs.Begun.{IsBegunBy, entry_there, has_heading, section_of, section_start}
+use Rattle.org_store.specs.Begun.{IsBegunBy, entry_there, has_heading, section_of}
 use Rattle.org_store.specs.Outline.{file_settings}
 
 -- one keyword further

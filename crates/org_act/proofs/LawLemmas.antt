@@ -1,10 +1,9 @@
 -- Laws of acts.
-use Rattle.std.proofs.Common.{◌≡◌, ◌≤◌, ◌∙◌, ℕ, List, [], ◌++◌, length, refl, sym, ap, arith, append-nil}
+use Rattle.std.proofs.Common.{◌≡◌, ◌≤◌, ◌∙◌, ℕ, List, [], ◌++◌, length, refl, ap, arith, append-nil}
 use Rattle.std.specs.Prelude.{Ok, Result, Err}
 use Rattle.std.proofs.lemmas.Bool.Decides.{nat_tests}
-use Rattle.org_act.specs.Completing.{amended_by, amended_in, chosen_word, completed_text, own_text}
+use Rattle.org_act.specs.Completing.{amended_by, amended_in, completed_text, own_text}
 use Rattle.org_act.specs.Laws.{ActsComplete, answered}
-use Rattle.org_act.specs.declared.completion.Completion.{Completion}
 use Rattle.org_base.specs.declared.fault.Fault.{Fault}
 use Rattle.org_complete.specs.Completion.{completed, completion_part, sized}
 use Rattle.org_complete.specs.Parts.{Part}

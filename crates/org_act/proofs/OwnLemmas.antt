@@ -3,7 +3,6 @@ use Rattle.std.proofs.Common.{◌≡◌, ◌∙◌, ℕ, ◌+◌, ◌<◌, ◌�
 use Rattle.std.specs.Prelude.{Result, Ok, Err}
 use Rattle.std.proofs.lemmas.Bool.Decides.{nat_tests}
 use Rattle.org_act.specs.Completing.{no_heading, own_part, own_text}
-use Rattle.org_act.specs.declared.act.Refusal.{Refusal}
 use Rattle.org_act.specs.declared.act.Refusal.TheVariants as refusal
 use Rattle.org_base.specs.declared.fault.Fault.{Fault}
 use Rattle.org_complete.specs.Parts.{Part}

@@ -1,7 +1,7 @@
 -- An act that is done to a file, and what stands there at each moment. `wanted` is the text that the act makes of the one that
 -- was read, or its refusal.
 use Rattle.std.specs.Prelude.{◌≡◌, ◌≢◌, ℕ, false, List, Result, Ok, Err, IfOk, IfErr}
-use Rattle.org_act.specs.Changes.{no_memory, with_change}
+use Rattle.org_act.specs.Changes.{LiesIn, no_memory, with_change}
 use Rattle.org_act.specs.declared.act.Refusal.{Refusal}
 use Rattle.org_act.specs.declared.amendment.Amended.{Amended}
 use Rattle.org_act.specs.declared.amendment.Unamended.{Unamended}
@@ -19,6 +19,7 @@ StaysAmended (Err why) before after = after ≡ before
 
 -- the target had the old text right before it was replaced by that with the change, which is the wanted one
 pub record IsAmended (wanted : Result (List ℕ) Refusal) (old : List ℕ) (before after : List Event) (amended : Amended) : Type 0 where
+  pub within : LiesIn old amended.change
   pub is_wanted : wanted ≡ Ok (with_change old amended.change)
   pub replaced : IsReplaced old (with_change old amended.change) amended.saved before after
 

@@ -1,5 +1,5 @@
 -- Events one after another, and what they leave as it is.
-use Rattle.std.proofs.Common.{◌≡◌, inl, List, ℕ, [], ◌∷◌, ◌++◌, refl, ◌∙◌, ap, append_assoc, Result, Ok, Err, IfErr, IsErrAnd, OnErr, sym}
+use Rattle.std.proofs.Common.{◌≡◌, List, [], ◌∷◌, ◌++◌, refl, ◌∙◌, ap, append_assoc, Result, Ok, Err, IfErr, IsErrAnd, OnErr, sym}
 use Rattle.org_save.specs.Calls.{AddsEither}
 use Rattle.org_save.specs.Contents.{Content, Contents, Differ, Leaves, LeaveAll, absent, after_event, after_events, content_at, lengthened, settled, torn, with_content, written}
 use Rattle.org_save.specs.Events.{Event, made, gave_access, wrote, tore, synced, found, found_former, renamed, removed, listed}

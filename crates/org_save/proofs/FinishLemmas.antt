@@ -1,7 +1,7 @@
 -- What stands there after a replacement.
-use Rattle.std.proofs.Common.{◌≡◌, List, ℕ, [], ◌∷◌, ◌++◌, refl, ◌∙◌, ap}
-use Rattle.org_save.specs.Contents.{Contents, absent, after_events, kept}
-use Rattle.org_save.specs.Events.{Event, found, listed, made, renamed}
+use Rattle.std.proofs.Common.{◌≡◌, List, ℕ, [], ◌∷◌, ◌++◌, ◌∙◌, ap}
+use Rattle.org_save.specs.Contents.{Contents, after_events}
+use Rattle.org_save.specs.Events.{Event, listed, made}
 use Rattle.org_save.specs.Replacing.{Finishes, IsReplaced, Says, StaysWhole, fill_events, swap_events}
 use Rattle.org_save.specs.declared.name.Name.TheVariants.{Target, Temporary}
 use Rattle.org_save.specs.declared.saved.Meanwhile.{Meanwhile}

@@ -76,8 +76,8 @@ pub record Finishes (old : List ℕ) (saved : Saved) (before after : List Event)
   pub meanwhile : Says old saved.meanwhile done
   pub durable : saved.durable ≡ true → IsListed done
 
--- the target was found to have the old text, after which it was replaced before anything else was done; it has the new text,
--- on the disk; no temporary file stands there; and what is said of the former file and of the folder is so
+-- the target was found to have the old text, and was then replaced before anything else was done. It has the new text, on
+-- the disk; no temporary file stands there; and what is said of the former file and of the folder is so
 pub record IsReplaced (old new : List ℕ) (saved : Saved) (before after : List Event) : Type 0 where
   pub later : List Event
   pub earlier : List Event

@@ -1,4 +1,4 @@
-use Rattle.std.proofs.Common.{◌∙◌, [], ◌∷◌}
+use Rattle.std.proofs.Common.{[], ◌∷◌}
 use Rattle.org_save.specs.Events.{made, tore, wrote}
 use Rattle.org_save.specs.declared.name.Name.TheVariants.{Rescue}
 use Rattle.org_save.proofs.EventLemmas.{either_failed, on_err, one_more}

@@ -1,4 +1,4 @@
-use Rattle.std.proofs.Common.{◌≡◌, List, [], ◌∷◌, subst, Bool}
+use Rattle.std.proofs.Common.{[], ◌∷◌, subst, Bool}
 use Rattle.org_save.specs.Calls.{IfGone}
 use Rattle.org_save.specs.Events.{made}
 use Rattle.org_save.specs.declared.name.Name.TheVariants.{Temporary}

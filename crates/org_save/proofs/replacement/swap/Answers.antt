@@ -1,4 +1,4 @@
-use Rattle.std.proofs.Common.{◌≡◌, inl, inr, [], ◌∷◌, ◌++◌, refl, sym, ◌∙◌}
+use Rattle.std.proofs.Common.{◌≡◌, inl, inr, ◌∷◌, ◌++◌, refl, sym, ◌∙◌}
 use Rattle.org_save.specs.Events.{found, renamed}
 use Rattle.org_save.specs.Replacing.{fill_events, swap_events}
 use Rattle.org_save.specs.declared.name.Name.TheVariants.{Target, Temporary}

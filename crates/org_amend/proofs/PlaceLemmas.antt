@@ -1,0 +1,48 @@
+-- Where a clock that begins is written, line by line.
+use Rattle.std.proofs.Common.{◌≡◌, ℕ, ◌+◌, Bool, true, false, ◌&&◌, List, [], ◌∷◌, length, sym, ◌∙◌, ap}
+use Rattle.std.specs.Prelude.{Option, None, if◌then◌else◌, is_some, slice_get}
+use Rattle.org_amend.proofs.RunningLemmas.{bytes_of}
+use Rattle.org_amend.specs.Places.{front_end, is_front, logbook_from, or_opened}
+use Rattle.org_class.specs.Drawers.{is_drawer_end}
+use Rattle.org_class.specs.declared.class.Class.{Class}
+use Rattle.org_lines.specs.Cuts.{Cut}
+
+-- one line further
+
+pub drawer_more : (drawer : Option ℕ) (cs : List Class) (place at : ℕ) (cuts later : List Cut) (cut : Cut) (l : List ℕ) (whole : Option ℕ) →
+    cuts ≡ cut ∷ later → l ≡ cut.bytes → logbook_from drawer cs place at (bytes_of cuts) ≡ whole →
+    (if is_some drawer && is_drawer_end l then drawer else logbook_from (or_opened drawer (slice_get cs place) at l) cs (place + 1) (at + length l) (bytes_of later)) ≡ whole
+unfolding logbook_from
+drawer_more drawer cs place at cuts later cut l whole steps is all = rw is (sym (ap (λ (c : List Cut). logbook_from drawer cs place at (bytes_of c)) steps) ∙ all)
+
+pub front_more : (cs : List Class) (place at : ℕ) (cuts later : List Cut) (cut : Cut) (l : List ℕ) (whole : ℕ) →
+    cuts ≡ cut ∷ later → l ≡ cut.bytes → front_end cs place at (bytes_of cuts) ≡ whole →
+    (if is_front (slice_get cs place) then front_end cs (place + 1) (at + length l) (bytes_of later) else at) ≡ whole
+unfolding front_end
+front_more cs place at cuts later cut l whole steps is all = rw is (sym (ap (λ (c : List Cut). front_end cs place at (bytes_of c)) steps) ∙ all)
+
+-- none is left
+
+pub drawer_none : (drawer : Option ℕ) (cs : List Class) (place at : ℕ) (cuts : List Cut) (whole : Option ℕ) → cuts ≡ [] →
+    logbook_from drawer cs place at (bytes_of cuts) ≡ whole → None ≡ whole
+unfolding logbook_from
+drawer_none drawer cs place at cuts whole none all = sym (ap (λ (c : List Cut). logbook_from drawer cs place at (bytes_of c)) none) ∙ all
+
+pub front_none : (cs : List Class) (place at : ℕ) (cuts : List Cut) (whole : ℕ) → cuts ≡ [] → front_end cs place at (bytes_of cuts) ≡ whole → at ≡ whole
+unfolding front_end
+front_none cs place at cuts whole none all = sym (ap (λ (c : List Cut). front_end cs place at (bytes_of c)) none) ∙ all
+
+-- by a test
+
+pub if_true : {A : Type 0} (b : Bool) (x y whole : A) → b ≡ true → (if b then x else y) ≡ whole → x ≡ whole
+if_true true x y whole h e = e
+if_true false x y whole h e = absurd cc
+
+pub if_false : {A : Type 0} (b : Bool) (x y whole : A) → b ≡ false → (if b then x else y) ≡ whole → y ≡ whole
+if_false false x y whole h e = e
+if_false true x y whole h e = absurd cc
+
+-- the drawer that is open is another way the same
+pub drawer_same : (found drawer : Option ℕ) (cs : List Class) (place at : ℕ) (cuts : List Cut) (whole : Option ℕ) → found ≡ drawer →
+    logbook_from drawer cs place at (bytes_of cuts) ≡ whole → logbook_from found cs place at (bytes_of cuts) ≡ whole
+drawer_same found drawer cs place at cuts whole same all = ap (λ d. logbook_from d cs place at (bytes_of cuts)) same ∙ all

@@ -1,0 +1,4 @@
+pub mod Clocks
+pub mod Examples
+pub mod Laws
+pub mod Places
