@@ -82,10 +82,11 @@ vim-test: $(PROGRAM) $(ORGQ)
 
 # What the programs do as they were last built where memory is refused, the stream is cut, reads and writes fail, and a file
 # is replaced on a real disk.
-faults: $(PROGRAM) $(PARTS)
+faults: $(PROGRAM) $(PARTS) $(ORGQ)
 	@sh tests/refused.sh $(PROGRAM) $(PARTS) calls
 	@sh tests/devices.sh $(PROGRAM)
 	@sh tests/saves.sh $(PARTS) append
+	@sh tests/saves.sh $(ORGQ) done
 
 bench: $(PROGRAM) $(PARTS) $(ORGQ)
 	@sh bench/run.sh $(PROGRAM) $(PARTS) $(ORGQ)

@@ -85,6 +85,7 @@ counted devices crates/orgviews/out/orgviews
 
 echo "gate: files that are replaced on a real disk"
 counted saves crates/org_measure/out/org_measure append
+counted saves crates/orgq/out/orgq done
 
 # What it cost: user and system time of all that was run, then how much of what.
 times > "$work/times"

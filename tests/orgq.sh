@@ -4,7 +4,8 @@
 # arguments, is asked of both programs: the files that it adds are written into a folder, and what `orgq` prints of each
 # must be the view. A case of tests/orgq is NAME.args, the arguments, one a line, NAME.stdout, what has to be written, and where they are
 # there NAME.status, the exit status (0 else), NAME.stderr, what has to stand on standard error, NAME.env, settings of the
-# environment, one a line, and NAME.sh, which is run in the folder first; the folder has the files of tests/orgq/files. Where
+# environment, one a line, NAME.sh, which is run in the folder first, and NAME.after, which is run there afterwards: what it
+# writes, as the bytes of a file that was changed, follows in NAME.stdout. The folder has the files of tests/orgq/files. Where
 # NAME.terminal is there the program is run on a terminal, by `script`, and what it writes to either stands in NAME.stdout.
 # Objects are read back by python3 where there is one, and held against docs/orgq-rows.schema.json. Then each control character in all that a file, a name and an argument
 # hold: none is written in any form but into a pipe, as in the file. Each refused growth of memory gives the answer all the
@@ -194,6 +195,7 @@ for expected in "$here"/orgq/*.stdout; do
         fi
     ) > "$room/out" 2> "$room/err"
     got=$?
+    [ ! -f "$given.after" ] || (cd "$folder" && . "$given.after") >> "$room/out" 2>> "$room/err"
     if [ "$got" -ne "$status" ]; then
         fail "$name: status $got, wanted $status: $(cat "$room/err")"
     elif ! cmp -s "$room/out" "$expected"; then
@@ -214,7 +216,7 @@ for expected in "$here"/orgq/*.stdout; do
         fi
     done < "$room/out"
     case $name in
-        check-* | keywords-* | tags-*) ;;
+        check-* | keywords-* | tags-* | done-* | set-*) ;;
         *) follow_schema "$name" ;;
     esac
 done
@@ -230,7 +232,7 @@ fi
 
 # Rows of a year, of lists, of what comes and of tables follow the schema.
 if command -v python3 > /dev/null 2>&1; then
-    for view in "agenda 2024" "agenda 2024-02 --profile 2" "todo" "match LEVEL>0" "next" "next --since 2024-01-01" "clock 2024 --effort --level 9 --step week"; do
+    for view in "agenda 2024" "agenda 2024-02 --profile 2" "todo" "match LEVEL>0" "next" "next --since 2024-01-01" "clock 2024 --effort --level 9 --step week" "clocks 2024"; do
         case $view in *--since*) set -- next --since "2024-01-01 0:00" ;; *) set -- $view ;; esac
         "$orgq" --at "2024-02-28 10:30" --json -f . "$@" > "$room/out" 2> "$room/err"
         [ -s "$room/out" ] || fail "$view has no rows: $(cat "$room/err")"
@@ -295,8 +297,9 @@ while [ "$number" -lt 160 ]; do
             printf '* K%s k%sk :v%sv:\n' "$of" "$of" "$of"
         } > "$number.org"
         printf '* TODO named\n' > "n${of}n.org"
-        for form in --json --csv --color=always "-n --color=always"; do
-            for view in "agenda" "todo" "todo K$of" "match LEVEL>0" "clock" "next" "keywords" "tags"; do
+        for form in --json --csv --color=always "-n --color=always" "--format {file}{category}{title}{tags}{keyword}{text}" "--json --properties area"; do
+            for view in "agenda" "agenda --grid" "calendar" "calendar week --columns=120" "todo" "todo K$of" "match LEVEL>0" "clock" "clocks" "next" "keywords" "tags"; do
+                case "$form $view" in --format*keywords | --format*tags | *properties*keywords | *properties*tags) continue ;; esac
                 # shellcheck disable=SC2086
                 "$orgq" --at "2024-02-28 10:30" $form --inherit area -f "$number.org" -f "n${of}n.org" ${view%% *} ${view#"${view%% *}"} > "$room/out" 2> "$room/err"
                 [ $? -eq 3 ] || fail "control character $number, $form $view: $(cat "$room/err")"
@@ -350,6 +353,8 @@ refuse_memory() {
 
 if shim=$(sh "$here/faults/build.sh" "$room" 2> /dev/null); then
     refuse_memory -f home.org -f work.org todo
+    refuse_memory -f home.org -f work.org calendar week --columns 100
+    refuse_memory -f home.org -f work.org agenda --grid
     refuse_memory --keywords "TODO | DONE" check --all ../../check/kinds.org ../../check/other.org
 else
     echo "orgq: refused growths of memory are left out: the shim of tests/faults can't be built here"
@@ -418,7 +423,7 @@ if command -v bash > /dev/null 2>&1; then
 fi
 
 # Each option of --help stands in each completion file.
-for command in "" agenda todo match clock next keywords tags check; do
+for command in "" agenda calendar todo match clock clocks next keywords tags check follow done set; do
     "$orgq" $command --help | grep -o -e '--[a-z]*' | sort -u
 done | sort -u > "$room/options"
 for file in "$here"/../contrib/completions/orgq.bash "$here"/../contrib/completions/_orgq "$here"/../contrib/completions/orgq.fish; do

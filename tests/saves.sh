@@ -1,6 +1,7 @@
 #!/bin/sh
-# Tries on real files a program that puts a line at the end of a file by one replacement: PROGRAM and its words, behind which
-# the path and the line are put. Its status is to be 0 where the line stands there, and 5 where nothing was changed.
+# Tries on real files a program that changes a file by one replacement: PROGRAM append, which puts a line at the end, or
+# PROGRAM done, which completes the heading on the first line. Its status is to be 0 where the change stands there, and 5 where
+# nothing was changed; of `done` also 3 where the file couldn't be read, and 4 where the change stands there and output failed.
 # Modes, links, pipes, read-only and locked files; each call on files failing with four errors, the program killed before each,
 # and another program writing in place before each (tests/save/shim.c); eight programs at once; a program killed at any time; a
 # device that is full, where one can be made. Nothing may be torn, and no line lost. The last line counts.
@@ -19,18 +20,32 @@ give_up() {
 }
 [ -x "$1" ] || give_up "there is no program $1"
 program=$(cd "$(dirname "$1")" && pwd)/$(basename "$1")
-shift
-words=$*
+kind=$2
+case $kind in
+    append) before='* One' after=x ;;
+    done) before='* TODO One' after='* DONE One' ;;
+    *) give_up "there is no kind $kind" ;;
+esac
 shim=$(sh "$here/save/build.sh" "$work") || give_up "the shim of tests/save can't be built here"
 cd "$work" || exit 2
 
-# The program over a path and a line, with what else is set before it.
+# The program over a path and a line or the number of one.
+run() {
+    if [ "$kind" = append ]; then
+        exec "$program" append "$1" "$2"
+    else
+        exec "$program" --at "2024-02-28 10:30" done "$1:$2"
+    fi
+}
+
+# The same over a path, with what is set before it.
 put() {
     path=$1
-    line=$2
-    shift 2
-    # shellcheck disable=SC2086
-    env "$@" "$program" $words "$path" "$line" > "$work/out" 2> "$work/err"
+    shift
+    (
+        [ $# -eq 0 ] || export "$@"
+        if [ "$kind" = append ]; then run "$path" x; else run "$path" 1; fi
+    ) > "$work/out" 2> "$work/err"
     status=$?
 }
 
@@ -38,7 +53,12 @@ put() {
 new() {
     rm -rf d
     mkdir d
-    printf '* One\n' > d/a.org
+    printf '%s\n' "$before" > d/a.org
+}
+
+# The line of a file that is changed.
+changed() {
+    if [ "$kind" = append ]; then tail -n 1 "$1"; else head -n 1 "$1"; fi
 }
 
 # What stands in the folder but the file.
@@ -57,99 +77,114 @@ is() {
 
 # Whether the last replacement was done, and left nothing beside it.
 is_done() {
-    is "$1" "$status $(tail -n 1 d/a.org) $(beside)" "0 x ${2:-}"
+    is "$1" "$status $(changed d/a.org) $(beside)" "0 $after ${2:-}"
 }
 
 # Whether it was refused, with the file as it was, beside which these stand.
 is_refused() {
-    is "$1" "$status $(cat d/a.org) $(beside)" "5 * One ${2:-}"
+    is "$1" "$status $(cat d/a.org) $(beside)" "5 $before ${2:-}"
 }
 
 echo "saves: modes, links and files that are none of its"
 for mode in 600 640 644 755 2664; do
     new
     chmod "$mode" d/a.org
-    put d/a.org x
+    put d/a.org
     is_done "mode $mode"
     is "mode $mode stays" "$(stat -c %a d/a.org)" "$mode"
 done
 new
-(umask 077 && put d/a.org x)
+(umask 077 && put d/a.org)
 is "a narrow umask" "$(stat -c %a d/a.org)" 644
 new
 chmod 444 d/a.org
-put d/a.org x
+put d/a.org
 is_refused "a read-only file"
 new
 ln d/a.org d/b.org
-put d/a.org x
+put d/a.org
 is_refused "a second name" "b.org "
 new
 mkdir e
 ln -s ../d/a.org e/l.org
-put e/l.org x
+put e/l.org
 is_done "a symbolic link"
 is "the link stays" "$(readlink e/l.org) $(ls -A e)" "../d/a.org l.org"
 rm -r e
 new
 ln -s a.org d/one
 ln -s one d/two
-put d/two x
+put d/two
 is_done "a link to a link" "one two "
 new
 ln -s nowhere d/none
-put d/none x
+put d/none
 is_refused "a link to nothing" "none "
 new
 mkfifo d/pipe
-put d/pipe x
+put d/pipe
 is_refused "a pipe" "pipe "
-put d x
+put d
 is_refused "a folder" "pipe "
-put /dev/null x
+put /dev/null
 is "a device" "$status" 5
 new
-put d/none.org x
+put d/none.org
 is_refused "no such file"
-new
-: > d/a.org
-put d/a.org x
-is_done "an empty file"
+if [ "$kind" = append ]; then
+    new
+    : > d/a.org
+    put d/a.org
+    is_done "an empty file"
+fi
+if command -v flock > /dev/null; then
+    new
+    flock d/a.org sleep 3 &
+    sleep 0.5
+    put d/a.org
+    is_refused "another program has the lock"
+    wait
+    put d/a.org
+    is_done "it has the lock no longer"
+fi
 new
 printf 'left' > d/.a.org.orgq
-put d/a.org x
+put d/a.org
 is_done "what a stopped program left"
 new
 ln -s 'ann@host.4711:1700000000' 'd/.#a.org'
-put d/a.org x
+put d/a.org
 is_refused "a lock of Emacs" ".#a.org "
 is "its owner is named" "$(grep -c 'ann@host' err)" 1
 new
 head -c 1008 /dev/zero | tr '\0' 'U' | sed 's/^UU/b0/' > d/.a.org.swp
-put d/a.org x
+put d/a.org
 is_refused "changes in Vim" ".a.org.swp "
 new
 { printf 'b0'; head -c 1006 /dev/zero; } > d/.a.org.swp
-put d/a.org x
+put d/a.org
 is_done "no changes in Vim" ".a.org.swp "
 name=$(head -c 251 /dev/zero | tr '\0' n).o
 new
-printf '* One\n' > "d/$name"
-put "d/$name" x
-is "a name without room for a longer one" "$status $(cat "d/$name")" "5 * One"
+mv d/a.org "d/$name"
+put "d/$name"
+is "a name without room for a longer one" "$status $(cat "d/$name")" "5 $before"
 new
 mv d/a.org "d/ä b.org"
-put "d/ä b.org" x
-is "a name with a space" "$status $(tail -n 1 "d/ä b.org")" "0 x"
+put "d/ä b.org"
+is "a name with a space" "$status $(changed "d/ä b.org")" "0 $after"
 
 # A file of some length, and what it was.
 long() {
     rm -rf d
     mkdir d
-    head -c "$1" /dev/zero | tr '\0' a > d/a.org
-    echo >> d/a.org
+    {
+        echo "$before"
+        head -c "$1" /dev/zero | tr '\0' a
+        echo
+    } > d/a.org
     cp d/a.org was
-    { cat was; echo x; } > will
+    if [ "$kind" = append ]; then { cat was; echo x; }; else { echo "$after"; tail -n +2 was; }; fi > will
 }
 
 # What the file holds: what it did, what it is to, or neither.
@@ -164,7 +199,7 @@ held() {
 }
 
 long 50000
-put d/a.org x LD_PRELOAD="$shim" FILE_CALLS="$work/count"
+put d/a.org LD_PRELOAD="$shim" FILE_CALLS="$work/count"
 calls=$(cat "$work/count" 2> /dev/null)
 [ "${calls:-0}" -gt 10 ] || give_up "no calls were counted"
 echo "saves: each of $calls calls on files fails, with four errors, or the program is killed before it"
@@ -174,23 +209,24 @@ for error in 5 28 13 4 none; do
         call=$((call + 1))
         long 50000
         if [ "$error" = none ]; then
-            { put d/a.org x LD_PRELOAD="$shim" FILE_FAILS="$call"; } 2> /dev/null
+            { put d/a.org LD_PRELOAD="$shim" FILE_FAILS="$call"; } 2> /dev/null
         else
-            put d/a.org x LD_PRELOAD="$shim" FILE_FAILS="$call" FILE_ERROR="$error"
+            put d/a.org LD_PRELOAD="$shim" FILE_FAILS="$call" FILE_ERROR="$error"
         fi
         case "$status $(held)" in
             "0 new" | "5 old" | "137 old" | "137 new") passed=$((passed + 1)) ;;
+            "3 old" | "4 new") is "error $error at call $call is one of done" "$kind" done ;;
             *)
                 failed=$((failed + 1))
                 echo "saves: error $error at call $call: status $status, $(held): $(cat "$work/err")"
                 ;;
         esac
-        if [ "$status" -ne 137 ] && [ -n "$(beside)" ] && ! grep -q 'left: true' err; then
+        if [ "$status" -ne 137 ] && [ -n "$(beside)" ] && ! grep -q 'left: true\|may be left' err; then
             failed=$((failed + 1))
             echo "saves: error $error at call $call: $(beside)is left, and not said"
         fi
-        put d/a.org x
-        is "error $error at call $call, and then another" "$status $(tail -n 1 d/a.org) $(beside)" "0 x "
+        put d/a.org
+        is_done "error $error at call $call, and then another"
     done
 done
 
@@ -201,38 +237,39 @@ refused=0
 while [ "$call" -lt "$calls" ]; do
     call=$((call + 1))
     long 50000
-    put d/a.org x LD_PRELOAD="$shim" FILE_WRITES="$call" FILE_TARGET=d/a.org
+    put d/a.org LD_PRELOAD="$shim" FILE_WRITES="$call" FILE_TARGET=d/a.org
     [ "$status" -ne 5 ] || refused=$((refused + 1))
     [ ! -e d/a.org.orgq1 ] || rescued=$((rescued + 1))
-    is "foreign line at call $call" "$(cat d/* | grep -c '^foreign$') $(grep -c '^x$' d/a.org)" "1 $((status == 0))"
+    is "foreign line at call $call" "$(cat d/* | grep -c '^foreign$') $(grep -c -x -F -e "$after" d/a.org)" "1 $((status == 0))"
     if [ -e d/a.org.orgq1 ]; then
-        is "kept line at call $call" "$(grep -c 'd/a.org.orgq1' err) $(wc -c < d/a.org.orgq1)" "1 50009"
+        is "kept line at call $call" "$(grep -c 'd/a.org.orgq1' err) $(wc -c < d/a.org.orgq1)" "1 $(($(wc -c < was) + 8))"
     fi
 done
 is "some were refused, and some kept" "$((refused > 0)) $((rescued > 0))" "1 1"
 echo "saves: of $calls writes of another program $refused were found before the rename and $rescued after it, none was lost"
 
 echo "saves: eight at once, five times"
-printf '* One\n' > d/b.org
-for round in 1 2 3 4 5; do
+if [ "$kind" = append ]; then echo '* One'; else seq 40 | sed 's/^/* TODO /'; fi > d/b.org
+for round in 0 1 2 3 4; do
     for each in 1 2 3 4 5 6 7 8; do
-        # shellcheck disable=SC2086
-        "$program" $words d/b.org "line $round $each" 2>> err8 &
+        number=$((round * 8 + each))
+        if [ "$kind" = append ]; then line="* DONE $number"; else line=$number; fi
+        run d/b.org "$line" > /dev/null 2>> err8 &
     done
     wait
 done
-is "all lines stand" "$(grep -c '^line' d/b.org)" 40
+is "all lines stand" "$(grep -c '^[*] DONE' d/b.org)" 40
 is "none stands twice" "$(sort d/b.org | uniq -d | wc -l)" 0
 
 echo "saves: killed at any time, fifty times"
 long 4000000
+if [ "$kind" = append ]; then number=x; else number=1; fi
 old=0
 made=0
 left=0
 for each in 0 1 2 3 4 5 6 7 8 9 10 11 12 13 14 15 16 17 18 19 20 21 22 23 24 25 26 27 28 29 30 31 32 33 34 35 36 37 38 39 40 41 42 43 44 45 46 47 48 49; do
     cp was d/a.org
-    # shellcheck disable=SC2086
-    "$program" $words d/a.org x 2> /dev/null &
+    run d/a.org "$number" > /dev/null 2>&1 &
     it=$!
     sleep "0.$(printf %03d $((each * 2)))"
     { kill -9 "$it" && wait "$it"; } 2> /dev/null
@@ -248,16 +285,16 @@ for each in 0 1 2 3 4 5 6 7 8 9 10 11 12 13 14 15 16 17 18 19 20 21 22 23 24 25 
     esac
 done
 cp was d/a.org
-put d/a.org x
+put d/a.org
 is_done "after those"
 echo "saves: $old times the old text stands, $made times the new one, $left times a temporary file was left"
 
 mkdir full
 if mount -t tmpfs -o size=80k tmpfs full 2> /dev/null; then
     echo "saves: a full device"
-    head -c 50000 /dev/zero | tr '\0' a > full/a.org
-    cp full/a.org was
-    put full/a.org x
+    long 50000
+    cp was full/a.org
+    put full/a.org
     is "a full device" "$status $(cmp full/a.org was && echo same) $(ls -A full)" "5 same a.org"
     umount full
 else

@@ -10,7 +10,7 @@ _orgq_kinds() {
 
 _orgq() {
     local word=${COMP_WORDS[COMP_CWORD]} before=${COMP_WORDS[COMP_CWORD-1]}
-    local options="--file --at --keywords --inherit --profile --places --json --days-too --csv --color --quiet --help"
+    local options="--file --name --at --keywords --inherit --profile --places --json --days-too --properties --csv --format --color --quiet --help"
     local rows="--match --tag --category --limit"
     local days="today tomorrow yesterday mon tue wed thu fri sat sun thisweek lastweek nextweek thismonth lastmonth nextmonth thisyear lastyear nextyear"
     local part command="" valued=""
@@ -20,8 +20,9 @@ _orgq() {
             continue
         fi
         case $part in
-            -f|--file|--at|--keywords|--inherit|--profile|--color|-d|--days|--level|--step|--match|--tag|--category|--limit|--from|--to|--within|--since|--lead|--only|--not|--severity) valued=1 ;;
-            agenda|todo|match|clock|next|keywords|tags|check) [ -n "$command" ] || command=$part ;;
+            -f|--file|--name|--at|--keywords|--inherit|--profile|--properties|--format|--color|-d|--days|--level|--step|--match|--tag|--category|--limit|--from|--to|--within|--since|--lead|--only|--not|--severity|--columns|--lines|--times) valued=1 ;;
+            follow) ;;
+            agenda|calendar|todo|match|clock|clocks|next|keywords|tags|check|done|set) [ -n "$command" ] || command=$part ;;
         esac
     done
     case $before in
@@ -33,18 +34,22 @@ _orgq() {
         --step) COMPREPLY=($(compgen -W "day week" -- "$word")); return ;;
         --from|--to) COMPREPLY=($(compgen -W "$days" -- "$word")); return ;;
         --tag) COMPREPLY=($(compgen -W "$(orgq tags 2> /dev/null)" -- "$word")); return ;;
-        --at|--keywords|--inherit|--days|--level|--within|--match|--category|--limit|--since|--lead|-d) return ;;
+        --name|--at|--keywords|--inherit|--properties|--format|--days|--level|--within|--match|--category|--limit|--since|--lead|--columns|--lines|--times|-d) return ;;
     esac
     case $command in
-        agenda) options="$options --days $rows" ;;
+        agenda) options="$options --days --grid --columns --ascii $rows" ;;
+        calendar) options="$options --columns --lines --ascii --match --tag --category" ;;
         todo|match) options="$options --limit" ;;
         clock) options="$options --from --to --level --step --effort --match --chart" ;;
+        clocks) options="$options --from --to" ;;
         next) options="$options --days --within --since --lead $rows" ;;
+        done|set) options="$options --match --dry-run" ;;
         check) options="$options --only --not --all --severity" ;;
-        "") options="$options --days $rows agenda todo match clock next keywords tags check" ;;
+        "") options="$options --days --times $rows agenda calendar todo match clock clocks next keywords tags check follow done set" ;;
     esac
     case $command in
-        agenda|clock) [ "${word#-}" != "$word" ] || options=$days ;;
+        agenda|clock|clocks) [ "${word#-}" != "$word" ] || options=$days ;;
+        calendar) [ "${word#-}" != "$word" ] || options="month week $days" ;;
         todo) [ "${word#-}" != "$word" ] || options=$(orgq keywords 2> /dev/null) ;;
     esac
     COMPREPLY=($(compgen -W "$options" -- "$word"))

@@ -1,4 +1,5 @@
 pub mod Ahead
+pub mod Amending
 pub mod Chosen
 pub mod Exit
 pub mod Limits

@@ -6,7 +6,7 @@ use Rattle.org_client.specs.Clean.{IsClean}
 use Rattle.org_client.specs.Visible.{visible}
 use Rattle.org_client.specs.declared.visible.Escape.TheVariants.{Caret}
 use Rattle.orgq.specs.declared.show.Form.{Form}
-use Rattle.orgq.specs.declared.show.Form.TheVariants.{Plain, Places, Json, Csv}
+use Rattle.orgq.specs.declared.show.Form.TheVariants.{Plain, Places, Json, Csv, Template}
 use Rattle.orgq.specs.declared.show.PrintOptions.{PrintOptions}
 use Rattle.org_layout.specs.declared.shown.Line.{Line}
 use Rattle.org_layout.specs.declared.shown.Line.TheVariants.{Day, Step, Row, Table}
@@ -42,6 +42,7 @@ is_safe Plain is_seen = is_seen
 is_safe Places is_seen = is_seen
 is_safe Json is_seen = true
 is_safe Csv is_seen = true
+is_safe (Template template) is_seen = true
 
 abbrev pub IsSafe : PrintOptions → Type 0
 IsSafe look = is_safe look.form look.is_seen ≡ true

@@ -7,7 +7,8 @@ use std::alloc::{AllocError, Global};
 // Options, one a line: the letter, the name, the name of the value and what it does, with semicolons between; of the first
 // two last fields some are empty. Those of all commands first, then those of one.
 const OF_ALL: &str = "\
-f;file;PATH;A file, or a folder, whose *.org files are meant
+f;file;PATH;A file, or a folder, whose *.org files are meant; - is standard input
+;name;NAME;The name of the text on standard input
 ;at;DATE TIME;The moment, as \"2024-02-28 10:30\"; without it now
 ;keywords;WORDS;Keywords of files without such a line, as \"TODO NEXT | DONE\"
 ;inherit;NAME;A property whose values headings inherit
@@ -15,13 +16,19 @@ f;file;PATH;A file, or a folder, whose *.org files are meant
 n;places;;FILE:LINE: in front of each row, as grep -n has it
 ;json;;A JSON object a row, one a line
 ;days-too;;With --json an object for each day too
+;properties;NAME,..;With --json these properties of headings too
 ;csv;;Fields with commas between them, a line a row
+;format;TEXT;A line a row with members of JSON in braces, as \"{start} {title}\"
 ;color;WHEN;Late rows and warnings stand out: auto, always or never
 q;quiet;;Nothing is printed; the status tells whether there is a row";
 
 const OF_TODAY: &str = "d;days;N;How many days of the agenda from today on, 1 to 366";
 
-const OF_AGENDA: &str = "d;days;N;How many days, 1 to 366";
+const OF_AGENDA: &str = "\
+d;days;N;How many days, 1 to 366
+;grid;;One day by its half hours, as a picture
+;columns;N;How wide the picture is, 20 to 1000; without it as COLUMNS says, else 80
+;ascii;;Signs that any terminal has, in place of those for boxes";
 
 // What chooses among the rows of agendas and of what comes next.
 const OF_ROWS: &str = "\
@@ -41,11 +48,27 @@ const OF_CLOCK: &str = "\
 ;match;EXPR;Only headings of which the expression holds count
 ;chart;;Bars: each row's part of the total, or with --step a line for each step";
 
+const OF_CALENDAR: &str = "\
+;columns;N;How wide it is, 20 to 1000; without it as COLUMNS says, else 80
+;lines;N;The most lines of a day of a month, 2 to 60; without it 6
+;ascii;;Signs that any terminal has, in place of those for boxes
+;match;EXPR;Only rows of headings of which the expression holds
+;tag;TAG;Only rows of headings with the tag; of several, with all of them
+;category;NAME;Only rows of headings of that category";
+
+const OF_CLOCKS: &str = "\
+;from;DATE;The first day, in place of a block
+;to;DATE;The last day; without it today";
+
 const OF_NEXT: &str = "\
 d;days;N;How many days from today on, 1 to 366; without it 30
 ;within;MINUTES;Only what begins in so many minutes, 0 to 100000
 ;since;DATE TIME;What begins after that moment and no later than now, each time of a stamp
 ;lead;MINUTES;With --since, so many minutes ahead, 0 to 100000";
+
+const OF_ACTS: &str = "\
+;match;EXPR;The heading of which the expression holds, in place of FILE:LINE
+;dry-run;;Nothing is written; the same is printed";
 
 const OF_CHECK: &str = "\
 ;only;KIND,..;These kinds of findings, in place of the usual ones
@@ -53,9 +76,12 @@ const OF_CHECK: &str = "\
 ;all;;Those kinds too that are not usual
 ;severity;SEVERITY;How severe a finding makes status 1: error, warning or note";
 
+const OF_FOLLOW: &str = ";times;N;So many views, and no more";
+
 // The commands.
-const COMMANDS: [&str; 8] = [
-    "agenda", "todo", "match", "clock", "next", "keywords", "tags", "check",
+const COMMANDS: [&str; 13] = [
+    "agenda", "calendar", "todo", "match", "clock", "clocks", "next", "keywords", "tags", "check",
+    "follow", "done", "set",
 ];
 
 /// Whether a word is the name of a command.
@@ -65,7 +91,10 @@ pub fn is_command(word: &str) -> bool {
 
 /// Whether an option that may stand before a command takes a value; its name or its letter says which one.
 pub fn takes_value(name: &str) -> bool {
-    is_valued(OF_ALL, name) || is_valued(OF_TODAY, name) || is_valued(OF_ROWS, name)
+    is_valued(OF_ALL, name)
+        || is_valued(OF_TODAY, name)
+        || is_valued(OF_ROWS, name)
+        || is_valued(OF_FOLLOW, name)
 }
 
 fn is_valued(options: &'static str, name: &str) -> bool {
@@ -84,11 +113,26 @@ fn has_value(line: &str) -> bool {
 
 /// The arguments that the program takes.
 pub fn command<'a>(alloc: Global) -> Result<Command<'a>, AllocError> {
-    program(alloc)?
+    let command = with_commands(alloc, program(alloc)?)?;
+    with_acts(alloc, command.subcommand(follow(alloc)?)?)
+}
+
+// Those that change files, after others.
+fn with_acts<'a>(alloc: Global, command: Command<'a>) -> Result<Command<'a>, AllocError> {
+    command
+        .subcommand(act_done(alloc)?)?
+        .subcommand(act_set(alloc)?)
+}
+
+// The commands that give a view or words.
+fn with_commands<'a>(alloc: Global, command: Command<'a>) -> Result<Command<'a>, AllocError> {
+    command
         .subcommand(agenda(alloc)?)?
+        .subcommand(calendar(alloc)?)?
         .subcommand(todo(alloc)?)?
         .subcommand(match_list(alloc)?)?
         .subcommand(clock(alloc)?)?
+        .subcommand(clocks(alloc)?)?
         .subcommand(next(alloc)?)?
         .subcommand(keywords(alloc)?)?
         .subcommand(tags(alloc)?)?
@@ -97,20 +141,30 @@ pub fn command<'a>(alloc: Global) -> Result<Command<'a>, AllocError> {
 
 // What stands in front of every command, and alone asks for today.
 fn program<'a>(alloc: Global) -> Result<Command<'a>, AllocError> {
+    let program = Command::new(alloc, "orgq").about(
+        "Agendas, lists and clock tables of your Org files, and what in them will not show; without a command today's agenda",
+    );
+    with_options(alloc, with_front(alloc, program)?, OF_ALL, true)
+}
+
+// What may stand in front of a command.
+fn with_front<'a>(alloc: Global, command: Command<'a>) -> Result<Command<'a>, AllocError> {
     let path = words(
         alloc,
         "PATH",
         "A file or folder, as -f; with a slash or .org in its name",
     );
-    let program = Command::new(alloc, "orgq")
-        .subcommand_precedence_over_arg(true)
-        .about(
-            "Agendas, lists and clock tables of your Org files, and what in them will not show; without a command today's agenda",
-        )
-        .arg(path)?;
-    let program = with_options(alloc, program, OF_TODAY, false)?;
-    let program = with_options(alloc, program, OF_ROWS, false)?;
-    with_options(alloc, program, OF_ALL, true)
+    let command = command.subcommand_precedence_over_arg(true).arg(path)?;
+    let command = with_options(alloc, command, OF_TODAY, false)?;
+    with_options(alloc, command, OF_ROWS, false)
+}
+
+fn follow<'a>(alloc: Global) -> Result<Command<'a>, AllocError> {
+    let follow = Command::new(alloc, "follow").about(
+        "The view of a command, anew when a file changed or a minute passed",
+    );
+    let follow = with_options(alloc, follow, OF_FOLLOW, false)?;
+    with_commands(alloc, with_front(alloc, follow)?)
 }
 
 fn agenda<'a>(alloc: Global) -> Result<Command<'a>, AllocError> {
@@ -123,6 +177,19 @@ fn agenda<'a>(alloc: Global) -> Result<Command<'a>, AllocError> {
     let agenda = agenda.arg(day.allow_hyphen_values(true))?;
     let agenda = with_options(alloc, agenda, OF_AGENDA, false)?;
     with_options(alloc, agenda, OF_ROWS, false)
+}
+
+fn calendar<'a>(alloc: Global) -> Result<Command<'a>, AllocError> {
+    let view = word(alloc, "VIEW", "month or week; without it the month");
+    let date = word(
+        alloc,
+        "DATE",
+        "A day in it: tomorrow, -1w, 2024-02-28, nextmonth; without it today",
+    );
+    let calendar = Command::new(alloc, "calendar").about("A month or a week as a picture");
+    let calendar = calendar.arg(view.allow_hyphen_values(true))?;
+    let calendar = calendar.arg(date.allow_hyphen_values(true))?;
+    with_options(alloc, calendar, OF_CALENDAR, false)
 }
 
 fn todo<'a>(alloc: Global) -> Result<Command<'a>, AllocError> {
@@ -152,6 +219,17 @@ fn clock<'a>(alloc: Global) -> Result<Command<'a>, AllocError> {
     with_options(alloc, clock, OF_CLOCK, false)
 }
 
+fn clocks<'a>(alloc: Global) -> Result<Command<'a>, AllocError> {
+    let block = word(
+        alloc,
+        "BLOCK",
+        "A block of time or a day, as of clock; without it this week",
+    );
+    let clocks = Command::new(alloc, "clocks").about("The clock lines of some days");
+    let clocks = clocks.arg(block.allow_hyphen_values(true))?;
+    with_options(alloc, clocks, OF_CLOCKS, false)
+}
+
 fn next<'a>(alloc: Global) -> Result<Command<'a>, AllocError> {
     let next = Command::new(alloc, "next").about("What comes next of each stamp, by time");
     let next = with_options(alloc, next, OF_NEXT, false)?;
@@ -170,6 +248,37 @@ fn check<'a>(alloc: Global) -> Result<Command<'a>, AllocError> {
     let files = words(alloc, "FILE", "A file or folder, as -f, of any name");
     let check = Command::new(alloc, "check").about("What looks planned and will not show");
     with_options(alloc, check.arg(files)?, OF_CHECK, false)
+}
+
+fn act_done<'a>(alloc: Global) -> Result<Command<'a>, AllocError> {
+    let done = Command::new(alloc, "done").about(
+        "A heading of a file is done: it gets a done keyword, or its stamps shift",
+    );
+    with_place(
+        alloc,
+        done,
+        "The done keyword; without it the first one of the heading's",
+    )
+}
+
+fn act_set<'a>(alloc: Global) -> Result<Command<'a>, AllocError> {
+    let set = Command::new(alloc, "set").about("A heading of a file gets a keyword");
+    with_place(alloc, set, "The keyword")
+}
+
+// What names a heading and a keyword.
+fn with_place<'a>(
+    alloc: Global,
+    command: Command<'a>,
+    keyword: &'static str,
+) -> Result<Command<'a>, AllocError> {
+    let place = word(
+        alloc,
+        "PLACE",
+        "The heading, as FILE:LINE; with --match the keyword stands here",
+    );
+    let command = command.arg(place)?.arg(word(alloc, "KEYWORD", keyword))?;
+    with_options(alloc, command, OF_ACTS, false)
 }
 
 fn word<'a>(alloc: Global, name: &'static str, help: &'static str) -> Arg<'a> {
@@ -208,12 +317,14 @@ fn option<'a>(alloc: Global, line: &'static str) -> Arg<'a> {
     }
     let arg = arg.value_name(value);
     match name {
-        "file" | "inherit" | "only" | "not" | "tag" => arg.action(ArgAction::Append),
-        "from" | "to" | "at" | "since" => arg.allow_hyphen_values(true),
-        "limit" => arg.value_parser(value_parser!(u32).range(1..=1_000_000)),
+        "file" | "inherit" | "only" | "not" | "tag" | "properties" => arg.action(ArgAction::Append),
+        "from" | "to" | "at" | "since" | "format" => arg.allow_hyphen_values(true),
+        "limit" | "times" => arg.value_parser(value_parser!(u32).range(1..=1_000_000)),
         "profile" => arg.value_parser(value_parser!(u32).range(1..=2)),
         "days" => arg.value_parser(value_parser!(u32).range(1..=i64::from(MOST_DAYS))),
         "level" => arg.value_parser(value_parser!(u32).range(1..=99)),
+        "columns" => arg.value_parser(value_parser!(u32).range(20..=1000)),
+        "lines" => arg.value_parser(value_parser!(u32).range(2..=60)),
         "within" | "lead" => arg.value_parser(value_parser!(u32).range(0..=100_000)),
         _ => arg,
     }

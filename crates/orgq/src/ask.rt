@@ -3,6 +3,7 @@ ghost use Rattle.std.specs.Prelude.{◌^◌, ◌<◌, IfSome};
 ghost use Rattle.org_client.specs.Files.{AreRead};
 ghost use Rattle.orgq.specs.Ahead.{IsLater};
 
+use crate::calendar::{Calendar, Canvas, asked_calendar};
 use crate::chart::clock_chart;
 use crate::clock::typed_moment;
 use crate::filters::{Filters, read_expression};
@@ -35,6 +36,10 @@ pub enum Query<'a> {
     Next(Days, Option<u32>),
     /// What begins within a window, and its days.
     Since(Window, Days),
+    /// A picture of a month or a week; in other forms its rows.
+    Calendar(Calendar),
+    /// A picture of a day by its half hours; in other forms its rows.
+    Hours(Days, Canvas),
 }
 
 impl<'a> Query<'a> {
@@ -44,6 +49,7 @@ impl<'a> Query<'a> {
             Query::Match(expression) => expression,
             Query::Clock(table) => table.expression,
             Query::Agenda(_) | Query::Todo(_) | Query::Next(..) | Query::Since(..) => "",
+            Query::Calendar(_) | Query::Hours(..) => "",
         }
     }
 
@@ -74,15 +80,19 @@ pub struct ClockQuery<'a> {
     pub is_chart: bool,
 }
 
-/// What the arguments ask for at a moment.
+/// What the arguments ask for at a moment, in so many columns.
 pub fn read_question<'a>(
     alloc: Global,
     matches: &ArgMatches<'a>,
     moment: &Moment,
+    columns: u16,
 ) -> Result<Query<'a>, Problem> {
     let days = matches.get_one::<u32>("days");
     match matches.subcommand() {
-        Some(("agenda", own)) => Ok(Query::Agenda(asked_days(own, days, moment)?)),
+        Some(("agenda", own)) => asked_agenda(own, asked_days(own, days, moment)?, columns),
+        Some(("calendar", own)) if days.is_none() => {
+            Ok(Query::Calendar(asked_calendar(own, moment, columns)?))
+        }
         Some(("next", own)) => asked_next(own, days, moment),
         None => Ok(Query::Agenda(days_from(moment.day, days.unwrap_or(1))?)),
         Some(_) if days.is_some() => Err(Problem::DaysOf),
@@ -102,6 +112,20 @@ fn asked_list<'a>(
         "match" => Ok(Query::Match(own.get_str("EXPR").unwrap_or(""))),
         _ => asked_table(alloc, own, moment),
     }
+}
+
+// An agenda, or a day by its half hours.
+fn asked_agenda<'a>(own: &ArgMatches<'a>, days: Days, columns: u16) -> Result<Query<'a>, Problem> {
+    if !own.get_flag("grid") {
+        return Ok(Query::Agenda(days));
+    }
+    if days.count != 1 {
+        return Err(Problem::Grid);
+    }
+    if own.get_one::<u32>("limit").is_some() {
+        return Err(Problem::GridLimit);
+    }
+    Ok(Query::Hours(days, Canvas::of(own, columns)))
 }
 
 fn asked_days(own: &ArgMatches<'_>, days: Option<u32>, moment: &Moment) -> Result<Days, Problem> {
@@ -216,8 +240,8 @@ fn table_count(period: &Period, step: Step) -> usize {
     count
 }
 
-// The days of a clock table: those of a block, or from one day to another.
-fn asked_period(own: &ArgMatches<'_>, today: Day) -> Result<Period, Problem> {
+/// The days of a clock table or a list of clock lines: those of a block, or from one day to another.
+pub fn asked_period(own: &ArgMatches<'_>, today: Day) -> Result<Period, Problem> {
     let block = own.get_str("BLOCK");
     let Some(from) = own.get_str("from") else {
         if own.get_str("to").is_some() {
@@ -249,7 +273,8 @@ pub fn read_filters<'a, 'b>(matches: &'b ArgMatches<'a>) -> Result<Filters<'a, '
     let front = Filters::of(matches);
     match matches.subcommand() {
         None => Ok(front),
-        Some(("agenda" | "next", own)) => Ok(Filters::of(own).or(&front)),
+        Some(("calendar", _)) if front.limit.is_some() => Err(Problem::LimitOf),
+        Some(("agenda" | "next" | "calendar", own)) => Ok(Filters::of(own).or(&front)),
         Some(_) if front.chooses() => Err(Problem::FilterOf),
         Some(("todo" | "match", own)) => {
             let limit = own.get_one::<u32>("limit").or(front.limit);
@@ -269,6 +294,20 @@ pub struct Question<'a, 'b> {
     pub expressions: &'a [Match],
 }
 
+impl<'a> Question<'a, '_> {
+    /// Which stamps agendas look at.
+    pub fn chosen(&self) -> Chosen<'a> {
+        Chosen {
+            as_of: AsOf {
+                profile: self.profile,
+                today: self.moment.day,
+            },
+            expressions: self.expressions,
+            moment: self.moment,
+        }
+    }
+}
+
 /// Whether a question can be answered: its expression and its options are such.
 pub fn check(alloc: Global, question: &Question<'_, '_>) -> Result<(), Fault> {
     match question.asked {
@@ -279,6 +318,7 @@ pub fn check(alloc: Global, question: &Question<'_, '_>) -> Result<(), Fault> {
             check_options(alloc, table.options.as_str(), question.moment.day)?;
         }
         Query::Agenda(_) | Query::Todo(_) | Query::Next(..) | Query::Since(..) => {}
+        Query::Calendar(_) | Query::Hours(..) => {}
     }
     Ok(())
 }
@@ -300,16 +340,11 @@ pub fn answer(
     requires read { AreRead inherits.now }
 {
     let now = question.moment;
-    let chosen = Chosen {
-        as_of: AsOf {
-            profile: question.profile,
-            today: question.moment.day,
-        },
-        expressions: question.expressions,
-        moment: question.moment,
-    };
+    let chosen = question.chosen();
     match question.asked {
         Query::Agenda(days) => agenda_days(alloc, inherits, &chosen, *days),
+        Query::Calendar(calendar) => agenda_days(alloc, inherits, &chosen, calendar.days),
+        Query::Hours(days, _) => agenda_days(alloc, inherits, &chosen, *days),
         Query::Todo(words) => todo_list(alloc, inherits, words),
         Query::Match(expression) => match_answer(alloc, inherits, expression, now),
         Query::Clock(table) => clock(alloc, inherits, table, now),

@@ -70,6 +70,15 @@ fn table_of(
     Ok(answer)
 }
 
+// What stands in front of each row of a table.
+#[derive(Clone, Copy)]
+enum Front {
+    // Its part of the total, and a bar.
+    Part,
+    // The sign of its file.
+    Sign,
+}
+
 // The rows of a table, each after its part of the total and its bar.
 fn rows_chart(
     alloc: Global,
@@ -79,35 +88,65 @@ fn rows_chart(
 ) -> Result<Answer, Fault>
     requires at_most { length files.now ≤ MOST_FILES }
 {
-    let period = chart.period;
-    let rows = step_rows(alloc, &period, chart.most, files)?;
+    let rows = step_rows(alloc, &chart.period, chart.most, files)?;
+    table_with(alloc, inherits, chart, rows.as_slice(), Front::Part)
+}
+
+// The table of some rows, each with something in front.
+fn table_with(
+    alloc: Global,
+    inherits: &Inherits<'_>,
+    chart: &Chart,
+    rows: &[TableRow],
+    front: Front,
+) -> Result<Answer, Fault> {
     let step = TableStep {
-        period: &period,
-        rows: rows.as_slice(),
+        period: &chart.period,
+        rows,
     };
     let table = table_of(alloc, inherits, chart.with_effort, &step)?;
-    let text = with_bars(alloc, table.text.as_str(), rows.as_slice())?;
+    let text = with_fronts(alloc, table.text.as_str(), rows, front)?;
     Ok(Answer {
         text,
         lines: table.lines,
     })
 }
 
-// The lines of a table, whose first one names its days and whose others are its rows, with bars.
-fn with_bars(alloc: Global, table: &str, rows: &[TableRow]) -> Result<String, AllocError> {
+// The lines of a table, whose first one names its days and whose others are its rows, with something in front of these.
+fn with_fronts(
+    alloc: Global,
+    table: &str,
+    rows: &[TableRow],
+    front: Front,
+) -> Result<String, AllocError> {
     let total = rows.first().map_or(0, |row| row.clock);
     let mut text = String::new(alloc);
     let mut rows = rows;
     for (place, line) in table.split_inclusive('\n').enumerate() {
         if place > 0 {
             if let [row, rest @ ..] = rows {
-                push_part(&mut text, row.clock, total)?;
+                push_front(&mut text, front, row, total)?;
                 rows = rest;
             }
         }
         text.push_str(line)?;
     }
     Ok(text)
+}
+
+fn push_front(
+    out: &mut String,
+    front: Front,
+    row: &TableRow,
+    total: u64,
+) -> Result<(), AllocError> {
+    match front {
+        Front::Part => push_part(out, row.clock, total),
+        Front::Sign => {
+            push_signs(out, sign_of(row.of), 2)?;
+            out.push(' ')
+        }
+    }
 }
 
 // Appends a part of the total, in hundredths and as a bar.
@@ -266,19 +305,9 @@ fn file_rows(
 ) -> Result<Answer, Fault>
     requires at_most { length files.now ≤ MOST_FILES }
 {
-    let period = chart.period;
-    let all = step_rows(alloc, &period, chart.most, files)?;
+    let all = step_rows(alloc, &chart.period, chart.most, files)?;
     let rows = without_headings(alloc, all.as_slice())?;
-    let step = TableStep {
-        period: &period,
-        rows: rows.as_slice(),
-    };
-    let table = table_of(alloc, inherits, chart.with_effort, &step)?;
-    let text = with_signs(alloc, table.text.as_str(), rows.as_slice())?;
-    Ok(Answer {
-        text,
-        lines: table.lines,
-    })
+    table_with(alloc, inherits, chart, rows.as_slice(), Front::Sign)
 }
 
 fn without_headings(alloc: Global, rows: &[TableRow]) -> Result<Vec<TableRow>, AllocError> {
@@ -289,23 +318,6 @@ fn without_headings(alloc: Global, rows: &[TableRow]) -> Result<Vec<TableRow>, A
         }
     }
     Ok(kept)
-}
-
-// The lines of a table, whose first one names its days, with the sign of its file before each other.
-fn with_signs(alloc: Global, table: &str, rows: &[TableRow]) -> Result<String, AllocError> {
-    let mut text = String::new(alloc);
-    let mut rows = rows;
-    for (place, line) in table.split_inclusive('\n').enumerate() {
-        if place > 0 {
-            if let [row, rest @ ..] = rows {
-                push_signs(&mut text, sign_of(row.of), 2)?;
-                text.push(' ')?;
-                rows = rest;
-            }
-        }
-        text.push_str(line)?;
-    }
-    Ok(text)
 }
 
 fn sign_of(of: Of) -> &'static str {

@@ -3,10 +3,11 @@
 use crate::checked::CheckedFiles;
 use crate::exit::{BAD_ARGUMENTS, check_status};
 use crate::findings::report_of;
+use crate::options::without_rows;
 use crate::out::print_all;
 use crate::problem::Problem;
 use crate::say::say;
-use crate::sources::{load_all, paths};
+use crate::sources::{Reading, load_all, paths};
 use clap::ArgMatches;
 use org_cal::Moment;
 use org_check::{Form, Selection, Severity, Wanted, kind_names, unknown_kind};
@@ -14,7 +15,7 @@ use std::alloc::{AllocError, Global};
 use std::rt::{Env, Files};
 
 /// Checks the files that the arguments name, and gives the exit status; `own` are the words of the command itself.
-pub fn check_files<R: AllocGlobal + Files + Env + Print + Eprint + Clone + Drop>(
+pub fn check_files<R: AllocGlobal + Files + Env + Input + Print + Eprint + Clone + Drop>(
     rt: &R,
     matches: &ArgMatches<'_>,
     own: &ArgMatches<'_>,
@@ -30,8 +31,7 @@ pub fn check_files<R: AllocGlobal + Files + Env + Print + Eprint + Clone + Drop>
     };
     let mut files = CheckedFiles::new(rt.alloc());
     let paths = paths(rt, matches, own.get_strs("FILE").unwrap_or(&[]))?;
-    let keywords = matches.get_str("keywords");
-    let left_out = load_all(rt, &mut files, paths.as_slice(), keywords)?;
+    let left_out = load_all(rt, &mut files, paths.as_slice(), &Reading::of(matches))?;
     let report = report_of(rt.alloc(), &files, &wanted, now.minute())?;
     let status = check_status(report.counts, left_out);
     if matches.get_flag("quiet") {
@@ -91,6 +91,7 @@ fn form(matches: &ArgMatches<'_>) -> Result<Form, Problem> {
     if matches.get_one::<u32>("days").is_some() {
         return Err(Problem::DaysOf);
     }
+    without_rows(matches)?;
     if matches.get_flag("csv") {
         return Err(Problem::Fields);
     }

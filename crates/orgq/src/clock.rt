@@ -11,15 +11,7 @@ use std::fs;
 use std::rt::{Env, Files};
 use std::time::Clock;
 
-/// The moment that a text spells: a date, one space and a time.
-pub fn moment(text: &str) -> Option<Moment> {
-    let Some((date, time)) = text.split_once(' ') else {
-        return None;
-    };
-    Moment::read(date.as_bytes(), time.as_bytes()).ok()
-}
-
-/// The same where the date is said as people type it on a day.
+/// The moment that a text spells whose date is said as people type it on a day: the date, one space and a time.
 pub fn typed_moment(text: &str, today: Day) -> Option<Moment> {
     let Some((date, time)) = text.split_once(' ') else {
         return None;

@@ -10,6 +10,7 @@ use std::rt::Env;
 #[derive(Clone, Copy, Debug)]
 pub enum Variable {
     Colors,
+    Columns,
     Config,
     Files,
     Home,
@@ -22,6 +23,7 @@ impl Variable {
     fn name(self) -> &'static str {
         match self {
             Variable::Colors => "NO_COLOR",
+            Variable::Columns => "COLUMNS",
             Variable::Config => "XDG_CONFIG_HOME",
             Variable::Files => "ORGQ_FILES",
             Variable::Home => "HOME",
@@ -35,6 +37,7 @@ impl Variable {
     pub fn why(self) -> &'static str {
         match self {
             Variable::Colors => "NO_COLOR isn't UTF-8",
+            Variable::Columns => "COLUMNS isn't UTF-8",
             Variable::Config => "XDG_CONFIG_HOME isn't UTF-8",
             Variable::Files => "ORGQ_FILES isn't UTF-8",
             Variable::Home => "HOME isn't UTF-8",

@@ -23,6 +23,16 @@ impl From<AllocError> for LeftOut {
     }
 }
 
+impl From<Fault> for LeftOut {
+    fn from(fault: Fault) -> LeftOut {
+        match fault.code() {
+            Code::Memory => LeftOut::Memory,
+            Code::Size => LeftOut::Because(TOO_LONG),
+            code => LeftOut::Because(code.name()),
+        }
+    }
+}
+
 /// Where a file is named, and the path by which it is told from others.
 #[derive(Clone, Copy, Debug)]
 pub struct Named<'a> {
@@ -83,24 +93,45 @@ pub fn load<R: AllocGlobal + Files, S: FileSink>(
     named: Named<'_>,
     keywords: Option<&str>,
 ) -> Result<(), LeftOut> {
-    if named.name.chars().any(|character| character.is_control()) {
+    let text = read_text(rt, named.name)?;
+    Ok(set.take(rt.alloc(), named, text, keywords)?)
+}
+
+/// Reads standard input to its end and adds it to a set under a name, as [`load`] does a file.
+pub fn load_input<R: AllocGlobal + Input, S: FileSink>(
+    rt: &R,
+    set: &mut S,
+    named: Named<'_>,
+    keywords: Option<&str>,
+) -> Result<(), LeftOut> {
+    check_name(named.name)?;
+    let mut bytes = Vec::new(rt.alloc());
+    let mut input = rt.reader().take(MAX_BYTES as u64 + 1);
+    let bytes = as_text(input.read_to_end(&mut bytes), bytes)?;
+    Ok(set.take(rt.alloc(), named, text_of(bytes)?, keywords)?)
+}
+
+/// The text of a file, whole.
+pub fn read_text<R: AllocGlobal + Files>(rt: &R, name: &str) -> Result<String, LeftOut> {
+    check_name(name)?;
+    match fs::open(rt, name) {
+        Ok(mut file) => text_of(read_whole(rt.alloc(), &mut file)?),
+        Err(error) => Err(why_closed(error.kind())),
+    }
+}
+
+fn text_of(bytes: Vec<u8>) -> Result<String, LeftOut> {
+    match String::from_utf8(bytes) {
+        Ok(text) => Ok(text),
+        Err(_) => Err(LeftOut::Because("not UTF-8")),
+    }
+}
+
+fn check_name(name: &str) -> Result<(), LeftOut> {
+    if name.chars().any(|character| character.is_control()) {
         return Err(LeftOut::Because("a control character in its name"));
     }
-    let bytes = match fs::open(rt, named.name) {
-        Ok(mut file) => read_whole(rt.alloc(), &mut file)?,
-        Err(error) => return Err(why_closed(error.kind())),
-    };
-    let Ok(text) = String::from_utf8(bytes) else {
-        return Err(LeftOut::Because("not UTF-8"));
-    };
-    match set.take(rt.alloc(), named, text, keywords) {
-        Ok(()) => Ok(()),
-        Err(fault) => match fault.code() {
-            Code::Memory => Err(LeftOut::Memory),
-            Code::Size => Err(LeftOut::Because(TOO_LONG)),
-            code => Err(LeftOut::Because(code.name())),
-        },
-    }
+    Ok(())
 }
 
 fn why_closed(kind: ErrorKind) -> LeftOut {
@@ -117,7 +148,13 @@ const TOO_LONG: &str = "more than 64 MiB";
 /// The bytes that a file has left, if they are no more than a text may have.
 pub fn read_whole<F: Read + OpenFile>(alloc: Global, file: &mut F) -> Result<Vec<u8>, LeftOut> {
     let mut bytes = Vec::with_capacity(alloc, room_for(file))?;
-    match file.take(MAX_BYTES as u64 + 1).read_to_end(&mut bytes) {
+    let read = file.take(MAX_BYTES as u64 + 1).read_to_end(&mut bytes);
+    as_text(read, bytes)
+}
+
+// The bytes that were read, if the read ended well and they are no more than a text may have.
+fn as_text(read: io::Result<usize>, bytes: Vec<u8>) -> Result<Vec<u8>, LeftOut> {
+    match read {
         Ok(_) if bytes.len() > MAX_BYTES => Err(LeftOut::Because(TOO_LONG)),
         Ok(_) => Ok(bytes),
         Err(error) if error.kind() == ErrorKind::OutOfMemory => Err(LeftOut::Memory),

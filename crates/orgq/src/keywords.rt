@@ -10,21 +10,30 @@ use std::str;
 
 /// A text with a line of keywords after it, where it has none of its own. Setting lines count wherever they stand, so every
 /// place of the text stays what it was.
-pub fn with_keywords(alloc: Global, text: String, words: &str) -> Result<String, Fault> {
-    if names_keywords(alloc, text.as_str())? {
-        return Ok(text);
-    }
-    Ok(with_line(text, words)?)
+pub fn with_keywords(alloc: Global, mut text: String, words: &str) -> Result<String, Fault> {
+    let line = line_behind(alloc, text.as_str(), words)?;
+    text.push_str(line.as_str())?;
+    Ok(text)
 }
 
-fn with_line(mut text: String, words: &str) -> Result<String, AllocError> {
-    if !text.as_str().is_empty() && !text.as_str().ends_with('\n') {
-        text.push_str("\n")?;
+/// The line of keywords that is read after a text; none where the text has keywords of its own.
+pub fn line_behind(alloc: Global, text: &str, words: &str) -> Result<String, Fault> {
+    if names_keywords(alloc, text)? {
+        return Ok(String::new(alloc));
     }
-    text.push_str("#+TODO: ")?;
-    text.push_str(words)?;
-    text.push_str("\n")?;
-    Ok(text)
+    let line = String::new(alloc);
+    Ok(with_line(line, text, words)?)
+}
+
+// A string with a line of keywords at its end, as it stands after a text.
+fn with_line(mut line: String, text: &str, words: &str) -> Result<String, AllocError> {
+    if !text.is_empty() && !text.ends_with('\n') {
+        line.push_str("\n")?;
+    }
+    line.push_str("#+TODO: ")?;
+    line.push_str(words)?;
+    line.push_str("\n")?;
+    Ok(line)
 }
 
 // Whether a text names keywords of its own. Where it has blocks the line that does may stand in one, and is text then.
@@ -35,7 +44,10 @@ fn names_keywords(alloc: Global, text: &str) -> Result<bool, Fault> {
     if !text.split('\n').any(|line| begins_block(line)) {
         return Ok(true);
     }
-    are_before(alloc, with_line(String::from_str(alloc, text)?, PROBE)?)
+    are_before(
+        alloc,
+        with_line(String::from_str(alloc, text)?, text, PROBE)?,
+    )
 }
 
 // A keyword that no file has.

@@ -2,31 +2,46 @@
 //! The program `orgq`: agendas, lists and clock tables of one's own files, and what in them will not show.
 #![tactic(auto)]
 
+mod act;
+mod amending;
 mod arguments;
 mod ask;
+mod calendar;
 mod chart;
 mod check;
 mod checked;
 mod clock;
+mod clocks;
 mod environment;
 mod exit;
 mod files;
 mod filters;
 mod findings;
+mod follow;
+mod heading;
+mod hours;
 mod joined;
 mod keywords;
+mod labels;
 mod limits;
+mod names;
+mod one_match;
 mod options;
 mod out;
+mod picture;
+mod place;
 mod problem;
+mod refusals;
 mod rows_ahead;
 mod say;
 mod session;
 mod show;
 mod sources;
 mod table;
+mod unwritten;
 mod usage;
 mod view;
+mod wish;
 mod words;
 
 use crate::arguments::command;
@@ -36,6 +51,7 @@ use crate::say::{out_of_memory, say};
 use crate::session::run;
 use crate::usage::parser_said;
 use std::env;
+use std::fs::File;
 use std::io::{ErrorKind, IsTerminal};
 use std::process::ExitCode;
 use std::rt::{Env, Files};
@@ -60,7 +76,7 @@ fn main(rt: HostRuntime) -> ExitCode {
 }
 
 // Reads the arguments, and gives the exit status.
-fn start<R: AllocGlobal + Files + Env + Clock + Print + Eprint + Clone + Drop>(
+fn start<R: AllocGlobal + Files<File = File> + Env + Clock + Input + Print + Eprint + Clone + Drop>(
     rt: &R,
     words: &[String],
     on_terminal: bool,

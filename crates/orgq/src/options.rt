@@ -1,12 +1,29 @@
 //! What the arguments ask for.
 
+use crate::problem::Problem;
 use crate::show::Form;
 use clap::ArgMatches;
 use org_base::{Fault, Profile, Texts};
+use org_client::Template;
 use std::alloc::{AllocError, Global};
+use std::collections::BTreeSet;
 
-/// The form that the options name: of several the first in this order counts.
-pub fn form(matches: &ArgMatches<'_>) -> Form {
+/// The form that the options name: of several the first in this order counts, but `--format` stands alone.
+pub fn form<'a>(matches: &ArgMatches<'a>) -> Result<Form<'a>, Problem> {
+    let Some(text) = matches.get_str("format") else {
+        return Ok(named_form(matches));
+    };
+    if named_form(matches) != Form::Plain {
+        return Err(Problem::FormatBeside);
+    }
+    match Template::read(text) {
+        Some(template) => Ok(Form::Template(template)),
+        None => Err(Problem::Format),
+    }
+}
+
+/// The form without a template.
+pub fn named_form<'a>(matches: &ArgMatches<'a>) -> Form<'a> {
     if matches.get_flag("csv") {
         Form::Csv
     } else if matches.get_flag("json") {
@@ -46,6 +63,58 @@ pub fn texts(alloc: Global, words: Option<&[&str]>) -> Result<Texts, Fault> {
         }
     }
     Ok(texts)
+}
+
+/// The words of `--properties`, which are for objects of JSON alone.
+pub fn property_words<'a, 'b>(
+    matches: &'b ArgMatches<'a>,
+) -> Result<Option<&'b [&'a str]>, Problem> {
+    let Some(words) = matches.get_strs("properties") else {
+        return Ok(None);
+    };
+    let is_named = words.iter().all(|word| are_names(word));
+    if !is_named || named_form(matches) != Form::Json {
+        return Err(Problem::Properties);
+    }
+    Ok(Some(words))
+}
+
+// Whether a word has names with commas between them.
+fn are_names(word: &str) -> bool {
+    word.split(',').all(|name| !name.is_empty())
+}
+
+/// The names in such words, with commas between them, each once.
+pub fn property_names(alloc: Global, words: Option<&[&str]>) -> Result<Texts, Fault> {
+    let mut known = BTreeSet::new(alloc);
+    let mut names = Texts::new(alloc);
+    for word in words.unwrap_or(&[]) {
+        for name in word.split(',') {
+            push_name(alloc, &mut names, &mut known, name)?;
+        }
+    }
+    Ok(names)
+}
+
+fn push_name(
+    alloc: Global,
+    names: &mut Texts,
+    known: &mut BTreeSet<String>,
+    name: &str,
+) -> Result<(), Fault> {
+    if known.contains(name) {
+        return Ok(());
+    }
+    known.insert(String::from_str(alloc, name)?)?;
+    names.push(name.as_bytes())
+}
+
+/// Refuses what is for rows alone, where a command has none.
+pub fn without_rows(matches: &ArgMatches<'_>) -> Result<(), Problem> {
+    if matches.get_str("format").is_some() || matches.get_strs("properties").is_some() {
+        return Err(Problem::RowsAlone);
+    }
+    Ok(())
 }
 
 /// Whether a word of the command line can't be mistaken: it names a file or a folder.

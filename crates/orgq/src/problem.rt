@@ -10,6 +10,8 @@ use unicode_width::UnicodeWidthStr;
 /// Why nothing is answered.
 #[derive(Clone, Copy, Debug)]
 pub enum Problem {
+    /// A form is asked for that what `done` and `set` print doesn't have.
+    ActForm,
     Block,
     /// The category of `--category` has a quotation mark.
     Category,
@@ -29,12 +31,36 @@ pub enum Problem {
     Files,
     /// What chooses rows stands before a command that chooses none.
     FilterOf,
+    /// Options of some commands stand before follow.
+    FollowFront,
+    /// What standard input says is asked for again and again.
+    FollowInput,
+    /// A template has a brace alone, or a name that no member has.
+    Format,
+    /// A template and another form.
+    FormatBeside,
     From,
+    /// The hours of several days are asked for.
+    Grid,
+    /// Some rows of a picture are asked for.
+    GridLimit,
     Lead,
     LimitOf,
     List,
     Moment,
+    /// A name of a text on standard input, and there is none.
+    Name,
+    /// No keyword stands behind the place of a heading.
+    NoKeyword,
     Order,
+    /// A word is no place of a heading.
+    Place,
+    /// A heading is named twice.
+    PlaceBeside,
+    /// Properties in another form than JSON, or without names.
+    Properties,
+    /// What is for rows, of a command that has none.
+    RowsAlone,
     Severity,
     Since,
     SinceBeside,
@@ -44,6 +70,8 @@ pub enum Problem {
     Tables,
     Tag,
     To,
+    /// A calendar is asked for of something else than a month or a week.
+    View,
     Zone,
     Fault(Fault),
 }
@@ -64,9 +92,10 @@ impl Problem {
     /// What standard error says of it.
     fn why(self) -> &'static str {
         match self {
+            Problem::ActForm => "done and set print lines: --json and --csv are no forms of theirs",
             Problem::Block => NO_BLOCK,
             Problem::Category => "a category of --category has no quotation mark in it",
-            Problem::Chart => "--chart has lines alone, without -n, --json and --csv",
+            Problem::Chart => "--chart has lines alone, without -n, --json, --csv and --format",
             Problem::Clock => {
                 "neither clock nor time zone can be read (TZ, /etc/localtime): --at names the moment"
             }
@@ -82,6 +111,13 @@ impl Problem {
             Problem::Fields => "--csv is no form of check, which has lines and --json",
             Problem::Files => "no files: name them by -f, ORGQ_FILES or ~/.config/orgq/files",
             Problem::FilterOf => "--match, --tag and --category are options of agenda and next",
+            Problem::FollowFront => "files without -f and options of rows stand after follow",
+            Problem::FollowInput =>
+                "follow reads files again and again, and standard input only once",
+            Problem::Format => NO_FORMAT,
+            Problem::FormatBeside => "--format goes neither with --json nor with --csv nor with -n",
+            Problem::Grid => "--grid shows one day",
+            Problem::GridLimit => "--grid shows all rows of a day, without --limit",
             Problem::From => "--from names the first day in place of a block",
             Problem::Lead => "--lead wants --since",
             Problem::LimitOf => "--limit is an option of agenda, next, todo and match",
@@ -91,7 +127,16 @@ impl Problem {
             Problem::Moment => {
                 "no such moment: --at takes one as \"2024-02-28 10:30\" or \"tomorrow 9:00\""
             }
+            Problem::Name => "--name names the text of -f -",
+            Problem::NoKeyword => "set takes a keyword: set FILE:LINE KEYWORD",
+            Problem::Place => "a heading is named by FILE:LINE, as -n prints it, or by --match",
+            Problem::PlaceBeside => "a heading is named either by FILE:LINE or by --match",
             Problem::Order => "the day of --to is before that of --from",
+            Problem::Properties => {
+                "--properties takes names with commas between them, and goes with --json"
+            }
+            Problem::RowsAlone =>
+                "--format and --properties are for rows, which this command has none of",
             Problem::Severity => "--severity is error, warning or note",
             Problem::Since => "--since names a moment after the one that is now",
             Problem::SinceBeside => "--since goes neither with -d nor with --within",
@@ -103,6 +148,7 @@ impl Problem {
             Problem::Tables => "--step cuts these days into more than 366 tables",
             Problem::Tag => "no such tag: a tag has letters, digits, _, @, # and %",
             Problem::To => "--to wants --from",
+            Problem::View => "calendar shows a month or a week, and the day after it",
             Problem::Zone => "TZ leads out of the folder of time zones",
             Problem::Fault(fault) => why_code(fault.code()),
         }
@@ -111,6 +157,9 @@ impl Problem {
 
 const NO_BLOCK: &str =
     "no such block of time; there are today, yesterday, thisweek, lastweek, nextweek, and so month and year, such as 2024, 2024-Q1, 2024-02, 2024-W09, 2024-02-28, and such days as -1d";
+
+const NO_FORMAT: &str =
+    "--format takes names of members in braces, and {{ and }} for braces; there are kind, day, start, end, days, day_of, days_in, file, line, byte, stamp, stamp_line, stamp_column, category, level, keyword, done, priority, title, tags, scheduled, deadline, closed, effort, path, from, to, clock, minutes, text";
 
 fn why_code(code: Code) -> &'static str {
     match code {

@@ -1,4 +1,8 @@
 //! What comes next, with what each line stands for.
+ghost use Rattle.std.specs.Prelude.{◌≡◌, filter};
+ghost use Rattle.org_base.specs.Results.{GivesItems};
+ghost use Rattle.org_client.specs.Reminders.{rows_between};
+ghost use Rattle.orgq.specs.Ahead.{AddsDay, ShowsNext, ShowsRows, begins_soon, rows_on};
 
 use crate::view::Answer;
 use org_agenda::{Agenda, Row};
@@ -17,7 +21,9 @@ pub fn rows_ahead(
     agenda: &Agenda,
     now: &Moment,
     within: Option<u32>,
-) -> Result<Answer, Fault> {
+) -> Result<Answer, Fault>
+    ensures value { ShowsNext result inherits.now agenda.now now.now within }
+{
     let next = next_rows(alloc, agenda, now)?;
     match within {
         Some(minutes) => {
@@ -34,7 +40,9 @@ pub fn rows_since(
     inherits: &Inherits<'_>,
     agenda: &Agenda,
     window: &Window,
-) -> Result<Answer, Fault> {
+) -> Result<Answer, Fault>
+    ensures value { ShowsRows result inherits.now agenda.now (rows_between window.now agenda.now) }
+{
     let rows = rows_between(alloc, agenda, window)?;
     by_days(alloc, inherits, agenda, rows.as_slice())
 }
@@ -45,7 +53,9 @@ fn by_days(
     inherits: &Inherits<'_>,
     agenda: &Agenda,
     all: &[Upcoming],
-) -> Result<Answer, Fault> {
+) -> Result<Answer, Fault>
+    ensures { ShowsRows result inherits.now agenda.now all.now }
+{
     let mut answer = Answer {
         text: String::new(alloc),
         lines: Vec::new(alloc),
@@ -65,7 +75,9 @@ fn push_day(
     inherits: &Inherits<'_>,
     day: Day,
     rows: &[Row],
-) -> Result<(), Fault> {
+) -> Result<(), Fault>
+    ensures { AddsDay result answer.old answer.new inherits.now day rows.now }
+{
     if rows.is_empty() {
         return Ok(());
     }
@@ -75,7 +87,9 @@ fn push_day(
 }
 
 // The rows of a day.
-fn rows_on(alloc: Global, all: &[Upcoming], day: Day) -> Result<Vec<Row>, AllocError> {
+fn rows_on(alloc: Global, all: &[Upcoming], day: Day) -> Result<Vec<Row>, AllocError>
+    ensures { GivesItems result (rows_on all.now day) }
+{
     let mut rows = Vec::new(alloc);
     for upcoming in all {
         if upcoming.day == day {
@@ -91,17 +105,21 @@ fn rows_within(
     all: &[Upcoming],
     now: &Moment,
     minutes: u32,
-) -> Result<Vec<Upcoming>, AllocError> {
+) -> Result<Vec<Upcoming>, AllocError>
+    ensures { GivesItems result (filter (begins_soon now.now minutes) all.now) }
+{
     let mut rows = Vec::new(alloc);
     for upcoming in all {
-        if is_within(upcoming, now, minutes) {
+        if begins_soon(upcoming, now, minutes) {
             rows.push(*upcoming)?;
         }
     }
     Ok(rows)
 }
 
-fn is_within(upcoming: &Upcoming, now: &Moment, minutes: u32) -> bool {
+fn begins_soon(upcoming: &Upcoming, now: &Moment, minutes: u32) -> bool
+    ensures { result ≡ begins_soon now.now minutes upcoming.now }
+{
     let Some(start) = upcoming.row.start else {
         return false;
     };

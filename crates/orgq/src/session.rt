@@ -1,62 +1,86 @@
 //! One question, from the arguments to the exit status.
+ghost use Rattle.org_client.specs.Files.{AreRead};
 
+use crate::act::act;
 use crate::ask::{Query, Question, answer, check, read_filters, read_question};
+use crate::calendar::columns_for;
 use crate::check::check_files;
-use crate::clock::{moment, now, typed_moment};
+use crate::clock::{now, typed_moment};
+use crate::clocks::print_clocks;
 use crate::environment::{Variable, value_of};
 use crate::exit::status_of;
 use crate::filters::Filters;
+use crate::follow::follow;
+use crate::hours::day_picture;
 use crate::keywords::say_unknown;
 use crate::limits::lines_within;
-use crate::options::{form, is_colored, profile, texts};
+use crate::options::{
+    form, is_colored, named_form, profile, property_names, property_words, texts, without_rows,
+};
 use crate::out::print_all;
+use crate::picture::{Picture, calendar_picture};
 use crate::problem::{Problem, report_problem};
-use crate::show::{Form, PrintOptions, answer_bytes};
-use crate::sources::{load_all, paths};
+use crate::show::{Form, PrintOptions, answer_bytes, has_stamp, picture_bytes};
+use crate::sources::{Reading, load_all, paths};
 use crate::words::{WordKind, print_words};
 use clap::ArgMatches;
 use org_base::Fault;
 use org_cal::Moment;
 use org_client::{FileSet, LoadReport};
+use org_inherit::Inherits;
 use org_text::Whole;
+use std::alloc::Global;
+use std::fs::File;
 use std::mem::forget;
 use std::rt::{Env, Files};
 use std::time::Clock;
 
 /// Answers what the arguments ask for, and gives the exit status.
-pub fn run<R: AllocGlobal + Files + Env + Clock + Print + Eprint + Clone + Drop>(
-    rt: &R,
-    matches: &ArgMatches<'_>,
-    on_terminal: bool,
-) -> u8 {
-    match answer_query(rt, matches, on_terminal) {
+pub fn run<
+    R: AllocGlobal + Files<File = File> + Env + Clock + Input + Print + Eprint + Clone + Drop,
+>(rt: &R, matches: &ArgMatches<'_>, on_terminal: bool) -> u8 {
+    let answered = match matches.subcommand() {
+        Some(("follow", own)) => follow(rt, matches, own, on_terminal),
+        _ => answer_query(rt, matches, on_terminal, true),
+    };
+    match answered {
         Ok(status) => status,
         Err(problem) => report_problem(rt, problem, ""),
     }
 }
 
-fn answer_query<R: AllocGlobal + Files + Env + Clock + Print + Eprint + Clone + Drop>(
-    rt: &R,
-    matches: &ArgMatches<'_>,
-    on_terminal: bool,
-) -> Result<u8, Problem> {
+/// Answers one question, and gives the exit status; where the program ends after it, memory isn't given back.
+pub fn answer_query<
+    R: AllocGlobal + Files<File = File> + Env + Clock + Input + Print + Eprint + Clone + Drop,
+>(rt: &R, matches: &ArgMatches<'_>, on_terminal: bool, is_last: bool) -> Result<u8, Problem> {
     let is_colored = wants_color(rt, matches, on_terminal)?;
     let moment = moment_of(rt, matches)?;
     if let Some(("check", own)) = matches.subcommand() {
         return check_files(rt, matches, own, &moment);
     }
     let filters = read_filters(matches)?;
+    if let Some(status) = act(rt, matches, moment, on_terminal || is_colored)? {
+        return Ok(status);
+    }
     if let Some(kind) = asked_words(matches)? {
         return print_words(rt, matches, kind, on_terminal || is_colored);
     }
-    let asked = read_question(rt.alloc(), matches, &moment)?;
-    let look = PrintOptions {
-        form: form(matches),
+    let mut look = PrintOptions {
+        form: form(matches)?,
         is_colored,
         is_seen: on_terminal || is_colored,
         has_days: has_days(matches)?,
-        list: asked.list(),
+        properties: property_words(matches)?,
+        list: "todo",
+        limit: filters.limit,
+        is_last,
     };
+    if let Some(("clocks", own)) = matches.subcommand() {
+        return print_clocks(rt, matches, own, moment.day, &look);
+    }
+    let columns = columns_for(rt, matches)?;
+    let asked = read_question(rt.alloc(), matches, &moment, columns)?;
+    look.list = asked.list();
     if asked.is_chart() && look.form != Form::Plain {
         return Err(Problem::Chart);
     }
@@ -87,13 +111,14 @@ fn asked_words(matches: &ArgMatches<'_>) -> Result<Option<WordKind>, Problem> {
     if matches.get_one::<u32>("days").is_some() {
         return Err(Problem::DaysOf);
     }
+    without_rows(matches)?;
     Ok(Some(kind))
 }
 
 // Whether days have objects of JSON too.
 fn has_days(matches: &ArgMatches<'_>) -> Result<bool, Problem> {
     let has_days = matches.get_flag("days-too");
-    if has_days && form(matches) != Form::Json {
+    if has_days && named_form(matches) != Form::Json {
         return Err(Problem::DaysToo);
     }
     Ok(has_days)
@@ -126,7 +151,7 @@ fn moment_of<R: AllocGlobal + Files + Env + Clock>(
     let Some(text) = matches.get_str("at") else {
         return now(rt);
     };
-    if let Some(moment) = moment(text) {
+    if let Some(moment) = Moment::of_text(text.as_bytes()) {
         return Ok(moment);
     }
     // The clock is asked only where a day may be said by it.
@@ -138,19 +163,18 @@ fn moment_of<R: AllocGlobal + Files + Env + Clock>(
 }
 
 // Loads the files, answers over those that can be loaded, and gives the exit status.
-fn over_files<R: AllocGlobal + Files + Env + Print + Eprint + Clone + Drop>(
+fn over_files<R: AllocGlobal + Files + Env + Input + Print + Eprint + Clone + Drop>(
     rt: &R,
     matches: &ArgMatches<'_>,
     question: &Question<'_, '_>,
     filters: &Filters<'_, '_>,
-    look: &PrintOptions,
+    look: &PrintOptions<'_, '_>,
 ) -> Result<u8, Problem> {
     let inherited = texts(rt.alloc(), matches.get_strs("inherit"))?;
     let mut file_set: FileSet<Whole> = FileSet::new(rt.alloc(), inherited);
     let paths = paths(rt, matches, &[])?;
-    let keywords = matches.get_str("keywords");
-    let left_out = load_all(rt, &mut file_set, paths.as_slice(), keywords)?;
-    let status = match text_of(rt, &file_set, question, filters.limit, look) {
+    let left_out = load_all(rt, &mut file_set, paths.as_slice(), &Reading::of(matches))?;
+    let status = match text_of(rt, &file_set, question, look) {
         Ok((has_row, text)) => {
             let status = status_of(has_row, left_out);
             if matches.get_flag("quiet") {
@@ -164,8 +188,7 @@ fn over_files<R: AllocGlobal + Files + Env + Print + Eprint + Clone + Drop>(
             report_problem(rt, Problem::Fault(fault), typed)
         }
     };
-    // The program ends here: the system takes all memory back at once, which piece by piece would be a tenth of the run.
-    forget(file_set);
+    give_back(file_set, look.is_last);
     Ok(status)
 }
 
@@ -174,24 +197,73 @@ fn text_of<R: AllocGlobal + Eprint>(
     rt: &R,
     file_set: &FileSet<Whole>,
     question: &Question<'_, '_>,
-    limit: Option<u32>,
-    look: &PrintOptions,
+    look: &PrintOptions<'_, '_>,
 ) -> Result<(bool, Vec<u8>), Fault> {
     let inherits = file_set.inherits()?;
     if let Query::Todo(words) = question.asked {
         say_unknown(rt, &inherits, words);
     }
-    let answer = answer(rt.alloc(), &inherits, question)?;
-    let files = LoadReport {
-        file_set,
-        inherits: &inherits,
-    };
-    let lines = lines_within(answer.lines.as_slice(), limit);
-    let view = answer.text.as_str();
-    let text = answer_bytes(rt.alloc(), &files, view, lines, look)?;
+    let printed = printed_of(rt.alloc(), file_set, &inherits, question, look)?;
+    // Nothing is needed but the text.
+    if look.is_last {
+        forget(inherits);
+    }
+    Ok(printed)
+}
+
+// The same, of files with what their headings inherit.
+fn printed_of(
+    alloc: Global,
+    file_set: &FileSet<Whole>,
+    inherits: &Inherits<'_>,
+    question: &Question<'_, '_>,
+    look: &PrintOptions<'_, '_>,
+) -> Result<(bool, Vec<u8>), Fault>
+    requires read { AreRead inherits.now }
+{
+    if look.form == Form::Plain {
+        if let Some(picture) = picture_of(alloc, inherits, question)? {
+            let text = picture_bytes(alloc, picture.text.as_str(), look.is_seen)?;
+            return Ok((picture.has_row, text));
+        }
+    }
+    let answer = answer(alloc, inherits, question)?;
+    let lines = lines_within(answer.lines.as_slice(), look.limit);
+    let properties = property_names(alloc, look.properties)?;
+    let has_stamps = look.tells_stamps() && lines.iter().any(has_stamp);
+    let files = LoadReport::new(alloc, file_set, inherits, properties, has_stamps)?;
+    let text = answer_bytes(alloc, &files, answer.text.as_str(), lines, look)?;
     let has_row = answer.has_row();
-    // As the library: until the program ends nothing is needed but the text.
-    forget(answer);
-    forget(inherits);
+    give_back(answer, look.is_last);
     Ok((has_row, text))
+}
+
+// The picture that is asked for, if one is.
+fn picture_of(
+    alloc: Global,
+    inherits: &Inherits<'_>,
+    question: &Question<'_, '_>,
+) -> Result<Option<Picture>, Fault>
+    requires read { AreRead inherits.now }
+{
+    let chosen = question.chosen();
+    match question.asked {
+        Query::Calendar(calendar) => {
+            let picture = calendar_picture(alloc, inherits, &chosen, calendar)?;
+            Ok(Some(picture))
+        }
+        Query::Hours(days, canvas) => {
+            let picture = day_picture(alloc, inherits, &chosen, *days, canvas)?;
+            Ok(Some(picture))
+        }
+        _ => Ok(None),
+    }
+}
+
+// Gives memory back, unless the program ends: then the system takes all of it back at once, which piece by piece would be a
+// tenth of the run.
+fn give_back<T: Drop>(value: T, is_last: bool) {
+    if is_last {
+        forget(value);
+    }
 }

@@ -7,8 +7,8 @@ use org_agenda::RowKind;
 use org_base::Fault;
 use org_cal::Day;
 use org_client::{
-    Escape, LoadReport, OneLine, ShownSum, csv_line, day_line, json_line, push_visible,
-    table_fields, table_line,
+    Escape, LoadReport, OneLine, ShownSum, Template, ViewRow, csv_line, day_line, json_line,
+    push_visible, template_line,
 };
 use org_clocktable::Of;
 use org_layout::Line;
@@ -17,7 +17,7 @@ use std::alloc::{AllocError, Global};
 
 /// In which form rows are printed.
 #[derive(Clone, Copy, Debug, PartialEq, Eq)]
-pub enum Form {
+pub enum Form<'a> {
     /// The lines of the view.
     Plain,
     /// The same with `FILE:LINE:` in front of each row of a heading.
@@ -26,17 +26,35 @@ pub enum Form {
     Json,
     /// The fields of a row between commas.
     Csv,
+    /// A line for each row, with members of JSON in it.
+    Template(Template<'a>),
 }
 
 /// How an answer is printed: its form, whether late rows and warnings stand out, whether control characters are written so
-/// that they can be seen, whether days have objects of JSON too, and the kind of a list's rows.
+/// that they can be seen, whether days have objects of JSON too, the words of `--properties`, the kind of a list's rows, how
+/// many rows there are at most, and whether the program ends after it.
 #[derive(Clone, Copy, Debug)]
-pub struct PrintOptions {
-    pub form: Form,
+pub struct PrintOptions<'a, 'b> {
+    pub form: Form<'a>,
     pub is_colored: bool,
     pub is_seen: bool,
     pub has_days: bool,
+    pub properties: Option<&'b [&'a str]>,
     pub list: &'static str,
+    pub limit: Option<u32>,
+    pub is_last: bool,
+}
+
+impl PrintOptions<'_, '_> {
+    /// Whether rows tell where their stamps stand.
+    pub fn tells_stamps(&self) -> bool {
+        matches!(self.form, Form::Json | Form::Template(_))
+    }
+}
+
+/// Whether a line stands for a row of a day, which has a stamp.
+pub fn has_stamp(line: &Line) -> bool {
+    matches!(line, Line::Row(shown) if shown.day.is_some())
 }
 
 /// The bytes of a view's text, line by line, as far as its lines are given.
@@ -46,7 +64,7 @@ pub fn answer_bytes<T: Text>(
     files: &LoadReport<'_, '_, T>,
     view: &str,
     all: &[Line],
-    look: &PrintOptions,
+    look: &PrintOptions<'_, '_>,
 ) -> Result<Vec<u8>, Fault>
     ensures clean { IsSafe look.now → IfOk result (λ out. AreCleanLines out.items) }
 {
@@ -70,6 +88,28 @@ pub fn answer_bytes<T: Text>(
     Ok(out)
 }
 
+/// The bytes of a picture, line by line.
+#[tactic(auto, using(crate::proofs::ShownLemmas::no_lines))]
+pub fn picture_bytes(alloc: Global, picture: &str, is_seen: bool) -> Result<Vec<u8>, AllocError>
+    ensures clean { is_seen ≡ true → IfOk result (λ out. AreCleanLines out.items) }
+{
+    let mut out = Vec::new(alloc);
+    for line in picture.split_inclusive('\n') {
+        push_seen_line(&mut out, line.trim_end_matches('\n'), is_seen)?;
+    }
+    Ok(out)
+}
+
+// Appends a line of a picture.
+#[tactic(auto, using(crate::proofs::ShownLemmas::keeps_seen))]
+fn push_seen_line(out: &mut Vec<u8>, line: &str, is_seen: bool) -> Result<(), AllocError>
+    ensures clean { is_seen ≡ true → KeepsClean result out.old out.new }
+{
+    push_seen(out, line, is_seen)?;
+    out.push(b'\n')?;
+    Ok(())
+}
+
 // The days of the clock table that a line is of: its own where it begins one, else those of the line before.
 fn days_at(line: &Line, before: Option<(Day, Day)>) -> Option<(Day, Day)> {
     match line {
@@ -87,14 +127,15 @@ struct LineOfAnswer<'a> {
 }
 
 impl LineOfAnswer<'_> {
-    // A row of a clock table with its days, where it is one.
-    fn sum(&self) -> Option<ShownSum> {
+    // The row, with its days where it is one of a clock table.
+    fn row(&self) -> Option<ViewRow> {
         match (self.line, self.days) {
-            (Line::Table(row), Some((first, last))) => Some(ShownSum {
+            (Line::Row(shown), _) => Some(ViewRow::Row(*shown)),
+            (Line::Table(row), Some((first, last))) => Some(ViewRow::Sum(ShownSum {
                 first,
                 last,
                 row: *row,
-            }),
+            })),
             _ => None,
         }
     }
@@ -106,15 +147,14 @@ fn push_line<T: Text>(
     out: &mut Vec<u8>,
     files: &LoadReport<'_, '_, T>,
     shown: &LineOfAnswer<'_>,
-    look: &PrintOptions,
+    look: &PrintOptions<'_, '_>,
 ) -> Result<(), Fault>
     ensures clean { IsSafe look.now → KeepsClean result out.old out.new }
 {
     match look.form {
         Form::Plain => Ok(push_text(out, shown, look)?),
         Form::Places => Ok(push_placed(alloc, out, files, shown, look)?),
-        Form::Json => push_json(alloc, out, files, shown, look.has_days),
-        Form::Csv => push_csv(alloc, out, files, shown, look.list),
+        Form::Json | Form::Csv | Form::Template(_) => push_row(alloc, out, files, shown, look),
     }
 }
 
@@ -122,7 +162,7 @@ fn push_line<T: Text>(
 fn push_text(
     out: &mut Vec<u8>,
     shown: &LineOfAnswer<'_>,
-    look: &PrintOptions,
+    look: &PrintOptions<'_, '_>,
 ) -> Result<(), AllocError>
     ensures { Adds result out.old out.new (shown_line (color look.now shown.now.line.now) look.now.is_seen shown.now.text.now) }
 {
@@ -140,8 +180,8 @@ fn push_text(
     Ok(())
 }
 
-// Appends a text; its control characters so that they can be seen, if that is wanted.
-fn push_seen(out: &mut Vec<u8>, text: &str, is_seen: bool) -> Result<(), AllocError>
+/// Appends a text; its control characters so that they can be seen, if that is wanted.
+pub fn push_seen(out: &mut Vec<u8>, text: &str, is_seen: bool) -> Result<(), AllocError>
     ensures { Adds result out.old out.new (shown_text is_seen text.now) }
 {
     if is_seen {
@@ -173,7 +213,7 @@ fn push_placed<T: Text>(
     out: &mut Vec<u8>,
     files: &LoadReport<'_, '_, T>,
     shown: &LineOfAnswer<'_>,
-    look: &PrintOptions,
+    look: &PrintOptions<'_, '_>,
 ) -> Result<(), AllocError>
     ensures clean { look.now.is_seen ≡ true → KeepsClean result out.old out.new }
 {
@@ -223,8 +263,8 @@ fn push_number(
     Ok(())
 }
 
-// The heading of a row, by the places of its file and its entry.
-fn heading_of(line: &Line) -> Option<(usize, usize)> {
+/// The heading of a row, by the places of its file and its entry.
+pub fn heading_of(line: &Line) -> Option<(usize, usize)> {
     match line {
         Line::Row(shown) => Some((shown.row.file, shown.row.heading)),
         Line::Table(row) => match row.of {
@@ -235,26 +275,44 @@ fn heading_of(line: &Line) -> Option<(usize, usize)> {
     }
 }
 
-fn push_json<T: Text>(
+// Appends the line of a row, and the object of a day where days have any.
+fn push_row<T: Text>(
     alloc: Global,
     out: &mut Vec<u8>,
     files: &LoadReport<'_, '_, T>,
     shown: &LineOfAnswer<'_>,
-    has_days: bool,
+    look: &PrintOptions<'_, '_>,
 ) -> Result<(), Fault>
     ensures clean { KeepsClean result out.old out.new }
 {
     let text = shown.text.as_bytes();
     if let Line::Day(day) = shown.line {
-        return push_day(alloc, out, *day, text, has_days);
+        return push_day(alloc, out, *day, text, look.has_days);
     }
-    if let Line::Row(row) = shown.line {
-        push_whole(out, &json_line(alloc, files, row, text)?)?;
-    }
-    if let Some(sum) = shown.sum() {
-        push_whole(out, &table_line(alloc, files, &sum, text)?)?;
+    if let Some(row) = shown.row() {
+        push_whole(out, &row_line(alloc, files, &row, text, look)?)?;
     }
     Ok(())
+}
+
+/// The line of a row in a form of its own; in others its text, whose control characters can be seen.
+pub fn row_line<T: Text>(
+    alloc: Global,
+    files: &LoadReport<'_, '_, T>,
+    row: &ViewRow,
+    text: &[u8],
+    look: &PrintOptions<'_, '_>,
+) -> Result<OneLine, Fault> {
+    match look.form {
+        Form::Json => json_line(alloc, files, row, text),
+        Form::Csv => csv_line(alloc, files, row, look.list),
+        Form::Template(template) => template_line(alloc, files, row, text, &template),
+        Form::Plain | Form::Places => {
+            let mut line = OneLine::new(alloc);
+            line.push_seen(text)?;
+            Ok(line)
+        }
+    }
 }
 
 // Appends the object of a day, if days have any.
@@ -274,27 +332,8 @@ fn push_day(
     Ok(())
 }
 
-// Appends the fields of a row.
-fn push_csv<T: Text>(
-    alloc: Global,
-    out: &mut Vec<u8>,
-    files: &LoadReport<'_, '_, T>,
-    shown: &LineOfAnswer<'_>,
-    list: &str,
-) -> Result<(), Fault>
-    ensures clean { KeepsClean result out.old out.new }
-{
-    if let Line::Row(row) = shown.line {
-        push_whole(out, &csv_line(alloc, files, row, list)?)?;
-    }
-    if let Some(sum) = shown.sum() {
-        push_whole(out, &table_fields(alloc, files, &sum)?)?;
-    }
-    Ok(())
-}
-
-// Appends a line, which has no control character, and a line feed.
-fn push_whole(out: &mut Vec<u8>, line: &OneLine) -> Result<(), AllocError>
+/// Appends a line, which has no control character, and a line feed.
+pub fn push_whole(out: &mut Vec<u8>, line: &OneLine) -> Result<(), AllocError>
     ensures value { Adds result out.old out.new (line.now ++ 10 ∷ []) }
     ensures clean { KeepsClean result out.old out.new }
 {

@@ -1,7 +1,7 @@
 //! Which files are asked, and what comes of loading them.
 
 use crate::environment::{Variable, value_of};
-use crate::files::{FileSink, LeftOut, Named, load, push_paths, read_whole, real_path};
+use crate::files::{FileSink, LeftOut, Named, load, load_input, push_paths, read_whole, real_path};
 use crate::options::is_path;
 use crate::problem::Problem;
 use crate::say::{say, say_of};
@@ -11,6 +11,9 @@ use std::fs;
 use std::io::ErrorKind;
 use std::rt::{Env, Files};
 
+/// The path that stands for standard input.
+pub const INPUT: &str = "-";
+
 /// The paths that the arguments name, those of the command's own words last; without any those of `ORGQ_FILES`, else those of
 /// the configuration folder's list.
 pub fn paths<R: AllocGlobal + Files + Env>(
@@ -18,11 +21,13 @@ pub fn paths<R: AllocGlobal + Files + Env>(
     matches: &ArgMatches<'_>,
     own: &[&str],
 ) -> Result<Vec<String>, Problem> {
+    refuse_words(matches)?;
     let bare = matches.get_strs("PATH").unwrap_or(&[]);
-    if bare.iter().any(|word| !is_path(word)) {
-        return Err(Problem::Command);
-    }
     let named = matches.get_strs("file").unwrap_or(&[]);
+    let has_input = named.contains(&INPUT) || own.contains(&INPUT);
+    if matches.get_str("name").is_some() && !has_input {
+        return Err(Problem::Name);
+    }
     let paths = if named.is_empty() && bare.is_empty() && own.is_empty() {
         configured_paths(rt)?
     } else {
@@ -32,6 +37,15 @@ pub fn paths<R: AllocGlobal + Files + Env>(
         return Err(Problem::Files);
     }
     Ok(paths)
+}
+
+/// Refuses words before a command that name neither a file nor a folder.
+pub fn refuse_words(matches: &ArgMatches<'_>) -> Result<(), Problem> {
+    let bare = matches.get_strs("PATH").unwrap_or(&[]);
+    if bare.iter().any(|word| !is_path(word)) {
+        return Err(Problem::Command);
+    }
+    Ok(())
 }
 
 fn join_paths(
@@ -126,10 +140,29 @@ fn split(
         }
         match part.strip_prefix("~/") {
             Some(rest) if !home.is_empty() => paths.push(format!(in alloc; "{home}/{rest}")?)?,
+            // A list names files alone.
+            _ if part == INPUT => paths.push(String::from_str(alloc, "./-")?)?,
             _ => paths.push(String::from_str(alloc, part)?)?,
         }
     }
     Ok(paths)
+}
+
+/// How files are read: the keywords of those that have none of their own, and the name of the text on standard input.
+#[derive(Clone, Copy, Debug)]
+pub struct Reading<'a> {
+    pub keywords: Option<&'a str>,
+    pub name: &'a str,
+}
+
+impl<'a> Reading<'a> {
+    /// What the arguments say of it.
+    pub fn of(matches: &ArgMatches<'a>) -> Reading<'a> {
+        Reading {
+            keywords: matches.get_str("keywords"),
+            name: matches.get_str("name").unwrap_or(INPUT),
+        }
+    }
 }
 
 // What was left out so far: whether there is such, and how many files past those that there may be.
@@ -140,18 +173,18 @@ struct Missing {
 }
 
 /// Loads the files that paths stand for, each once; says which can't be loaded, and gives whether there are such.
-pub fn load_all<R: AllocGlobal + Files + Eprint + Clone + Drop, S: FileSink>(
+pub fn load_all<R: AllocGlobal + Files + Input + Eprint + Clone + Drop, S: FileSink>(
     rt: &R,
     set: &mut S,
     paths: &[String],
-    keywords: Option<&str>,
+    reading: &Reading<'_>,
 ) -> Result<bool, AllocError> {
     let mut missing = Missing {
         is_some: false,
         past: 0,
     };
     for path in paths {
-        load_path(rt, set, path.as_str(), keywords, &mut missing)?;
+        load_path(rt, set, path.as_str(), reading, &mut missing)?;
     }
     let past = missing.past;
     if past > 0 {
@@ -162,13 +195,16 @@ pub fn load_all<R: AllocGlobal + Files + Eprint + Clone + Drop, S: FileSink>(
 }
 
 // Loads the files that a path stands for.
-fn load_path<R: AllocGlobal + Files + Eprint + Clone + Drop, S: FileSink>(
+fn load_path<R: AllocGlobal + Files + Input + Eprint + Clone + Drop, S: FileSink>(
     rt: &R,
     set: &mut S,
     path: &str,
-    keywords: Option<&str>,
+    reading: &Reading<'_>,
     missing: &mut Missing,
 ) -> Result<(), AllocError> {
+    if path == INPUT {
+        return load_file(rt, set, path, reading, missing);
+    }
     let mut files = Vec::new(rt.alloc());
     match push_paths(rt, &mut files, path) {
         Ok(0) => {}
@@ -180,20 +216,20 @@ fn load_path<R: AllocGlobal + Files + Eprint + Clone + Drop, S: FileSink>(
         Err(_) => leave_out(rt, path, "can't be read", missing),
     }
     for file in files.as_slice() {
-        load_file(rt, set, file.as_str(), keywords, missing)?;
+        load_file(rt, set, file.as_str(), reading, missing)?;
     }
     Ok(())
 }
 
-// Loads a file, unless it is there.
-fn load_file<R: AllocGlobal + Files + Eprint, S: FileSink>(
+// Loads a file or standard input, unless it is there.
+fn load_file<R: AllocGlobal + Files + Input + Eprint, S: FileSink>(
     rt: &R,
     set: &mut S,
     name: &str,
-    keywords: Option<&str>,
+    reading: &Reading<'_>,
     missing: &mut Missing,
 ) -> Result<(), AllocError> {
-    let path = real_path(rt, name)?;
+    let path = path_of(rt, name)?;
     if set.has_path(path.as_str()) {
         return Ok(());
     }
@@ -201,11 +237,7 @@ fn load_file<R: AllocGlobal + Files + Eprint, S: FileSink>(
         missing.past = missing.past.saturating_add(1);
         return Ok(());
     }
-    let named = Named {
-        name,
-        path: path.as_str(),
-    };
-    match load(rt, set, named, keywords) {
+    match load_one(rt, set, name, path.as_str(), reading) {
         Ok(()) => Ok(()),
         Err(LeftOut::Memory) => Err(AllocError),
         Err(LeftOut::Because(why)) => {
@@ -213,6 +245,29 @@ fn load_file<R: AllocGlobal + Files + Eprint, S: FileSink>(
             Ok(())
         }
     }
+}
+
+// The path by which a file is told from others; no file's is that of standard input.
+fn path_of<R: AllocGlobal + Files>(rt: &R, name: &str) -> Result<String, AllocError> {
+    if name == INPUT {
+        return String::from_str(rt.alloc(), INPUT);
+    }
+    real_path(rt, name)
+}
+
+fn load_one<R: AllocGlobal + Files + Input, S: FileSink>(
+    rt: &R,
+    set: &mut S,
+    name: &str,
+    path: &str,
+    reading: &Reading<'_>,
+) -> Result<(), LeftOut> {
+    let keywords = reading.keywords;
+    if name == INPUT {
+        let name = reading.name;
+        return load_input(rt, set, Named { name, path }, keywords);
+    }
+    load(rt, set, Named { name, path }, keywords)
 }
 
 fn leave_out<R: Eprint + AllocGlobal>(rt: &R, path: &str, why: &str, missing: &mut Missing) {

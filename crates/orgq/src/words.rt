@@ -1,11 +1,11 @@
 //! The keywords and the tags of files, a word a line.
 
 use crate::exit::status_of;
-use crate::options::form;
+use crate::options::named_form;
 use crate::out::print_all;
 use crate::problem::Problem;
 use crate::show::Form;
-use crate::sources::{load_all, paths};
+use crate::sources::{Reading, load_all, paths};
 use clap::ArgMatches;
 use org_base::{Fault, Texts};
 use org_client::{Escape, FileSet, OneLine, push_visible};
@@ -25,7 +25,7 @@ pub enum WordKind {
 
 /// Prints the words of the files that the arguments name, each once, and gives the exit status; control characters so that
 /// they can be seen, if that is wanted.
-pub fn print_words<R: AllocGlobal + Files + Env + Print + Eprint + Clone + Drop>(
+pub fn print_words<R: AllocGlobal + Files + Env + Input + Print + Eprint + Clone + Drop>(
     rt: &R,
     matches: &ArgMatches<'_>,
     kind: WordKind,
@@ -33,14 +33,13 @@ pub fn print_words<R: AllocGlobal + Files + Env + Print + Eprint + Clone + Drop>
 ) -> Result<u8, Problem> {
     let mut file_set: FileSet<Whole> = FileSet::new(rt.alloc(), Texts::new(rt.alloc()));
     let paths = paths(rt, matches, &[])?;
-    let keywords = matches.get_str("keywords");
-    let left_out = load_all(rt, &mut file_set, paths.as_slice(), keywords)?;
+    let left_out = load_all(rt, &mut file_set, paths.as_slice(), &Reading::of(matches))?;
     let words = words_of(rt.alloc(), &file_set, kind)?;
     let status = status_of(words.count() > 0, left_out);
     if matches.get_flag("quiet") {
         return Ok(status);
     }
-    let lines = word_lines(rt.alloc(), &words, form(matches), is_seen)?;
+    let lines = word_lines(rt.alloc(), &words, named_form(matches), is_seen)?;
     Ok(print_all(rt, lines.as_slice(), status))
 }
 
@@ -131,7 +130,7 @@ fn push_word(
 fn word_lines(
     alloc: Global,
     words: &Texts,
-    form: Form,
+    form: Form<'_>,
     is_seen: bool,
 ) -> Result<Vec<u8>, AllocError> {
     let mut lines = Vec::new(alloc);
@@ -145,7 +144,7 @@ fn push_line(
     alloc: Global,
     lines: &mut Vec<u8>,
     word: &[u8],
-    form: Form,
+    form: Form<'_>,
     is_seen: bool,
 ) -> Result<(), AllocError> {
     match form {
@@ -159,8 +158,10 @@ fn push_line(
             line.field(word)?;
             lines.extend_from_slice(line.as_slice())?;
         }
-        Form::Plain | Form::Places if is_seen => push_visible(lines, word, Escape::Caret)?,
-        Form::Plain | Form::Places => lines.extend_from_slice(word)?,
+        Form::Plain | Form::Places | Form::Template(_) if is_seen => {
+            push_visible(lines, word, Escape::Caret)?
+        }
+        Form::Plain | Form::Places | Form::Template(_) => lines.extend_from_slice(word)?,
     }
     lines.push(b'\n')?;
     Ok(())

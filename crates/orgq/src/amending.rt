@@ -1,0 +1,125 @@
+//! An act on a file, and what is printed of it.
+ghost use Rattle.std.specs.Prelude.{◌≡◌, string_bytes};
+ghost use Rattle.org_act.specs.Changes.{LiesIn};
+ghost use Rattle.orgq.specs.Amending.{Ends, Stays};
+
+use crate::exit::unamended_status;
+use crate::heading::HeadingText;
+use crate::out::print_all;
+use crate::refusals::say_unamended;
+use crate::say::out_of_memory;
+use crate::show::push_seen;
+use org_act::{Act, Amended, Change, Unamended, amend, with_change};
+use org_save::{Saved, Store};
+use std::alloc::{AllocError, Global};
+use std::str;
+
+/// How an act ended: the exit status, and how the text was written, if it was.
+#[derive(Clone, Copy, Debug)]
+pub struct Ending {
+    pub status: u8,
+    pub saved: Option<Saved>,
+}
+
+/// Does an act to a heading's file that had the text which was read, prints the heading's line as it was and as it is, or says
+/// why the act wasn't done.
+pub fn carry_out<R: AllocGlobal + Print + Eprint, S: Store, A: Act>(
+    rt: &R,
+    store: &mut S,
+    heading: &HeadingText,
+    act: &A,
+) -> Ending
+    ensures ok { Ends result (A.amended act.now) heading.now (S.events store.old) (S.events store.new) }
+    ensures whole { Stays (A.amended act.now) heading.now (S.events store.old) (S.events store.new) }
+{
+    match amend(rt.alloc(), store, heading.text.as_str(), act) {
+        Ok(Amended { change, saved }) => Ending {
+            status: print_change(rt, heading, &change),
+            saved: Some(saved),
+        },
+        Err(why) => Ending {
+            status: report_unamended(rt, heading, why),
+            saved: None,
+        },
+    }
+}
+
+/// Prints what an act would do, or says why it is refused, and gives the exit status. It can't write any file.
+pub fn try_out<R: AllocGlobal + Print + Eprint, A: Act>(
+    rt: &R,
+    heading: &HeadingText,
+    act: &A,
+) -> u8 {
+    match act.plan(rt.alloc(), heading.text.as_str()) {
+        Ok(change) => print_change(rt, heading, &change),
+        Err(why) => report_unamended(rt, heading, Unamended::Refused(why)),
+    }
+}
+
+// Says why an act wasn't done, and gives the exit status.
+#[tactic(auto, using(crate::proofs::ExitLemmas::never_0))]
+fn report_unamended<R: AllocGlobal + Eprint>(rt: &R, heading: &HeadingText, why: Unamended) -> u8
+    ensures refused { result ≡ 0 → ⊥ }
+{
+    say_unamended(rt, heading, &why);
+    unamended_status(&why)
+}
+
+// Prints the heading's line without and with a change, and gives the exit status.
+fn print_change<R: AllocGlobal + Print + Eprint>(
+    rt: &R,
+    heading: &HeadingText,
+    change: &Change,
+) -> u8
+    requires within { LiesIn (string_bytes heading.now.text) change.now }
+{
+    if heading.look.is_quiet {
+        return 0;
+    }
+    match change_lines(rt.alloc(), heading, change) {
+        Ok(lines) => print_all(rt, lines.as_slice(), 0),
+        Err(_) => out_of_memory(rt),
+    }
+}
+
+fn change_lines(
+    alloc: Global,
+    heading: &HeadingText,
+    change: &Change,
+) -> Result<Vec<u8>, AllocError>
+    requires within { LiesIn (string_bytes heading.now.text) change.now }
+{
+    let new = with_change(alloc, heading.text.as_bytes(), change)?;
+    let mut lines = Vec::new(alloc);
+    push_heading(alloc, &mut lines, heading, heading.text.as_str())?;
+    push_heading(
+        alloc,
+        &mut lines,
+        heading,
+        str::from_utf8(&new).unwrap_or(""),
+    )?;
+    Ok(lines)
+}
+
+// Appends the heading's line of a text, with its place in front, if that is wanted.
+fn push_heading(
+    alloc: Global,
+    lines: &mut Vec<u8>,
+    heading: &HeadingText,
+    text: &str,
+) -> Result<(), AllocError> {
+    let look = heading.look;
+    if look.has_place {
+        let place = format!(in alloc; "{}:{}:", heading.name, heading.line)?;
+        push_seen(lines, place.as_str(), look.is_seen)?;
+    }
+    push_seen(lines, line_of(text, heading.line), look.is_seen)?;
+    lines.push(b'\n')?;
+    Ok(())
+}
+
+// A line of a text; an empty one where it has not so many.
+fn line_of(text: &str, number: u64) -> &str {
+    let before = number.saturating_sub(1);
+    text.lines().nth(before as usize).unwrap_or("")
+}

@@ -1,0 +1,162 @@
+//! The command that shows a view anew whenever a file changed or a minute passed.
+
+use crate::exit::{BAD_ARGUMENTS, STOPPED};
+use crate::files::push_paths;
+use crate::filters::Filters;
+use crate::problem::Problem;
+use crate::session::answer_query;
+use crate::sources::{INPUT, paths};
+use clap::ArgMatches;
+use std::alloc::AllocError;
+use std::fs::File;
+use std::io::{Write, writer};
+use std::rt::{Env, Files};
+use std::time::{Clock, Duration, SystemTime, UNIX_EPOCH};
+use std::{fs, thread};
+
+// How long is waited between two looks at the files.
+const PAUSE_MILLIS: u64 = 500;
+
+// What takes away all that a terminal shows (ECMA-48, "CUP" and "ED").
+const CLEAR: &[u8] = b"\x1b[H\x1b[2J";
+
+// What stands between two views elsewhere.
+const FORM_FEED: &[u8] = b"\x0c\n";
+
+/// Shows what the command's own words ask for, and again after each change, as many times as they say, or until the program
+/// is stopped. Gives the status of the last view; one that is refused or can't be printed is the last.
+pub fn follow<
+    R: AllocGlobal + Files<File = File> + Env + Clock + Input + Print + Eprint + Clone + Drop,
+>(
+    rt: &R,
+    matches: &ArgMatches<'_>,
+    own: &ArgMatches<'_>,
+    on_terminal: bool,
+) -> Result<u8, Problem> {
+    if has_own_options(matches) {
+        return Err(Problem::FollowFront);
+    }
+    if own.get_strs("file").unwrap_or(&[]).contains(&INPUT) {
+        return Err(Problem::FollowInput);
+    }
+    let times = match own.get_one::<u32>("times") {
+        Some(times) => u64::from(times),
+        None => u64::MAX,
+    };
+    let mut state = state_of(rt, own)?;
+    for number in 0..times {
+        if number > 0 {
+            state = next_state(rt, own, state)?;
+        }
+        if !begin_view(rt, number > 0, on_terminal) {
+            return Ok(STOPPED);
+        }
+        let status = answer_query(rt, own, on_terminal, false)?;
+        if number + 1 == times || status == BAD_ARGUMENTS || status == STOPPED {
+            return Ok(status);
+        }
+    }
+    Ok(0)
+}
+
+// Whether options or files stand in front of the command that are not of all commands.
+fn has_own_options(matches: &ArgMatches<'_>) -> bool {
+    let front = Filters::of(matches);
+    front.chooses()
+        || front.limit.is_some()
+        || matches.get_one::<u32>("days").is_some()
+        || matches.get_strs("PATH").is_some()
+}
+
+// Writes what stands in front of a view, and gives whether it was written.
+fn begin_view<R: AllocGlobal + Print>(rt: &R, is_later: bool, on_terminal: bool) -> bool {
+    let front = if on_terminal {
+        CLEAR
+    } else if is_later {
+        FORM_FEED
+    } else {
+        return true;
+    };
+    let mut out = writer(rt);
+    out.write_all(front).is_ok() && out.flush().is_ok()
+}
+
+// What views depend on, as soon as it isn't what it was.
+fn next_state<R: AllocGlobal + Files + Env + Clock + Clone + Drop>(
+    rt: &R,
+    own: &ArgMatches<'_>,
+    before: String,
+) -> Result<String, Problem> {
+    for _look in 0..u64::MAX {
+        thread::sleep(rt, Duration::from_millis(PAUSE_MILLIS));
+        let state = state_of(rt, own)?;
+        if state.as_str() != before.as_str() {
+            return Ok(state);
+        }
+    }
+    Ok(before)
+}
+
+// What views depend on: the minute, unless it is named, and of each file its path, its size and when it changed.
+fn state_of<R: AllocGlobal + Files + Env + Clock + Clone + Drop>(
+    rt: &R,
+    own: &ArgMatches<'_>,
+) -> Result<String, Problem> {
+    let mut state = String::new(rt.alloc());
+    if own.get_str("at").is_none() {
+        push_minute(rt, &mut state)?;
+    }
+    let paths = paths(rt, own, &[])?;
+    for path in paths.as_slice() {
+        push_path(rt, &mut state, path.as_str())?;
+    }
+    Ok(state)
+}
+
+fn push_minute<R: Clock>(rt: &R, state: &mut String) -> Result<(), AllocError> {
+    let Ok(time) = SystemTime::now(rt) else {
+        return Ok(());
+    };
+    let (seconds, _) = since_1970(time);
+    let minute = seconds / 60;
+    write!(state, "{minute}\n")
+}
+
+// The seconds from 1970 on up to a time, and the nanoseconds behind them; none for a time before.
+fn since_1970(time: SystemTime) -> (u64, u32) {
+    match time.duration_since(UNIX_EPOCH) {
+        Ok(past) => (past.as_secs(), past.subsec_nanos()),
+        Err(_) => (0, 0),
+    }
+}
+
+// Puts what is known of the files that a path stands for after others.
+fn push_path<R: AllocGlobal + Files + Clone + Drop>(
+    rt: &R,
+    state: &mut String,
+    path: &str,
+) -> Result<(), AllocError> {
+    let mut files = Vec::new(rt.alloc());
+    // What can't be read now may be read later: then it is known by other files.
+    let _ = push_paths(rt, &mut files, path);
+    for file in files.as_slice() {
+        push_file(rt, state, file.as_str())?;
+    }
+    Ok(())
+}
+
+fn push_file<R: AllocGlobal + Files>(
+    rt: &R,
+    state: &mut String,
+    file: &str,
+) -> Result<(), AllocError> {
+    let Ok(metadata) = fs::metadata(rt, file) else {
+        return write!(state, "{file}\n");
+    };
+    let size = metadata.len();
+    let (seconds, nanos) = match metadata.modified() {
+        Ok(time) => since_1970(time),
+        Err(_) => (0, 0),
+    };
+    write!(state, "{file} {size} {seconds} {nanos}\n")
+}

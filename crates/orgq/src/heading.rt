@@ -1,0 +1,88 @@
+//! A heading that is changed, with the text of its file.
+
+use crate::files::{LeftOut, read_text};
+use crate::keywords::line_behind;
+use crate::place::HeadingPlace;
+use crate::wish::{Look, Wish, WishedKeyword};
+use org_act::Completion;
+use org_base::Fault;
+use org_cal::Moment;
+use std::alloc::{AllocError, Global};
+use std::rt::Files;
+
+/// A heading of a file, the text of that, and what is asked of it.
+#[derive(Debug, Drop)]
+pub struct HeadingText {
+    /// The file's name.
+    pub name: String,
+    /// The heading's line. Lines count from 1.
+    pub line: u64,
+    /// The file's text.
+    pub text: String,
+    /// What is read after the text and never written: a line of keywords, or nothing.
+    pub behind: String,
+    pub keyword: WishedKeyword,
+    /// When it is done.
+    pub moment: Moment,
+    pub look: Look,
+}
+
+impl HeadingText {
+    // The heading at a place of a text.
+    fn new(
+        alloc: Global,
+        place: &HeadingPlace,
+        wish: &Wish,
+        text: String,
+    ) -> Result<HeadingText, Fault> {
+        let behind = match &wish.keywords {
+            Some(words) => line_behind(alloc, text.as_str(), words.as_str())?,
+            None => String::new(alloc),
+        };
+        Ok(HeadingText {
+            name: String::from_str(alloc, place.name.as_str())?,
+            line: place.line,
+            text,
+            behind,
+            keyword: wish.keyword.copy(alloc)?,
+            moment: wish.moment,
+            look: wish.look,
+        })
+    }
+
+    /// The act that completes it, or gives it another keyword.
+    pub fn completion(&self) -> Completion<'_> {
+        Completion {
+            line: self.line,
+            keyword: self.keyword.choice(),
+            moment: self.moment,
+            behind: self.behind.as_str(),
+        }
+    }
+
+    /// The text, and what is read after it.
+    pub fn whole(&self, alloc: Global) -> Result<String, AllocError> {
+        let mut whole = String::from_str(alloc, self.text.as_str())?;
+        whole.push_str(self.behind.as_str())?;
+        Ok(whole)
+    }
+
+    /// Whether it still has the text in which it was found, if it was looked for.
+    pub fn is_as_found(&self, place: &HeadingPlace) -> bool {
+        match &place.found_in {
+            Some(found) => found.as_str().strip_prefix(self.text.as_str())
+                == Some(self.behind.as_str()),
+            None => true,
+        }
+    }
+}
+
+/// The heading at a place, with the text that its file has now.
+pub fn read_heading<R: AllocGlobal + Files>(
+    rt: &R,
+    place: &HeadingPlace,
+    wish: &Wish,
+) -> Result<HeadingText, LeftOut> {
+    let text = read_text(rt, place.name.as_str())?;
+    Ok(HeadingText::new(rt.alloc(), place, wish, text)?)
+}

@@ -1,0 +1,227 @@
+//! Calendars as pictures.
+ghost use Rattle.org_client.specs.Files.{AreRead};
+
+use crate::calendar::{Calendar, View};
+use crate::labels::{Wording, entries_of};
+use crate::names::{month_name, name_of, number_of, push_heads, push_span};
+use crate::view::{Chosen, agenda_over};
+use org_agenda::Agenda;
+use org_base::Fault;
+use org_cal::Day;
+use org_inherit::Inherits;
+use org_look::{
+    Entry, Grid, GridDay, Narrow, Plan, Week, grid_lines, push_listed_day, push_small_week,
+};
+use std::alloc::{AllocError, Global};
+
+// The most lines of a day of a week, which has no others' number but where bars have no room.
+const WEEK_LINES: usize = 60;
+
+/// A picture, and whether there is a row in it.
+#[derive(Debug, Drop)]
+pub struct Picture {
+    pub text: String,
+    pub has_row: bool,
+}
+
+/// The calendar that is asked for, over the stamps that are chosen: a grid, or a list where a grid has no room.
+pub fn calendar_picture(
+    alloc: Global,
+    inherits: &Inherits<'_>,
+    chosen: &Chosen<'_>,
+    calendar: &Calendar,
+) -> Result<Picture, Fault>
+    requires read { AreRead inherits.now }
+{
+    let agenda = agenda_over(alloc, inherits, chosen, calendar.days)?;
+    let grid = Grid::within(calendar.canvas.columns, calendar.canvas.signs);
+    let drawing = Drawing {
+        calendar,
+        today: chosen.as_of.today,
+        wording: Wording {
+            has_keyword: calendar.view == View::Week || grid.is_none(),
+            has_time: true,
+            signs: calendar.canvas.signs,
+        },
+    };
+    let weeks = all_weeks(alloc, inherits, &agenda, &drawing)?;
+    let mut text = String::new(alloc);
+    drawing.push(alloc, &mut text, weeks.as_slice())?;
+    let has_row = weeks.iter().any(has_row);
+    Ok(Picture { text, has_row })
+}
+
+// A calendar as it is drawn: on which day, and how rows are said.
+#[derive(Clone, Copy)]
+struct Drawing<'a> {
+    calendar: &'a Calendar,
+    today: Day,
+    wording: Wording,
+}
+
+// A week: its number and its days.
+#[derive(Debug, Drop)]
+struct WeekDays {
+    number: String,
+    days: Vec<GridDay>,
+}
+
+fn has_row(week: &WeekDays) -> bool {
+    week.days.iter().any(|day| !day.entries.is_empty())
+}
+
+fn all_weeks(
+    alloc: Global,
+    inherits: &Inherits<'_>,
+    agenda: &Agenda,
+    drawing: &Drawing<'_>,
+) -> Result<Vec<WeekDays>, Fault> {
+    let mut weeks = Vec::new(alloc);
+    for week in 0..agenda.count() / 7 {
+        weeks.push(week_of(alloc, inherits, agenda, drawing, 7 * week)?)?;
+    }
+    Ok(weeks)
+}
+
+// The week whose first day is so many days after the first of an agenda.
+fn week_of(
+    alloc: Global,
+    inherits: &Inherits<'_>,
+    agenda: &Agenda,
+    drawing: &Drawing<'_>,
+    first: u32,
+) -> Result<WeekDays, Fault> {
+    let mut days = Vec::new(alloc);
+    let mut number = String::new(alloc);
+    for ahead in first..first.saturating_add(7) {
+        if ahead < agenda.count() {
+            let rows = agenda.rows(alloc, ahead)?;
+            let entries = entries_of(alloc, inherits, rows.as_slice(), &drawing.wording)?;
+            let day = agenda.day(ahead);
+            if ahead == first {
+                let (_, week) = day.iso_week();
+                write!(number, "{week:>2} ")?;
+            }
+            days.push(drawing.day(alloc, day, entries)?)?;
+        }
+    }
+    Ok(WeekDays { number, days })
+}
+
+impl Drawing<'_> {
+    fn day(&self, alloc: Global, day: Day, entries: Vec<Entry>) -> Result<GridDay, AllocError> {
+        let (_, month, of_month) = day.parts();
+        let (_, shown, _) = self.calendar.day.parts();
+        let is_today = day == self.today;
+        Ok(GridDay {
+            number: number_of(alloc, day, is_today)?,
+            name: name_of(alloc, day)?,
+            of_month,
+            is_today,
+            is_of_month: self.calendar.view == View::Week || month == shown,
+            entries,
+        })
+    }
+
+    // A grid where it has room, else a list.
+    fn push(&self, alloc: Global, out: &mut String, weeks: &[WeekDays]) -> Result<(), AllocError> {
+        match Grid::within(self.calendar.canvas.columns, self.calendar.canvas.signs) {
+            Some(grid) => self.push_grid(alloc, out, weeks, &grid),
+            None => self.push_list(alloc, out, weeks),
+        }
+    }
+
+    fn push_list(
+        &self,
+        alloc: Global,
+        out: &mut String,
+        weeks: &[WeekDays],
+    ) -> Result<(), AllocError> {
+        self.push_title(alloc, out, 31)?;
+        out.push_str("    Mo  Tu  We  Th  Fr  Sa  Su\n")?;
+        let look = Narrow {
+            columns: usize::from(self.calendar.canvas.columns),
+            signs: self.calendar.canvas.signs,
+        };
+        for week in weeks {
+            push_small_week(out, week.number.as_str(), week.days.as_slice(), look.signs)?;
+        }
+        out.push('\n')?;
+        for week in weeks {
+            for day in &week.days {
+                push_listed_day(alloc, out, day, &look)?;
+            }
+        }
+        Ok(())
+    }
+
+    fn push_grid(
+        &self,
+        alloc: Global,
+        out: &mut String,
+        weeks: &[WeekDays],
+        grid: &Grid,
+    ) -> Result<(), AllocError> {
+        self.push_title(alloc, out, grid.columns())?;
+        push_heads(out, grid.cell)?;
+        let planned = self.plan_weeks(alloc, weeks, grid.cell)?;
+        for line in &grid_lines(alloc, planned.as_slice(), grid)? {
+            out.push_str(line.text.as_str())?;
+            out.push('\n')?;
+        }
+        Ok(())
+    }
+
+    fn plan_weeks(
+        &self,
+        alloc: Global,
+        weeks: &[WeekDays],
+        cell: usize,
+    ) -> Result<Vec<Week>, AllocError> {
+        let plan = match self.calendar.view {
+            View::Month => Plan {
+                lines: self.calendar.lines,
+                breaks: None,
+            },
+            View::Week => Plan {
+                lines: WEEK_LINES,
+                breaks: Some(cell.saturating_sub(2)),
+            },
+        };
+        let mut planned = Vec::new(alloc);
+        for week in weeks {
+            let number = String::from_str(alloc, week.number.as_str())?;
+            planned.push(Week::of(alloc, number, week.days.as_slice(), &plan)?)?;
+        }
+        Ok(planned)
+    }
+
+    // Appends the name of the month or the week in the middle of so many columns.
+    fn push_title(
+        &self,
+        alloc: Global,
+        out: &mut String,
+        columns: usize,
+    ) -> Result<(), AllocError> {
+        let title = self.title(alloc)?;
+        let before = columns.saturating_sub(title.len()) / 2;
+        writeln!(out, "{:before$}{title}", "")
+    }
+
+    fn title(&self, alloc: Global) -> Result<String, AllocError> {
+        let mut title = String::new(alloc);
+        let day = self.calendar.day;
+        match self.calendar.view {
+            View::Month => {
+                let (year, month, _) = day.parts();
+                write!(title, "{} {year}", month_name(month))?;
+            }
+            View::Week => {
+                let (_, week) = day.iso_week();
+                write!(title, "Week {week}, ")?;
+                push_span(&mut title, &self.calendar.days.period())?;
+            }
+        }
+        Ok(title)
+    }
+}

@@ -1,0 +1,1 @@
+printf '* Nothing planned\n' > empty.org

@@ -1,0 +1,1 @@
+printf '* DONE a\n' > a.org

@@ -1,0 +1,2 @@
+printf '* TODO a\n' > a.org
+ln -s a.org b.org

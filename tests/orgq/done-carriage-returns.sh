@@ -1,0 +1,1 @@
+printf '* TODO a\r\nb\r\n' > a.org

@@ -1,0 +1,1 @@
+printf '* TODO a\033[31mb\n' > a.org

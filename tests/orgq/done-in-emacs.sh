@@ -1,0 +1,2 @@
+printf '* TODO a\n' > a.org
+ln -s 'ann@host.4711:1700000000' .#a.org

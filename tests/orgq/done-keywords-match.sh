@@ -1,0 +1,1 @@
+printf '* WAIT a\n* TODO b\n' > a.org

@@ -1,0 +1,1 @@
+printf '#+TODO: A | B\n* A a\n' > a.org

@@ -1,0 +1,1 @@
+printf '* WAIT a\n' > a.org

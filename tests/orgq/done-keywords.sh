@@ -1,0 +1,1 @@
+printf '* WAIT a' > a.org

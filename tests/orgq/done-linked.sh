@@ -1,0 +1,2 @@
+printf '* TODO a\n' > a.org
+ln a.org b.org

@@ -1,0 +1,1 @@
+printf '* TODO COMMENT b :x:\n* TODO a :x:\n' > a.org

@@ -1,0 +1,2 @@
+printf '* TODO a\n' > a.org
+chmod 640 a.org

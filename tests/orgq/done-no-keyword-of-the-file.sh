@@ -1,0 +1,1 @@
+printf '#+TODO: A | B\n#+TODO: C | D E\n* C x\n' > a.org

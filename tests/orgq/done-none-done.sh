@@ -1,0 +1,1 @@
+printf '#+TODO: A B |\n* A x\n' > a.org

@@ -1,0 +1,2 @@
+printf '* TODO a\n' > a.org
+chmod 444 a.org

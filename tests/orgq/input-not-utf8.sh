@@ -1,0 +1,1 @@
+exec < latin/latin.org

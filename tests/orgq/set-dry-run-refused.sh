@@ -1,0 +1,2 @@
+printf '* TODO a\n' > a.org
+printf left > .a.org.orgq
