@@ -19,7 +19,7 @@ rules='
 30_000_000	crates/org_index/src/delays.rt	.
 '
 # Files in which laws say numbers in words of their own.
-laws='specs/(Laws|Limits|Examples|Refusals|Rest|SerialReplies|Spelled|Rules)\.antt$'
+laws='specs/(Laws|Limits|Examples|Reasons|Refusals|Rest|Framing|Spelled|Rules)\.antt$'
 
 code() {
     find crates -name out -prune -o -type f \( -path '*/src/*.rt' -o -path '*/specs/*.antt' \) -print |
