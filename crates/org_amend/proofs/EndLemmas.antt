@@ -1,5 +1,5 @@
 -- A running clock's line with its end.
-use Rattle.std.proofs.Common.{◌≡◌, ◌==◌, ◌&&◌, ℕ, ◌+◌, ◌≤◌, ◌<◌, inl, inr, Bool, true, false, List, [], ◌∷◌, ◌++◌, length, take, drop, refl, sym, subst, ◌∙◌, ap, arith, codes, length-append, length-take, append_assoc}
+use Rattle.std.proofs.Common.{◌≡◌, ◌==◌, ◌&&◌, ℕ, ◌+◌, ◌≤◌, ◌<◌, inl, inr, Bool, true, false, List, [], ◌∷◌, ◌++◌, length, take, drop, refl, sym, subst, ◌∙◌, ap, arith, codes, length-append, length-drop, length-take, append_assoc}
 use Rattle.std.specs.Prelude.{Option, Some, None, if◌then◌else◌, nat_eq, unwrap_or}
 use Rattle.std.specs.List.{prefix_len, starts_with}
 use Rattle.std.specs.Option.{option_and_then, option_map}
@@ -8,6 +8,7 @@ use Rattle.std.proofs.lemmas.Bool.Decides.{Decides-eqb}
 use Rattle.std.proofs.lemmas.List.{take-append-drop}
 use Rattle.std.proofs.lemmas.Option.{option_and_then_some}
 use Rattle.std.proofs.lemmas.Slice.Eq.{starts_is}
+use Rattle.org_amend.specs.Begun.{indent_of}
 use Rattle.org_amend.specs.Clocks.{end_text, from_stamp, from_unended, hours_text, minute_at, moment_stamp, since, stamp_end, stamp_len}
 use Rattle.org_amend.specs.Laws.{BegunClocksRun, EndedClocksAreRead, EndsStamp, with_text}
 use Rattle.org_base.specs.Words.{is_space}
@@ -50,14 +51,14 @@ single_begins single tail s h inactive =
     subst (λ t. NoSpace (t ++ tail)) (sym is) refl
 
 -- the parts of a running clock's line
-record AreParts (line gap between stamp rest : List ℕ) (s : Stamp) : Type 0 where
+pub record AreParts (line gap between stamp rest : List ℕ) (s : Stamp) : Type 0 where
   pub line_is : line ≡ gap ++ (codes "CLOCK:" ++ (between ++ (stamp ++ rest)))
   pub gap_is : IsGap gap
   pub between_is : IsGap between
   pub stamp_is : IsSingle stamp s
   pub inactive : s.active ≡ false
 
-record IsSplit (line : List ℕ) (from : ℕ) : Type 0 where
+pub record IsSplit (line : List ℕ) (from : ℕ) : Type 0 where
   pub gap : List ℕ
   pub between : List ℕ
   pub stamp : List ℕ
@@ -66,6 +67,16 @@ record IsSplit (line : List ℕ) (from : ℕ) : Type 0 where
   pub parts : AreParts line gap between stamp rest s
   pub from_is : from ≡ minute_of_pair (s.day, s.time)
   pub end_is : stamp_end line ≡ length gap + (6 + (length between + length stamp))
+
+unended_is : (from : ℕ) (to : Option ℕ) (since : ℕ) → from_unended from to ≡ Some since → (since ≡ from) × (to ≡ None)
+unended_is from None since e = ((let same : since ≡ from = cc in same), refl)
+unended_is from (Some to) since e = absurd cc
+
+-- a running clock's line is read as one
+pub since_is : (line : List ℕ) (from : ℕ) → since line ≡ Some from → clock_of line ≡ Some (record { from = from; to = None })
+since_is line from e = option_and_then_some _ (clock_of line) from e (λ clock was unended.
+    let h = unended_is clock.from clock.to from unended in
+    was ∙ (ap (λ f. Some (record { from = f; to = clock.to })) (sym h.0) ∙ ap (λ t. Some (record { from = from; to = t })) h.1))
 
 -- a range has day, time and brackets of its first stamp
 record IsSame (s t : Stamp) : Type 0 where
@@ -119,7 +130,7 @@ end_at line gap between rest s n is read size =
     let left : length (from_stamp line) ≡ length rest = ap length is in
     omega (arith, len, left, size)
 
-split_line : (line : List ℕ) (from : ℕ) → since line ≡ Some from → IsSplit line from
+pub split_line : (line : List ℕ) (from : ℕ) → since line ≡ Some from → IsSplit line from
 split_line line from e =
     option_and_then_some _ (clock_of line) from e (λ clock was unended.
     mapped _ (clock_stamp line) clock was (λ t stamped made.
@@ -196,7 +207,7 @@ clock_read gap between text gap_is between_is none =
     rw (front, back) refl
 
 -- the line with the end put in
-put_in : (gap between stamp rest text : List ℕ) (n : ℕ) (line : List ℕ) → line ≡ gap ++ (codes "CLOCK:" ++ (between ++ (stamp ++ rest))) →
+pub put_in : (gap between stamp rest text : List ℕ) (n : ℕ) (line : List ℕ) → line ≡ gap ++ (codes "CLOCK:" ++ (between ++ (stamp ++ rest))) →
     n ≡ length gap + (6 + (length between + length stamp)) → with_text line n text ≡ gap ++ (codes "CLOCK:" ++ (between ++ (stamp ++ (text ++ rest))))
 put_in gap between stamp rest text n line line_is n_is =
     let front = gap ++ (codes "CLOCK:" ++ (between ++ stamp)) in
@@ -242,11 +253,24 @@ single_read first rest s first_is inactive ends =
     rw (one, left, only, inactive) refl
 
 pub begun_clocks_run : BegunClocksRun
-begun_clocks_run now end day time ends =
+begun_clocks_run now opening end day time ends =
     let stamp = stamp_text (moment_stamp now) in
     let text = stamp ++ end in
+    let gap = indent_of opening in
     let is = printed now day time in
-    let read : clock_stamp ([] ++ (codes "CLOCK:" ++ (codes " " ++ text))) ≡ Some (moment_stamp now) =
-    clock_read [] (codes " ") text refl refl (single_begins stamp end (moment_stamp now) is refl)
+    let read : clock_stamp (gap ++ (codes "CLOCK:" ++ (codes " " ++ text))) ≡ Some (moment_stamp now) =
+    clock_read gap (codes " ") text (gap_front opening) refl (single_begins stamp end (moment_stamp now) is refl)
     ∙ single_read stamp end (moment_stamp now) is refl ends in
     ap (option_map (λ (s : Stamp). record { from = minute_of_pair (s.day, s.time); to = option_map minute_of_pair s.last })) read
+
+-- a stamp ends in its line
+pub stamp_end_within : (line : List ℕ) → stamp_end line ≤ length line
+stamp_end_within line =
+    let rest = from_stamp line in
+    let short : length rest ≤ length line = simp length-drop (omega arith) in
+    let stamp : stamp_len rest ≤ length rest = stamp_within rest (single_of rest) refl in
+    omega arith
+  where
+    stamp_within : (rest : List ℕ) (found : Option (Stamp × ℕ)) → single_of rest ≡ found → unwrap_or (option_map (λ f. f.1) found) 0 ≤ length rest
+    stamp_within rest None is = omega arith
+    stamp_within rest (Some found) is = (single_found rest found.0 found.1 is).0

@@ -1,13 +1,51 @@
 -- Worked examples: what the definitions say of ordinary inputs, and of those at which a wrong rule says something else.
-use Rattle.std.specs.Prelude.{◌≡◌, [], ◌∷◌, codes, Some, None}
+use Rattle.std.specs.Prelude.{◌≡◌, ℕ, false, [], ◌∷◌, codes, Some, None}
+use Rattle.org_amend.specs.Begun.{indent_of, line_break}
+use Rattle.org_amend.specs.Cancelled.{closing_len, emptied_part}
 use Rattle.org_amend.specs.Places.{front_end, logbook_from}
+use Rattle.org_amend.specs.Planning.{dated_draft, is_said, undated_line}
+use Rattle.org_amend.specs.Typed.{typed_date}
+use Rattle.org_cal.specs.Days.{day_number}
 use Rattle.org_class.specs.declared.class.Class.TheVariants.{Heading, Planning, Plain, Verbatim}
+use Rattle.org_stamp.specs.declared.pair.PlanningKeyword.TheVariants.{Deadline, Scheduled}
 
--- the front ends before the first other line; a drawer of
--- small letters is one, a line of a block and a drawer that doesn't end are none
+-- the front ends before the first other line; a drawer of small letters is one, a line of a block and a drawer that doesn't
+-- end are none. Tabs count as indentation; lines end as the first of the section does, and where that isn't ended by a line
+-- feed. The drawer goes with a clock that stands first in it and last; one of which more follows stays, and so does one that
+-- a line stands in before the clock
 pub record ExamplesHold : Type 0 where
   pub front : front_end (Heading ∷ Planning ∷ Plain ∷ []) 0 10 (codes "* a\n" ∷ codes "CLOSED: b\n" ∷ codes "c\n" ∷ []) ≡ 24
   pub all_front : front_end (Heading ∷ []) 0 10 (codes "* a\n" ∷ []) ≡ 14
-  pub drawer : logbook_from None (Heading ∷ Plain ∷ Plain ∷ Plain ∷ []) 0 0 (codes "* a\n" ∷ codes ":logbook:\n" ∷ codes "b\n" ∷ codes ":END:\n" ∷ []) ≡ Some 14
+  pub drawer : logbook_from None (Heading ∷ Plain ∷ Plain ∷ Plain ∷ []) 0 0 (codes "* a\n" ∷ codes ":logbook:\n" ∷ codes "b\n" ∷ codes ":END:\n" ∷ []) ≡ Some (record { at = 4; len = 10 })
   pub unended : logbook_from None (Heading ∷ Plain ∷ Plain ∷ []) 0 0 (codes "* a\n" ∷ codes ":LOGBOOK:\n" ∷ codes "b\n" ∷ []) ≡ None
   pub in_block : logbook_from None (Heading ∷ Verbatim ∷ Plain ∷ []) 0 0 (codes "* a\n" ∷ codes ":LOGBOOK:\n" ∷ codes ":END:\n" ∷ []) ≡ None
+  pub indented : indent_of (codes " \t:LOGBOOK:\n") ≡ codes " \t"
+  pub line_feed : line_break (codes "* a\nb\r\n") ≡ codes "\n"
+  pub carriage_return : line_break (codes "* a\r\nb\n") ≡ codes "\r\n"
+  pub unended_heading : line_break (codes "* a") ≡ codes "\n"
+  pub emptied : (from : ℕ) → emptied_part (Some (record { at = 4; len = 10 })) (record { at = 14; len = 30; end = 43; from = from }) (closing_len (codes " :end:\n" ∷ [])) ≡ record { at = 4; len = 47 }
+  pub more_follows : (from : ℕ) → emptied_part (Some (record { at = 4; len = 10 })) (record { at = 14; len = 30; end = 43; from = from }) (closing_len (codes "b\n" ∷ codes ":END:\n" ∷ [])) ≡ record { at = 14; len = 30 }
+  pub behind_more : (from : ℕ) → emptied_part (Some (record { at = 4; len = 10 })) (record { at = 16; len = 30; end = 45; from = from }) (closing_len (codes ":END:\n" ∷ [])) ≡ record { at = 16; len = 30 }
+
+-- a stamp takes the place of the last one of its keyword, a range whole, or comes before all others, or on a line of its own;
+-- not where others would be read then. Stamps go with the white space before them, and what is left of the line stays, or
+-- goes, or stays empty; not where it would be read as a heading, or hide a drawer. A date has a time or a span of one
+pub record PlanningExamplesHold : Type 0 where
+  pub new_line : dated_draft Scheduled (codes "<new>") (codes "text\n") (codes "\n") ≡ codes "SCHEDULED: <new>\n"
+  pub in_place : dated_draft Scheduled (codes "<new>") (codes " SCHEDULED: <2024-02-01 Thu +1w> x\n") (codes "\n") ≡ codes " SCHEDULED: <new> x\n"
+  pub whole_range : dated_draft Scheduled (codes "<new>") (codes "SCHEDULED: <2024-02-01 Thu>--<2024-02-03 Sat>\n") (codes "\n") ≡ codes "SCHEDULED: <new>\n"
+  pub last_of_two : dated_draft Deadline (codes "<new>") (codes "DEADLINE: <2024-01-01 Mon> DEADLINE: <2024-02-01 Thu>\n") (codes "\n") ≡ codes "DEADLINE: <2024-01-01 Mon> DEADLINE: <new>\n"
+  pub in_front : dated_draft Scheduled (codes "<new>") (codes "  CLOSED: [2024-02-02 Fri]\n") (codes "\n") ≡ codes "  SCHEDULED: <new> CLOSED: [2024-02-02 Fri]\n"
+  pub brings_other : is_said Scheduled (codes "<2024-03-01 Fri>") (codes "SCHEDULED: [2024-02-01 Thu]--<2024-02-03 Sat> DEADLINE: <2024-02-02 Fri>\n") (codes "\n")
+      (codes "SCHEDULED: <2024-03-01 Fri>--<2024-02-03 Sat> DEADLINE: <2024-02-02 Fri>\n") ≡ false
+  pub line_goes : undated_line Scheduled (codes "SCHEDULED: <2024-02-01 Thu>\n") (codes "b\n") ≡ Some []
+  pub all_go : undated_line Scheduled (codes "SCHEDULED: <2024-01-01 Mon> SCHEDULED: <2024-02-01 Thu>") [] ≡ Some []
+  pub others_stay : undated_line Scheduled (codes "  SCHEDULED: <2024-02-01 Thu> DEADLINE: <2024-02-02 Fri>\n") [] ≡ Some (codes "  DEADLINE: <2024-02-02 Fri>\n")
+  pub text_stays : undated_line Scheduled (codes "DEADLINE: <2024-02-02 Fri> SCHEDULED: <2024-02-01 Thu>  x\n") [] ≡ Some (codes "DEADLINE: <2024-02-02 Fri>  x\n")
+  pub empty_stays : undated_line Scheduled (codes "\tSCHEDULED: <2024-02-01 Thu>\t\r\n") (codes "DEADLINE: <2024-02-02 Fri>\r\n") ≡ Some (codes "\r\n")
+  pub word_stays : undated_line Scheduled (codes "SCHEDULED: <2024-02-01 Thu> and a word\n") (codes "b\n") ≡ Some (codes "and a word\n")
+  pub no_heading : undated_line Scheduled (codes "SCHEDULED: <2024-02-01 Thu> * A\n") [] ≡ None
+  pub no_lost_drawer : undated_line Scheduled (codes "SCHEDULED: <2024-02-01 Thu> and a word\n") (codes ":PROPERTIES:\n") ≡ None
+  pub spanned : (today : ℕ) → typed_date (codes "2024-03-01 9:30-10:15") today ≡ Some (record { day = day_number 2024 3 1; time = Some 570; end_time = Some 615 })
+  pub timed : (today : ℕ) → typed_date (codes "today 09:30") today ≡ Some (record { day = today; time = Some 570; end_time = None })
+  pub no_time : (today : ℕ) → typed_date (codes "today 24:00") today ≡ None

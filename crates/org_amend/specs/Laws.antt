@@ -8,9 +8,8 @@ use Rattle.org_cal.specs.Days.{IsDay}
 use Rattle.org_cal.specs.declared.moment.Moment.{Moment}
 use Rattle.org_cal.specs.declared.time_of_day.TheConstants.{MINUTES_PER_DAY}
 use Rattle.org_drawer.specs.Clock.{clock_of}
-use Rattle.org_amend.specs.Clocks.{end_text, first_running, minute_at, moment_stamp, since, stamp_end}
-use Rattle.org_amend.specs.Places.{clock_text}
-use Rattle.org_stamp.specs.Print.{stamp_text}
+use Rattle.org_amend.specs.Clocks.{end_text, first_running, minute_at, since, stamp_end}
+use Rattle.org_amend.specs.Begun.{clock_line}
 
 -- a line with a text put in at a place
 abbrev pub with_text : List ℕ → ℕ → List ℕ → List ℕ
@@ -26,10 +25,11 @@ abbrev pub EndsStamp : List ℕ → Type 0
 EndsStamp [] = Unit {0}
 EndsStamp (b ∷ bs) = (b == 45) ≡ false
 
--- the line of a clock that begins at a moment is read as one that runs since that moment, however the line ends
+-- the line of a clock that begins at a moment is read as one that runs since that moment, whatever its drawer's indentation
+-- is and however it ends
 abbrev pub BegunClocksRun : Type 0
-BegunClocksRun = (now : Moment) (end : List ℕ) → IsDay now.day → now.minute < MINUTES_PER_DAY → EndsStamp end →
-    clock_of (clock_text (stamp_text (moment_stamp now)) end) ≡ Some (record { from = minute_at now; to = None })
+BegunClocksRun = (now : Moment) (opening end : List ℕ) → IsDay now.day → now.minute < MINUTES_PER_DAY → EndsStamp end →
+    clock_of (clock_line now opening end) ≡ Some (record { from = minute_at now; to = None })
 
 -- a running clock's line, and those before and after it, none of which runs before it; each byte of it is where it is said
 pub record IsFirst (cs : List Class) (place at : ℕ) (ls : List (List ℕ)) (r : RunningClock) : Type 0 where

@@ -1,4 +1,13 @@
+pub mod Begun
+pub mod Cancelled
 pub mod Clocks
+pub mod Entries
+pub mod EntryLaws
 pub mod Examples
+pub mod Heads
 pub mod Laws
 pub mod Places
+pub mod Planning
+pub mod PlanningLaws
+pub mod Typed
+pub mod Within

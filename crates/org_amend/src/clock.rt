@@ -11,7 +11,7 @@ use std::alloc::{AllocError, Global};
 
 /// What ends a clock at a moment, after so many minutes: two dashes, the moment, and the minutes as Org writes them. It is put
 /// right behind the stamp of the running clock; then its line is read as that clock, ended at the moment.
-pub fn end_text(alloc: Global, moment: Moment, minutes: u32) -> Result<String, Fault>
+pub fn end_text(alloc: Global, moment: Moment, minutes: u64) -> Result<String, Fault>
     ensures value { GivesText result (end_text moment minutes) }
     ensures memory { IsOkUnless result memory_fault }
 {
@@ -38,7 +38,7 @@ pub(crate) fn moment_stamp(moment: Moment) -> Stamp
 }
 
 // Puts minutes at the end, as hours in two places or more, and minutes.
-fn push_hours(text: &mut String, minutes: u32) -> Result<(), AllocError>
+fn push_hours(text: &mut String, minutes: u64) -> Result<(), AllocError>
     ensures ok { Writes result text.old text.new (hours_text minutes) }
 {
     let hours = minutes / 60;

@@ -1,6 +1,8 @@
 //! Laws of the definitions. Each is a function without parameters whose contract is the law.
-ghost use Rattle.org_amend.specs.Examples.{ExamplesHold};
+ghost use Rattle.org_amend.specs.EntryLaws.{EntriesAreReadBack, HeadsAreReadBack};
+ghost use Rattle.org_amend.specs.Examples.{ExamplesHold, PlanningExamplesHold};
 ghost use Rattle.org_amend.specs.Laws.{BegunClocksRun, EndedClocksAreRead, FoundClocksRun};
+ghost use Rattle.org_amend.specs.PlanningLaws.{DatedLinesArePlanning, DatesAreSaid, LostStampsAreUnsaid, OtherLinesStay};
 
 /// Where a running clock's line gets its end right behind its stamp, it is read as that clock, ended at that moment.
 pub fn ended_clocks_are_read()
@@ -20,4 +22,41 @@ pub fn found_clocks_run()
 /// The front ends before the first other line, and a drawer of small letters is one where it ends.
 pub fn examples_hold()
     ensures { ExamplesHold }
+{}
+
+/// A line that gets a date under a planning keyword says it, with the repeater and the delay that stood there, and all else
+/// that it said.
+pub fn dates_are_said()
+    ensures { DatesAreSaid }
+{}
+
+/// A line that loses the stamps of a planning keyword says nothing under it, and all else that it said.
+pub fn lost_stamps_are_unsaid()
+    ensures { LostStampsAreUnsaid }
+{}
+
+/// A line that gets a date is the planning line of its heading, and the lines behind it are read as behind any planning line.
+pub fn dated_lines_are_planning()
+    ensures { DatedLinesArePlanning }
+{}
+
+/// What is left of a planning line is one or is text, and the lines behind it are read as before.
+pub fn other_lines_stay()
+    ensures { OtherLinesStay }
+{}
+
+/// A stamp takes the place of the last one of its keyword; a line of which nothing is left goes, unless the next one would be
+/// read in its place.
+pub fn planning_examples_hold()
+    ensures { PlanningExamplesHold }
+{}
+
+/// The heading line of a new heading is read as just the keyword, the priority, the title and the tags that were asked for.
+pub fn heads_are_read_back()
+    ensures { HeadsAreReadBack }
+{}
+
+/// The lines of a new heading are read as one heading with just its words, its dates and its body, and none of them is a setting.
+pub fn entries_are_read_back()
+    ensures { EntriesAreReadBack }
 {}

@@ -1,25 +1,39 @@
-//! Clocks of a heading: which one runs, where the line of one that begins goes, and what is written where one begins or ends.
+//! What is written about a heading: the line under it with a date or without one, the lines of a new heading, and its clocks:
+//! which one runs, where the line of one that begins goes, and what is written where one begins or ends. Dates and new headings
+//! are read back: what would be read as something else isn't written.
 //!
 //! Nothing here changes a text. A call finds a place in the section of a heading, or gives what is put in at one, so all else
-//! stays. A clock is ended by what is put right behind its stamp, and taken away with its line.
+//! stays. A clock is ended by what is put right behind its stamp. Its line is taken away with the drawer that holds no other.
 //!
 //! Every call that allocates may be refused memory, and that is its only refusal.
 //!
 //! ```
 //! match logbook(alloc, text, section, classes)? {
-//!     Some(at) => Ok(ClockPlace::InDrawer(at)),
+//!     Some(drawer) => Ok(ClockPlace::InDrawer(drawer)),
 //!     None => Ok(ClockPlace::UnderFront(front_end(alloc, text, section, classes)?)),
 //! }
 //! ```
 //!
-//! Lines of `org_amend/src/place.rt`. No program calls it yet. Tests: its laws and examples, `org_amend/src/laws.rt`.
+//! Lines of `org_amend/src/place.rt`. Tests: its laws and examples, `org_amend/src/laws.rt`.
 #![tactic(auto)]
 
+mod begun;
+mod cancelled;
 mod clock;
+mod entry;
+mod head;
 pub mod laws;
 mod place;
+mod planning;
 mod running;
+mod typed;
 
+pub use begun::{clock_drawer, clock_line, line_break};
+pub use cancelled::cancelled_part;
 pub use clock::end_text;
-pub use place::{ClockPlace, begun_text, clock_place};
+pub use entry::{NewEntry, entry_text};
+pub use head::{NewHead, Unreadable, head_line};
+pub use place::{ClockPlace, clock_place};
+pub use planning::{dated_line, undated_line};
 pub use running::{RunningClock, running_clock};
+pub use typed::TypedDate;

@@ -1,6 +1,7 @@
 //! The clock that runs in a section.
-ghost use Rattle.std.specs.Prelude.{◌≡◌, ◌+◌, ◌≤◌, ◌<◌, ◌^◌, IsOkUnless, length, nat_le, slice_get};
+ghost use Rattle.std.specs.Prelude.{◌≡◌, ◌+◌, ◌≤◌, ◌<◌, ◌^◌, IfOk, IfSome, IsOkUnless, length, nat_le, slice_get};
 ghost use Rattle.org_amend.specs.Clocks.{from_stamp, minute_at, running_in, running_line, running_of, since, stamp_end, stamp_len};
+ghost use Rattle.org_amend.specs.Within.{IsWithin};
 ghost use Rattle.org_base.specs.Codes.{memory_fault};
 ghost use Rattle.org_base.specs.Results.{Gives};
 ghost use Rattle.org_stamp.specs.Pair.{past_spaces};
@@ -38,6 +39,20 @@ impl RunningClock {
 
 /// The first running clock of a section of a text; the classes are those of the section's lines.
 pub fn running_clock<T: Text>(
+    alloc: Global,
+    text: &T,
+    section: Span,
+    classes: &[Class],
+) -> Result<Option<RunningClock>, Fault>
+    requires within { section.at + section.len ≤ length (T.content text.now) }
+    ensures value { Gives result (running_in (T.content text.now) section classes.now) }
+    ensures within { IfOk result (λ found. IfSome found (IsWithin section)) }
+    ensures memory { IsOkUnless result memory_fault }
+{
+    find_running(alloc, text, section, classes)
+}
+
+fn find_running<T: Text>(
     alloc: Global,
     text: &T,
     section: Span,

@@ -1,5 +1,6 @@
 use Rattle.std.proofs.Common.{◌∙◌, ap, arith, length, sym}
 use Rattle.std.specs.Prelude.{Option}
+use Rattle.org_base.specs.declared.span.Span.{Span}
 use Rattle.org_amend.proofs.PlaceLemmas.{drawer_more, drawer_none, drawer_same, if_false, if_true}
 use Rattle.org_amend.proofs.RunningLemmas.{length_more}
 use Rattle.org_amend.specs.Places.{or_opened}

@@ -1,7 +1,7 @@
 use Rattle.std.proofs.Common.{◌≡◌, ◌+◌, ◌≤◌, map, length}
 use Rattle.std.specs.List.{concat}
 use Rattle.org_amend.specs.Clocks.{first_running, running_in}
-use Rattle.org_amend.proofs.running.running_clock.Given as goal
+use Rattle.org_amend.proofs.running.find_running.Given as goal
 
 -- the first running clock of the lines that are left is that of all
 abbrev pub invariant-loop-line : goal.invariant-loop-line

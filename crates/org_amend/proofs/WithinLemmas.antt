@@ -1,0 +1,142 @@
+-- What is found of a section lies in it.
+use Rattle.std.proofs.Common.{◌≡◌, ◌≤◌, ◌<◌, ℕ, ◌+◌, ◌&&◌, List, [], ◌∷◌, ◌++◌, length, sym, ap, subst, ◌∙◌, arith, length-append}
+use Rattle.std.specs.Prelude.{Option, Some, None, IfSome, Result, Ok, Err, IfOk, if◌then◌else◌, is_some, slice_get}
+use Rattle.std.specs.List.{concat}
+use Rattle.std.proofs.lemmas.Bool.{cond_both}
+use Rattle.std.proofs.lemmas.List.Folds.{concat-append}
+use Rattle.org_amend.specs.Cancelled.{closing_len}
+use Rattle.org_amend.specs.Clocks.{first_running, running_in, stamp_end}
+use Rattle.org_amend.specs.Laws.{IsFirst}
+use Rattle.org_amend.specs.Places.{clock_place, front_end, front_in, is_front, is_logbook, logbook_from, logbook_in, opened, or_opened, place_at, place_of}
+use Rattle.org_amend.specs.Within.{EndsIn, IsWithin}
+use Rattle.org_amend.specs.declared.place.ClockPlace.{ClockPlace}
+use Rattle.org_amend.specs.declared.running.RunningClock.{RunningClock}
+use Rattle.org_amend.proofs.EndLemmas.{stamp_end_within}
+use Rattle.org_amend.proofs.RunningLemmas.{found_clocks_run}
+use Rattle.org_base.specs.Results.{Gives}
+use Rattle.org_base.specs.Spans.{bytes_in}
+use Rattle.org_base.specs.declared.span.Span.{Span}
+use Rattle.org_class.specs.Drawers.{is_drawer_end}
+use Rattle.org_class.specs.declared.class.Class.{Class}
+use Rattle.org_class.specs.declared.class.Class.TheVariants.{Heading, Planning, DrawerOpen, Node, DrawerEnd, Clock, Setting, Comment, BlockOpen, Verbatim, BlockEnd, Plain}
+use Rattle.org_lines.specs.Cuts.{lines_in}
+use Rattle.org_lines.proofs.LineLemmas.{concat-lines, length_range}
+
+-- lines, of which the first begins at a place, end no later than at a limit
+abbrev pub EndBy : ℕ → List (List ℕ) → ℕ → Type 0
+EndBy at ls end = at + length (concat ls) ≤ end
+
+-- the front
+
+front_ends : (cs : List Class) (place at end : ℕ) (ls : List (List ℕ)) → EndBy at ls end → front_end cs place at ls ≤ end
+unfolding front_end
+front_ends cs place at end [] h = omega arith
+front_ends cs place at end (l ∷ ls) h =
+    cond_both (is_front (slice_get cs place)) (front_end cs (place + 1) (at + length l) ls) at (λ n. n ≤ end)
+    (λ _. front_ends cs (place + 1) (at + length l) end ls (omega (arith, length-append l (concat ls))))
+    (λ _. omega arith)
+
+-- a drawer's opening line ends at a place, if there is one
+abbrev EndsBy : Option Span → ℕ → Type 0
+EndsBy found end = IfSome found (λ line. line.at + line.len ≤ end)
+
+later_ends : (found : Option Span) (at more : ℕ) → EndsBy found at → EndsBy found (at + more)
+later_ends None at more h = tt
+later_ends (Some line) at more h = omega arith
+
+opened_by : (class : Option Class) (at : ℕ) (l : List ℕ) → EndsBy (opened class at l) (at + length l)
+opened_by None at l = tt
+opened_by (Some Plain) at l = cond_both (is_logbook l) (Some (record { at = at; len = length l })) None (λ found. EndsBy found (at + length l)) (λ _. omega arith) (λ _. tt)
+opened_by (Some Heading) at l = tt
+opened_by (Some Planning) at l = tt
+opened_by (Some DrawerOpen) at l = tt
+opened_by (Some Node) at l = tt
+opened_by (Some DrawerEnd) at l = tt
+opened_by (Some Clock) at l = tt
+opened_by (Some Setting) at l = tt
+opened_by (Some Comment) at l = tt
+opened_by (Some BlockOpen) at l = tt
+opened_by (Some Verbatim) at l = tt
+opened_by (Some BlockEnd) at l = tt
+
+or_opened_by : (found : Option Span) (class : Option Class) (at : ℕ) (l : List ℕ) → EndsBy found at → EndsBy (or_opened found class at l) (at + length l)
+or_opened_by None class at l h = opened_by class at l
+or_opened_by (Some line) class at l h = omega arith
+
+by_limit : (found : Option Span) (at end : ℕ) → EndsBy found at → at ≤ end → EndsBy found end
+by_limit None at end h le = tt
+by_limit (Some line) at end h le = omega arith
+
+logbook_ends : (found : Option Span) (cs : List Class) (place at end : ℕ) (ls : List (List ℕ)) → EndsBy found at → EndBy at ls end → EndsBy (logbook_from found cs place at ls) end
+unfolding logbook_from
+logbook_ends found cs place at end [] h e = tt
+logbook_ends found cs place at end (l ∷ ls) h e =
+    cond_both (is_some found && is_drawer_end l) found (logbook_from (or_opened found (slice_get cs place) at l) cs (place + 1) (at + length l) ls) (λ d. EndsBy d end)
+    (λ _. by_limit found at end h (omega arith))
+    (λ _. logbook_ends (or_opened found (slice_get cs place) at l) cs (place + 1) (at + length l) end ls (or_opened_by found (slice_get cs place) at l h) (omega (arith, length-append l (concat ls))))
+
+-- the lines of a section end where it does
+lines_end : (text : List ℕ) (section : Span) → section.at + section.len ≤ length text → EndBy section.at (lines_in text section) (section.at + section.len)
+lines_end text section h =
+    let long : length (concat (lines_in text section)) ≡ section.len = ap length (concat-lines (bytes_in text section)) ∙ length_range text section.at section.len h in
+    omega (arith, long)
+
+pub logbook_within : (text : List ℕ) (section : Span) (cs : List Class) → section.at + section.len ≤ length text → EndsIn section (logbook_in text section cs)
+logbook_within text section cs h = logbook_ends None cs 0 section.at (section.at + section.len) (lines_in text section) tt (lines_end text section h)
+
+place_within : (found : Option Span) (front end : ℕ) → EndsBy found end → front ≤ end → place_at (place_of found front) ≤ end
+place_within None front end h le = le
+place_within (Some line) front end h le = h
+
+pub clock_place_within : (text : List ℕ) (section : Span) (cs : List Class) → section.at + section.len ≤ length text → place_at (clock_place text section cs) ≤ section.at + section.len
+clock_place_within text section cs h =
+    place_within (logbook_in text section cs) (front_in text section cs) (section.at + section.len) (logbook_within text section cs h)
+    (front_ends cs 0 section.at (section.at + section.len) (lines_in text section) (lines_end text section h))
+
+-- the first running clock
+first_within : (cs : List Class) (place : ℕ) (section : Span) (ls : List (List ℕ)) (r : RunningClock) → EndBy section.at ls (section.at + section.len) → IsFirst cs place section.at ls r → IsWithin section r
+first_within cs place section ls r ends h =
+    let whole : length (concat ls) ≡ length (concat h.before) + (length h.line + length (concat h.after)) =
+    ap (λ (x : List (List ℕ)). length (concat x)) h.lines_are ∙ (ap length (concat-append h.before (h.line ∷ h.after)) ∙ simp length-append) in
+    let stamp : stamp_end h.line ≤ length h.line = stamp_end_within h.line in
+    record {
+      low = omega (arith, h.at_is);
+      high = omega (arith, h.at_is, h.len_is, whole, ends);
+      stamp_low = omega (arith, h.end_is);
+      stamp_high = omega (arith, h.end_is, h.len_is, stamp);
+    }
+
+pub running_within : (text : List ℕ) (section : Span) (cs : List Class) (r : RunningClock) → section.at + section.len ≤ length text → running_in text section cs ≡ Some r → IsWithin section r
+running_within text section cs r h found =
+    first_within cs 0 section (lines_in text section) r (lines_end text section h) (found_clocks_run cs 0 section.at (lines_in text section) r found)
+
+-- the same of an answer
+
+abbrev pub PlaceIn : {E : Type 0} → Span → Result ClockPlace E → Type 0
+PlaceIn section result = IfOk result (λ place. place_at place ≤ section.at + section.len)
+
+pub place_found : {E : Type 0} (section : Span) (place : ClockPlace) (result : Result ClockPlace E) → place_at place ≤ section.at + section.len → Gives result place → PlaceIn section result
+place_found section place (Ok found) h e = subst (λ p. place_at p ≤ section.at + section.len) (sym e) h
+place_found section place (Err why) h e = tt
+
+pub clock_found : {E : Type 0} (section : Span) (clock : Option RunningClock) (result : Result (Option RunningClock) E) → ((r : RunningClock) → clock ≡ Some r → IsWithin section r) → Gives result clock →
+    IfOk result (λ found. IfSome found (IsWithin section))
+clock_found section clock (Ok None) h e = tt
+clock_found section clock (Ok (Some r)) h e = h r (sym e)
+clock_found section clock (Err why) h e = tt
+
+-- a drawer that is found ends before a limit
+pub drawer_found : (section : Span) (wanted found : Option Span) (limit : ℕ) → EndsIn section wanted → section.at + section.len < limit → found ≡ wanted → IfSome found (λ line. line.at + line.len < limit)
+drawer_found section wanted None limit h le e = tt
+drawer_found section wanted (Some line) limit h le e = let ends : EndsIn section (Some line) = subst (EndsIn section) (sym e) h in omega arith
+
+-- the end of a drawer is no longer than what stands there
+closing_short : (ls : List (List ℕ)) → closing_len ls ≤ length (concat ls)
+closing_short [] = omega arith
+closing_short (l ∷ ls) = cond_both (is_drawer_end l) (length l) 0 (λ n. n ≤ length (l ++ concat ls)) (λ _. omega (arith, length-append l (concat ls))) (λ _. omega arith)
+
+pub closing_within : (text : List ℕ) (rest : Span) → rest.at + rest.len ≤ length text → closing_len (lines_in text rest) ≤ rest.len
+closing_within text rest h =
+    let short = closing_short (lines_in text rest) in
+    let ends = lines_end text rest h in
+    omega (arith, short, ends)

@@ -1,0 +1,24 @@
+-- What is found ends in the section.
+use Rattle.std.proofs.Common.{arith}
+use Rattle.org_amend.proofs.WithinLemmas.{closing_within, drawer_found, logbook_within}
+use Rattle.org_amend.specs.Cancelled.{behind_clock}
+use Rattle.org_amend.specs.Places.{logbook_in}
+use Rattle.org_amend.proofs.cancelled.cancelled_part.Goals as goal
+
+pub emptied_part-requires-clause-drawer : goal.emptied_part-requires-clause-drawer
+emptied_part-requires-clause-drawer g c =
+    let text = g.T.Text.content c.args.text.now in
+    drawer_found c.args.section (logbook_in text c.args.section c.args.classes.now) c.in_ok-drawer.drawer 4294967296
+    (logbook_within text c.args.section c.args.classes.now c.requires.within) (omega arith) c.in_ok-drawer.ensures.value
+
+pub emptied_part-requires-clause-fits : goal.emptied_part-requires-clause-fits
+emptied_part-requires-clause-fits g c =
+    let text = g.T.Text.content c.args.text.now in
+    let short = closing_within text (behind_clock c.args.section c.args.clock) (omega arith) in
+    omega (arith, short, c.in_ok-closing.ensures.value)
+
+pub returns-clause-within : goal.returns-clause-within
+returns-clause-within g c =
+    let text = g.T.Text.content c.args.text.now in
+    let short = closing_within text (behind_clock c.args.section c.args.clock) (omega arith) in
+    omega (arith, short, c.in_ok-closing.ensures.value)
