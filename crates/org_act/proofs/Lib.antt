@@ -2,4 +2,10 @@ pub mod DoneLemmas
 pub mod OwnLemmas
 pub mod AmendLemmas
 pub mod PlanLemmas
+pub mod ClockPlanLemmas
+pub mod ClockSpanLemmas
 pub mod LawLemmas
+pub mod LineLemmas
+pub mod PlanningLemmas
+pub mod ActLemmas
+pub mod AddingLemmas

@@ -1,5 +1,13 @@
-pub mod Changes
+pub mod Adding
+pub mod AddingLaws
 pub mod Amending
+pub mod Changes
+pub mod ClockParts
+pub mod ClockSections
+pub mod Clocking
 pub mod Completing
 pub mod Examples
 pub mod Laws
+pub mod Lines
+pub mod Planning
+pub mod PlanningLaws

@@ -4,6 +4,7 @@ ghost use Rattle.org_act.specs.Changes.{Makes, no_memory};
 ghost use Rattle.org_act.specs.declared.act.Refusal.{Refusal};
 
 use crate::change::Change;
+use org_amend::Unreadable;
 use org_base::{Code, Fault};
 use std::alloc::{AllocError, Global};
 
@@ -16,6 +17,16 @@ pub enum Refusal {
     NotDone,
     /// The heading's sequence has no done keyword.
     NoDone,
+    /// A clock of the heading runs already.
+    ClockRuns,
+    /// No clock of the heading runs.
+    NoClock,
+    /// The heading's clock began in this minute since 0001-01-01 00:00, which is later than it would end.
+    EndsEarly(u64),
+    /// What would be written would be read as something else.
+    Misread,
+    /// A part of a new heading would be.
+    Unreadable(Unreadable),
 }
 
 impl From<Fault> for Refusal {

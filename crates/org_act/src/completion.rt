@@ -70,7 +70,7 @@ fn plan_in(
 }
 
 // A file of a text, with what is read after it.
-fn file_of(alloc: Global, text: &str, behind: &str) -> Result<File<Whole>, Fault>
+pub(crate) fn file_of(alloc: Global, text: &str, behind: &str) -> Result<File<Whole>, Fault>
     ensures value { AnswersAs (λ f. f.text) result (sized (text.now ++ behind.now)) }
 {
     let mut whole = String::from_str(alloc, text)?;

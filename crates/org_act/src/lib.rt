@@ -2,7 +2,9 @@
 //!
 //! An act works out of a file's text one change of it, or why it is refused; that is pure. `amend` carries every act: it
 //! makes the change and replaces the file's text by one safe replacement of `org_save`. So whatever fails, and wherever it is
-//! stopped, the file has the text that it had or that with the change, whole. `Completion` is the act that completes a heading.
+//! stopped, the file has the text that it had or that with the change, whole. `Completion` is the act that completes a heading,
+//! `ClockAct` begins, ends or cancels its clock, `Planning` gives it a date or takes one away, and `Addition` writes another
+//! heading.
 //!
 //! ```
 //! let change = match act.plan(alloc, old) {
@@ -16,13 +18,22 @@
 #![tactic(auto)]
 
 mod act;
+mod addition;
 mod amendment;
 mod change;
+mod clock_act;
+mod clock_section;
+mod clock_step;
 mod completion;
 mod done;
 pub mod laws;
+mod lines;
+mod planning;
 
 pub use act::{Act, Refusal};
+pub use addition::Addition;
 pub use amendment::{Amended, Unamended, amend};
 pub use change::{Change, with_change};
+pub use clock_act::{ClockAct, ClockStep};
 pub use completion::{Completion, KeywordChoice};
+pub use planning::Planning;

@@ -1,10 +1,12 @@
 use Rattle.std.proofs.Common.{refl}
 use Rattle.org_complete.specs.Completion.{completed, completion_part}
 use Rattle.org_stamp.specs.Pair.{pairs_from}
+use Rattle.org_amend.specs.Clocks.{first_running}
+use Rattle.org_amend.specs.Places.{front_end, logbook_from}
 use Rattle.org_act.proofs.laws.examples_hold.Goals as goal
 
 pub returns : goal.returns
-unfolding completed completion_part pairs_from
+unfolding completed completion_part pairs_from first_running front_end logbook_from
 returns c = record {
   plain = λ _. refl;
   beside = λ _. refl;
@@ -12,4 +14,14 @@ returns c = record {
   of_sequence = refl;
   of_first = refl;
   none_done = refl;
+  of_line = refl;
+  begun = λ _. refl;
+  begun_last = λ _. refl;
+  begun_first = λ _. refl;
+  returns_kept = λ _. refl;
+  in_block = refl;
+  begun_twice = λ _ _. refl;
+  none_ends = λ _. refl;
+  emptied = λ _. refl;
+  one_of_two = λ _. refl;
 }
