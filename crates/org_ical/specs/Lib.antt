@@ -1,0 +1,11 @@
+pub mod Results
+pub mod Texts
+pub mod Lines
+pub mod Reading
+pub mod Dates
+pub mod Properties
+pub mod Uids
+pub mod Counts
+pub mod Components
+pub mod Laws
+pub mod Examples

@@ -1,0 +1,34 @@
+//! Calendars as other programs read them (iCalendar, RFC 5545): events and tasks as properties in lines that are folded, of
+//! which no text makes one of its own.
+//!
+//! Every call that allocates may be refused memory, and that is its only refusal.
+//!
+//! It knows events and tasks by plain values: texts as bytes of UTF-8, days, and times without a zone. Of a text each control
+//! character but a line feed is a space. Components that have equal keys are told apart by a number, so that no two have one
+//! name. A reader that unfolds the lines finds those of the properties, and takes each value for its text.
+//!
+//! ```
+//! let calendar = Calendar {
+//!     date: date_of(chosen.moment.day),
+//!     time: time_of(chosen.moment.minute),
+//!     components,
+//! };
+//! let has_component = !calendar.components.is_empty();
+//! let bytes = calendar.bytes(alloc)?;
+//! ```
+//!
+//! Lines of `orgq/src/ical.rt`. Tests: cases `tests/orgq/ical*`, and `tests/ical.sh`, which two other programs read back.
+#![tactic(auto)]
+
+mod calendar;
+mod component;
+mod counts;
+mod date;
+pub mod laws;
+mod line;
+mod property;
+mod value;
+
+pub use calendar::Calendar;
+pub use component::{Component, Kind, Status};
+pub use date::{Date, Time, When, push_date};
