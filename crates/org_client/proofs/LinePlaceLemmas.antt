@@ -4,7 +4,7 @@ use Rattle.std.specs.Prelude.{nat_le}
 use Rattle.std.specs.List.Sorted.{IsPartitionedBy}
 use Rattle.std.proofs.lemmas.Bool.Decides.{nat_tests}
 use Rattle.org_class.proofs.SpanLemmas.{whole_text}
-use Rattle.org_client.specs.LinePlaces.{AreInOrder, AreUpTo, IsBeforeAll, StandsAt}
+use Rattle.org_client.specs.LinePlaces.{AreInOrder, AreUpTo, IsBeforeAll, StandsAt, lines_to}
 use Rattle.org_lines.specs.Cuts.{lines, lines_in, starts}
 
 sooner : (a b : ℕ) (xs : List ℕ) → a ≤ b → AreInOrder b xs → AreInOrder a xs
@@ -26,6 +26,9 @@ le_true a b h = grind (arith, nat_tests)
 
 pub le_from : (a b : ℕ) → nat_le a b ≡ true → a ≤ b
 le_from a b h = grind (arith, nat_tests)
+
+gt_false : (a b : ℕ) → b < a → nat_le a b ≡ false
+gt_false a b h = grind (arith, nat_tests)
 
 pub gt_from : (a b : ℕ) → nat_le a b ≡ false → b < a
 gt_from a b h = grind (arith, nat_tests)
@@ -69,3 +72,18 @@ stands xs at count start column are some is there =
 
 pub before_all : (xs : List ℕ) (at count : ℕ) → AreUpTo xs at count → count ≡ 0 → IsBeforeAll xs at
 before_all xs at count are none i d lt = are.later i d (omega (arith, none)) lt
+
+-- how many lines begin at a byte or before it, as a value
+pub counted : (xs : List ℕ) (at count : ℕ) → AreUpTo xs at count → count ≡ lines_to at xs
+counted [] at count up = omega (arith, up.within)
+counted (x ∷ xs) at zero up =
+    let past : at < x = up.later 0 0 (omega arith) (omega arith) in
+    rw (gt_false x at past) refl
+counted (x ∷ xs) at (suc n) up =
+    let le : x ≤ at = up.earlier 0 0 (omega arith) in
+    let rest : AreUpTo xs at n = record {
+      within = omega (arith, up.within);
+      earlier = λ i d lt. up.earlier (suc i) d (omega (arith, lt));
+      later = λ i d le lt. up.later (suc i) d (omega (arith, le)) (omega (arith, lt));
+    } in
+    rw (le_true x at le) (omega (arith, counted xs at n rest))

@@ -1,9 +1,15 @@
 -- Worked examples: what the definitions say of inputs at which a wrong rule says something else.
-use Rattle.std.specs.Prelude.{◌≡◌, ℕ, ◌∷◌, [], false, true, None, Some, codes}
+use Rattle.std.specs.Prelude.{◌≡◌, ℕ, ◌∷◌, ◌++◌, [], false, true, None, Some, codes}
+use Rattle.org_cal.specs.Texts.{date_text}
 use Rattle.org_cal.specs.declared.moment.Moment.{Moment}
 use Rattle.org_client.specs.Bars.{bar_eighths, hundredths, part_lengths}
+use Rattle.org_agenda.specs.declared.row.RowKind.TheVariants.{InRange, LateDeadline}
+use Rattle.org_client.specs.Components.{base_name, is_event, known_by, priority_of_cookie, status_of, time_of}
+use Rattle.org_ical.specs.declared.component.Status.TheVariants.{Cancelled, Confirmed}
 use Rattle.org_client.specs.Clocks.{rows_of}
-use Rattle.org_client.specs.Json.{field_text, quoted}
+use Rattle.org_client.specs.Json.{field_text, quoted, texts_member}
+use Rattle.org_client.specs.Members.{text_member_of, texts_member_of}
+use Rattle.org_client.specs.Objects.{day_object}
 use Rattle.org_client.specs.Reminders.{starts_between}
 use Rattle.org_client.specs.Visible.{visible}
 use Rattle.org_client.specs.declared.visible.Escape.TheVariants.{Caret}
@@ -34,3 +40,23 @@ pub record ExamplesHold : Type 0 where
       record { file = 0; heading = 4; number = 0; from = 11_520; to = Some 11_580; minutes = 60 }
       ∷ record { file = 0; heading = 4; number = 1; from = 12_120; to = None; minutes = 0 }
       ∷ []
+  -- an object's list, and the one value that is asked for
+  pub list : texts_member (codes "tags") (codes "a" ∷ codes "b" ∷ []) ≡ codes ",\"tags\":[\"a\",\"b\"]"
+  pub no_items : texts_member (codes "tags") [] ≡ codes ",\"tags\":[]"
+  pub only_the_asked : texts_member_of (Some (codes "path")) (codes "path") (codes "a" ∷ codes "b" ∷ []) ++ text_member_of (Some (codes "path")) (codes "title") (codes "c") ≡ codes "a/b"
+  pub day_in_json : (day : ℕ) → day_object day (codes "x") ≡ codes "{\"kind\":\"day\",\"day\":" ++ quoted (date_text day) ++ codes ",\"text\":\"x\"}"
+  -- what becomes a component of a calendar
+  pub late_row : is_event LateDeadline ≡ false
+  pub range_row : is_event InRange ≡ true
+  pub ten_past_nine : time_of 550 ≡ record { hour = 9; minute = 10 }
+  pub in_folders : base_name (codes "/home/ann/a.org") ≡ codes "a.org"
+  pub in_no_folder : base_name (codes "a.org") ≡ codes "a.org"
+  pub known_by_id : known_by (Some (codes "7f")) (codes "x/a.org") (codes "Walk") ≡ codes "7f"
+  -- an ID that says nothing is none
+  pub known_by_title : known_by (Some []) (codes "x/a.org") (codes "Walk") ≡ codes "a.org:Walk"
+  pub cancelled : status_of (Some (codes "CANCELED")) ≡ Cancelled
+  pub done : status_of (Some (codes "DONE")) ≡ Confirmed
+  pub second_priority : priority_of_cookie (Some (codes "B")) ≡ Some 5
+  pub numbered_priority : priority_of_cookie (Some (codes "3")) ≡ Some 3
+  pub other_priority : priority_of_cookie (Some (codes "D")) ≡ None
+  pub long_priority : priority_of_cookie (Some (codes "10")) ≡ None

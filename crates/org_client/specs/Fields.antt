@@ -1,5 +1,6 @@
 -- Rows as fields between commas (Org manual 9.6, "Extracting Agenda Information").
-use Rattle.std.specs.Prelude.{ℕ, ◌+◌, ◌-◌, ◌*◌, if◌then◌else◌, nat_le, nat_lt, List, [], ◌∷◌, ◌++◌, Option, None, Some, codes, decimal, drop, length, slice_get, take, unwrap_or}
+use Rattle.std.specs.Prelude.{ℕ, ◌+◌, ◌-◌, ◌*◌, if◌then◌else◌, nat_le, nat_lt, List, [], ◌∷◌, ◌++◌, Option, None, Some, codes, decimal, drop, length, take, unwrap_or}
+use Rattle.org_agenda.specs.declared.row.Row.{Row}
 use Rattle.org_agenda.specs.declared.row.RowKind.{RowKind}
 use Rattle.org_agenda.specs.declared.row.RowKind.TheVariants.{Listed, OnDay, InRange, OnSchedule, LateSchedule, OnDeadline, Warning, LateDeadline}
 use Rattle.org_base.specs.Spans.{bytes_in}
@@ -15,6 +16,7 @@ use Rattle.org_inherit.specs.Scope.{Scope}
 use Rattle.org_inherit.specs.declared.headings.Heading.{Heading as FoundHeading}
 use Rattle.org_inherit.specs.Tags.{all_tags, tags_text}
 use Rattle.org_layout.specs.declared.shown.ShownRow.{ShownRow}
+use Rattle.org_client.specs.Headings.{by_place}
 use Rattle.org_client.specs.Json.{field_text}
 
 -- a field after a comma
@@ -98,32 +100,28 @@ priority_fields scope e head =
 abbrev pub heading_priority : FoundHeading → List ℕ
 heading_priority heading = priority_fields heading.inherit.now heading.entry.now heading.head.now
 
+-- the same of a heading that is found
+
+abbrev pub heading_tags : FoundHeading → List ℕ
+heading_tags heading = tags_field heading.inherit.now heading.place
+
+-- the label of a row
+abbrev pub row_label : Row → List ℕ
+row_label row = label_field row.kind row.number row.of
+
 -- the fields of a row of the heading of an entry at a place
-abbrev pub heading_fields : Scope → ℕ → Entry → Head → ShownRow → List ℕ → List ℕ
-heading_fields scope i e head shown list =
+abbrev pub heading_fields : ShownRow → List ℕ → Scope → ℕ → Entry → Head → List ℕ
+heading_fields shown list scope i e head =
     field_text (category scope i)
     ++ next_field (bytes_in e.text head.title)
     ++ next_field (kind_field shown.row.kind list)
     ++ next_field (unwrap_or (keyword_in e.text head) [])
     ++ next_field (tags_field scope i)
     ++ when_fields shown
-    ++ next_field (label_field shown.row.kind shown.row.number shown.row.of)
+    ++ next_field (row_label shown.row)
     ++ priority_fields scope e head
     ++ next_field (parts_field shown.day)
 
--- the same, where there is such a heading
-abbrev pub fields_by : Scope → ℕ → Entry → Option Head → ShownRow → List ℕ → List ℕ
-fields_by scope i e None shown list = []
-fields_by scope i e (Some head) shown list = heading_fields scope i e head shown list
-
-abbrev pub fields_at : Scope → ℕ → Option Entry → ShownRow → List ℕ → List ℕ
-fields_at scope i None shown list = []
-fields_at scope i (Some e) shown list = fields_by scope i e e.head shown list
-
-abbrev pub fields_in : Option Scope → ShownRow → List ℕ → List ℕ
-fields_in None shown list = []
-fields_in (Some scope) shown list = fields_at scope shown.row.heading (slice_get scope.entries shown.row.heading) shown list
-
 -- a row as fields; empty where its heading isn't there
 abbrev pub row_fields : List Scope → ShownRow → List ℕ → List ℕ
-row_fields scopes shown list = fields_in (slice_get scopes shown.row.file) shown list
+row_fields scopes shown list = by_place [] (heading_fields shown list) scopes shown.row.file shown.row.heading

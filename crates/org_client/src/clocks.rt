@@ -1,9 +1,10 @@
 //! Lists of clock lines.
 ghost use Rattle.std.specs.Prelude.{◌≡◌, ◌+◌, IsOkUnless};
 ghost use Rattle.org_base.specs.Codes.{memory_fault};
-ghost use Rattle.org_base.specs.Results.{Adds, GivesItems};
+ghost use Rattle.org_base.specs.Results.{Adds, GivesItems, Writes};
 ghost use Rattle.org_cal.specs.Periods.{days_of};
 ghost use Rattle.org_cal.specs.Minutes.{minute_of};
+ghost use Rattle.org_client.specs.ClockTexts.{clock_minute_text};
 ghost use Rattle.org_client.specs.Clocks.{beginning, clock_rows, ending, entry_rows, file_rows, is_of_days, rows_of};
 
 use org_base::Fault;
@@ -150,7 +151,9 @@ fn past_minute(period: &Period) -> u64
 }
 
 /// Appends a minute since 0001-01-01 00:00 as a date, a space and a time; nothing where it is past 9999-12-31.
-pub fn push_clock_minute(out: &mut String, minute: u64) -> Result<(), AllocError> {
+pub fn push_clock_minute(out: &mut String, minute: u64) -> Result<(), AllocError>
+    ensures ok { Writes result out.old out.new (clock_minute_text minute) }
+{
     let Some(day) = Day::of_number(minute / MINUTES_PER_DAY + 1) else {
         return Ok(());
     };

@@ -1,90 +1,137 @@
 //! What the object of a row says of its heading beside the heading line.
+ghost use Rattle.std.specs.Prelude.{◌≡◌, ◌<◌, ◌++◌, length, reverse, slice_get, OnOk};
+ghost use Rattle.org_base.specs.Results.{Gives, GivesItems};
+ghost use Rattle.org_client.specs.HeadingMembers.{details_members_of, effort_member, path_member_of, planning_members, stamp_member, title_of, titles_above, titles_at};
+ghost use Rattle.org_client.specs.Members.{Puts};
+ghost use Rattle.org_entry.specs.Planning.{entry_planning};
+ghost use Rattle.org_inherit.specs.Special.{stamp_span};
+ghost use Rattle.org_outline.specs.Levels.{levels};
+ghost use Rattle.org_outline.specs.Tree.{ancestors};
 
+use crate::fields::between;
 use crate::members::Members;
 use org_base::{Fault, Span, Texts};
 use org_drawer::effort_minutes;
 use org_entry::Entry;
 use org_inherit::Heading;
+use org_outline::Outline;
 use org_stamp::PlanningKeyword;
 use std::alloc::{AllocError, Global};
 
 /// Puts the stamps of the planning line as they are written, the effort in minutes, and the titles of the headings above,
 /// the topmost first; what isn't there is left out.
-pub(crate) fn put_details<M: Members>(
+pub(crate) fn put_details(
     alloc: Global,
-    to: &mut M,
+    to: &mut Members<'_>,
     heading: &Heading<'_, '_>,
-) -> Result<(), Fault> {
+) -> Result<(), Fault>
+    ensures ok { Puts result to.old to.new (details_members_of to.old.only heading.now) }
+{
     put_planning(to, heading.entry)?;
     put_effort(to, heading.entry)?;
     put_path(alloc, to, heading)
 }
 
-fn put_planning<M: Members>(to: &mut M, entry: &Entry) -> Result<(), AllocError> {
-    put_written(to, entry, "scheduled", PlanningKeyword::Scheduled)?;
-    put_written(to, entry, "deadline", PlanningKeyword::Deadline)?;
-    put_written(to, entry, "closed", PlanningKeyword::Closed)
+fn put_planning(to: &mut Members<'_>, entry: &Entry) -> Result<(), AllocError>
+    ensures ok { Puts result to.old to.new (planning_members to.old.only entry.now) }
+{
+    put_stamp(to, entry, "scheduled", PlanningKeyword::Scheduled)?;
+    put_stamp(to, entry, "deadline", PlanningKeyword::Deadline)?;
+    put_stamp(to, entry, "closed", PlanningKeyword::Closed)
 }
 
 // Puts what stands between the brackets of the stamp under a keyword.
-fn put_written<M: Members>(
-    to: &mut M,
+fn put_stamp(
+    to: &mut Members<'_>,
     entry: &Entry,
     name: &str,
     word: PlanningKeyword,
-) -> Result<(), AllocError> {
-    let Some(part) = part_under(entry, word) else {
-        return Ok(());
-    };
-    match entry.part(part) {
-        [_, inner @ .., _] => to.put_text(name, inner),
-        _ => Ok(()),
+) -> Result<(), AllocError>
+    ensures ok { Puts result to.old to.new (stamp_member to.old.only name.now word entry.now) }
+{
+    match part_under(entry, word) {
+        Some(part) => to.text(name, between(entry.part(part))),
+        None => Ok(()),
     }
 }
 
 // The part of the entry's text that the stamp under a keyword takes, if there is one.
-fn part_under(entry: &Entry, word: PlanningKeyword) -> Option<Span> {
+fn part_under(entry: &Entry, word: PlanningKeyword) -> Option<Span>
+    ensures value { result ≡ stamp_span word (entry_planning entry.now) }
+{
     match entry.planning() {
         Some(planning) => planning.part(word),
         None => None,
     }
 }
 
-fn put_effort<M: Members>(to: &mut M, entry: &Entry) -> Result<(), AllocError> {
+fn put_effort(to: &mut Members<'_>, entry: &Entry) -> Result<(), AllocError>
+    ensures ok { Puts result to.old to.new (effort_member to.old.only entry.now) }
+{
     let Some(text) = entry.details.property(b"Effort") else {
         return Ok(());
     };
     match effort_minutes(text) {
-        Some(minutes) => to.put_number("effort", minutes),
+        Some(minutes) => to.number("effort", minutes),
         None => Ok(()),
     }
 }
 
-fn put_path<M: Members>(alloc: Global, to: &mut M, heading: &Heading<'_, '_>) -> Result<(), Fault> {
-    let places = places_above(alloc, heading)?;
-    if places.is_empty() {
-        return Ok(());
+fn put_path(alloc: Global, to: &mut Members<'_>, heading: &Heading<'_, '_>) -> Result<(), Fault>
+    ensures ok { Puts result to.old to.new (path_member_of to.old.only heading.now) }
+{
+    let titles = titles_above(alloc, heading.inherit.outline(), heading.place)?;
+    if titles.count() > 0 {
+        to.texts("path", &titles)?;
     }
-    let titles = titles_of(alloc, heading, places.as_slice())?;
-    Ok(to.put_texts("path", &titles)?)
+    Ok(())
 }
 
-// The places of the headings above, the nearest first.
-fn places_above(alloc: Global, heading: &Heading<'_, '_>) -> Result<Vec<usize>, AllocError> {
+// The titles of the headings above one, the topmost first.
+fn titles_above(alloc: Global, outline: &Outline, place: usize) -> Result<Texts, Fault>
+    requires within { place < length outline.now }
+    ensures value { Gives result (titles_above outline.now place) }
+{
+    let places = places_above(alloc, outline, place)?;
+    titles_at(alloc, outline, places.as_slice())
+}
+
+// The places of the headings above one, the topmost first.
+fn places_above(alloc: Global, outline: &Outline, place: usize) -> Result<Vec<usize>, AllocError>
+    requires within { place < length outline.now }
+    ensures value { GivesItems result (reverse (ancestors (levels outline.now) place)) }
+{
     let mut places = Vec::new(alloc);
-    for place in heading.inherit.outline().ancestors(heading.place) {
-        places.push(place)?;
+    for above in outline.ancestors(place) {
+        places.push(above)?;
     }
+    places.reverse();
     Ok(places)
 }
 
-// The titles of some headings, the last place's first.
-fn titles_of(alloc: Global, heading: &Heading<'_, '_>, places: &[usize]) -> Result<Texts, Fault> {
+// The titles of the headings at some places.
+fn titles_at(alloc: Global, outline: &Outline, places: &[usize]) -> Result<Texts, Fault>
+    ensures value { Gives result (titles_at outline.now places.now) }
+{
     let mut titles = Texts::new(alloc);
-    for place in places.iter().rev() {
-        if let Some(above) = Heading::at(heading.inherit, heading.file, *place) {
-            titles.push(above.title())?;
-        }
+    for place in places {
+        push_title(&mut titles, outline, *place)?;
     }
     Ok(titles)
+}
+
+// Puts the title of the entry at a place after others, if it is a heading.
+#[tactic(auto, using(crate::proofs::AbsentLemmas::own_title))]
+fn push_title(titles: &mut Texts, outline: &Outline, place: usize) -> Result<(), Fault>
+    ensures ok { OnOk result (titles.new ≡ titles.old ++ title_of (slice_get outline.now place)) }
+{
+    if place >= outline.count() {
+        return Ok(());
+    }
+    let entry = outline.entry(place);
+    match &entry.head {
+        Some(head) => titles.push(entry.part(head.title))?,
+        None => {}
+    }
+    Ok(())
 }

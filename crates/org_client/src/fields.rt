@@ -1,8 +1,10 @@
 //! Rows as fields between commas, those of Org's own batch agendas.
-ghost use Rattle.std.specs.Prelude.{◌≡◌, ◌++◌, ◌*◌, ◌-◌, decimal, string_bytes, IfOk, OnOk};
-ghost use Rattle.std.specs.Option.{option_copied};
-ghost use Rattle.org_base.specs.Results.{GivesText};
-ghost use Rattle.org_client.specs.Fields.{between, end_field, heading_priority, kind_field, label_field, next_field, parts_field, priority_fields, row_fields, spoken_of, start_field, tags_field, when_fields};
+ghost use Rattle.std.specs.Prelude.{◌≡◌, ◌++◌, ◌*◌, ◌-◌, decimal, string_bytes, OnOk};
+ghost use Rattle.org_base.specs.Results.{Gives, GivesText};
+ghost use Rattle.org_cal.specs.Texts.{date_text};
+ghost use Rattle.org_client.specs.Fields.{between, end_field, heading_priority, heading_tags, kind_field, next_field, parts_field, row_fields, row_label, spoken_of, start_field, when_fields};
+ghost use Rattle.org_client.specs.Json.{field_text};
+ghost use Rattle.org_client.specs.TableFields.{clock_fields, empty_fields, fields_of, line_text, minute_text, name_field, of_fields, place_fields, said_at, said_fields_of, sum_fields};
 
 use crate::clocks::push_clock_minute;
 use crate::one_line::OneLine;
@@ -13,6 +15,7 @@ use org_cal::{Day, Unit, push_date, push_time};
 use org_clocktable::Of;
 use org_inherit::{Heading, tags_text};
 use org_layout::ShownRow;
+use org_store::Place;
 use org_text::Text;
 use std::alloc::{AllocError, Global};
 
@@ -26,7 +29,9 @@ pub fn csv_line<T: Text>(
     files: &LoadReport<'_, '_, T>,
     row: &ViewRow,
     list: &str,
-) -> Result<OneLine, Fault> {
+) -> Result<OneLine, Fault>
+    ensures value { Gives result (fields_of files.now row.now list.now) }
+{
     match row {
         ViewRow::Row(shown) => row_fields(alloc, files, shown, list),
         ViewRow::Sum(shown) => sum_fields(alloc, files, shown),
@@ -41,7 +46,7 @@ fn row_fields<T: Text>(
     shown: &ShownRow,
     list: &str,
 ) -> Result<OneLine, Fault>
-    ensures value { IfOk result (λ line. line ≡ row_fields files.now.inherits.now shown.now list.now) }
+    ensures value { Gives result (row_fields files.now.scopes shown.now list.now) }
 {
     let mut line = OneLine::new(alloc);
     let row = &shown.row;
@@ -65,7 +70,9 @@ fn sum_fields<T: Text>(
     alloc: Global,
     files: &LoadReport<'_, '_, T>,
     shown: &ShownSum,
-) -> Result<OneLine, Fault> {
+) -> Result<OneLine, Fault>
+    ensures value { Gives result (sum_fields files.now shown.now) }
+{
     let mut line = OneLine::new(alloc);
     push_iso(alloc, &mut line, shown.first)?;
     line.push(b',')?;
@@ -81,7 +88,9 @@ fn clock_fields<T: Text>(
     alloc: Global,
     files: &LoadReport<'_, '_, T>,
     shown: &ShownClock,
-) -> Result<OneLine, Fault> {
+) -> Result<OneLine, Fault>
+    ensures value { Gives result (clock_fields files.now shown.now) }
+{
     let row = &shown.row;
     let mut line = OneLine::new(alloc);
     push_minute(alloc, &mut line, Some(row.from))?;
@@ -94,7 +103,10 @@ fn clock_fields<T: Text>(
     Ok(line)
 }
 
-fn push_minute(alloc: Global, line: &mut OneLine, minute: Option<u64>) -> Result<(), AllocError> {
+// Appends a minute as a field, as the first one or after a comma.
+fn push_minute(alloc: Global, line: &mut OneLine, minute: Option<u64>) -> Result<(), AllocError>
+    ensures ok { OnOk result (line.new ≡ line.old ++ field_text (minute_text minute)) }
+{
     let mut text = String::new(alloc);
     if let Some(minute) = minute {
         push_clock_minute(&mut text, minute)?;
@@ -103,7 +115,9 @@ fn push_minute(alloc: Global, line: &mut OneLine, minute: Option<u64>) -> Result
 }
 
 // Appends a date as the calendar's standard has it, as the first field or after a comma.
-fn push_iso(alloc: Global, line: &mut OneLine, day: Day) -> Result<(), AllocError> {
+fn push_iso(alloc: Global, line: &mut OneLine, day: Day) -> Result<(), AllocError>
+    ensures ok { OnOk result (line.new ≡ line.old ++ field_text (date_text day)) }
+{
     let mut date = String::new(alloc);
     push_date(&mut date, day)?;
     line.field(date.as_bytes())
@@ -122,7 +136,9 @@ fn push_of<T: Text>(
     line: &mut OneLine,
     files: &LoadReport<'_, '_, T>,
     of: Of,
-) -> Result<(), Fault> {
+) -> Result<(), Fault>
+    ensures ok { OnOk result (line.new ≡ line.old ++ of_fields files.now of) }
+{
     match of {
         Of::All => Ok(push_empty(line, 5)?),
         Of::File(file) => {
@@ -136,9 +152,12 @@ fn push_of<T: Text>(
     }
 }
 
-fn push_empty(line: &mut OneLine, count: u32) -> Result<(), AllocError> {
-    for _ in 0..count {
-        next(line, &[])?;
+// Appends so many fields without a text.
+fn push_empty(line: &mut OneLine, count: u32) -> Result<(), AllocError>
+    ensures ok { OnOk result (line.new ≡ line.old ++ empty_fields count) }
+{
+    for _place in 0..count {
+        line.push(b',')?;
     }
     Ok(())
 }
@@ -147,7 +166,9 @@ fn push_name<T: Text>(
     line: &mut OneLine,
     files: &LoadReport<'_, '_, T>,
     file: usize,
-) -> Result<(), AllocError> {
+) -> Result<(), AllocError>
+    ensures ok { OnOk result (line.new ≡ line.old ++ name_field files.now.files file) }
+{
     if file >= files.file_set.count() {
         return next(line, &[]);
     }
@@ -160,12 +181,21 @@ fn push_place<T: Text>(
     files: &LoadReport<'_, '_, T>,
     file: usize,
     place: usize,
-) -> Result<(), Fault> {
-    match files.file_set.place(file, place) {
-        Some(at) => push_number(alloc, line, u64::from(at.line))?,
-        None => next(line, &[])?,
-    }
+) -> Result<(), Fault>
+    ensures ok { OnOk result (line.new ≡ line.old ++ place_fields files.now file place) }
+{
+    push_line(alloc, line, files.file_set.place(file, place))?;
     push_heading(alloc, line, files, file, place)
+}
+
+// Appends the line of a place.
+fn push_line(alloc: Global, line: &mut OneLine, place: Option<Place>) -> Result<(), AllocError>
+    ensures ok { OnOk result (line.new ≡ line.old ++ next_field (line_text place)) }
+{
+    match place {
+        Some(at) => push_number(alloc, line, u64::from(at.line)),
+        None => next(line, &[]),
+    }
 }
 
 // Appends the level, the title and the tags of a heading.
@@ -175,13 +205,22 @@ fn push_heading<T: Text>(
     files: &LoadReport<'_, '_, T>,
     file: usize,
     place: usize,
-) -> Result<(), Fault> {
-    let Some(heading) = Heading::find(files.inherits, file, place) else {
-        return Ok(push_empty(line, 3)?);
-    };
+) -> Result<(), Fault>
+    ensures ok { OnOk result (line.new ≡ line.old ++ said_at files.now.scopes file place) }
+{
+    match Heading::find(files.inherits, file, place) {
+        Some(heading) => push_said(alloc, line, &heading)?,
+        None => push_empty(line, 3)?,
+    }
+    Ok(())
+}
+
+fn push_said(alloc: Global, line: &mut OneLine, heading: &Heading<'_, '_>) -> Result<(), Fault>
+    ensures ok { OnOk result (line.new ≡ line.old ++ said_fields_of heading.now) }
+{
     push_number(alloc, line, u64::from(heading.level()))?;
     next(line, heading.title())?;
-    push_tags(alloc, line, &heading)
+    push_tags(alloc, line, heading)
 }
 
 // Appends one field more.
@@ -208,7 +247,7 @@ fn kind_name(kind: RowKind, list: &str) -> &str
 
 // All tags, with colons between them.
 fn push_tags(alloc: Global, line: &mut OneLine, heading: &Heading<'_, '_>) -> Result<(), Fault>
-    ensures ok { let h = heading.now in OnOk result (line.new ≡ line.old ++ next_field (tags_field h.inherit.now h.place)) }
+    ensures ok { OnOk result (line.new ≡ line.old ++ next_field (heading_tags heading.now)) }
 {
     let tags = heading.tags()?;
     let text = tags_text(alloc, &tags)?;
@@ -217,7 +256,7 @@ fn push_tags(alloc: Global, line: &mut OneLine, heading: &Heading<'_, '_>) -> Re
 }
 
 // What stands between the first byte and the last.
-fn between(text: &[u8]) -> &[u8]
+pub(crate) fn between(text: &[u8]) -> &[u8]
     ensures value { result.now ≡ between text.now }
 {
     match text {
@@ -276,14 +315,14 @@ fn push_parts(alloc: Global, line: &mut OneLine, day: Option<Day>) -> Result<(),
 
 // What an agenda shows before the heading.
 fn push_label(alloc: Global, line: &mut OneLine, row: &Row) -> Result<(), AllocError>
-    ensures ok { let r = row.now in OnOk result (line.new ≡ line.old ++ next_field (label_field r.kind r.number r.of)) }
+    ensures ok { OnOk result (line.new ≡ line.old ++ next_field (row_label row.now)) }
 {
     let text = label_of(alloc, row)?;
     next(line, text.as_bytes())
 }
 
 fn label_of(alloc: Global, row: &Row) -> Result<String, AllocError>
-    ensures value { let r = row.now in GivesText result (label_field r.kind r.number r.of) }
+    ensures value { GivesText result (row_label row.now) }
 {
     let number = row.number;
     let of = row.of;

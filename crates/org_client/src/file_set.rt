@@ -6,7 +6,7 @@ ghost use Rattle.org_base.specs.declared.code.Code.TheVariants.{Files, Taken};
 ghost use Rattle.org_base.specs.declared.fault.Fault.TheVariants.{Plain};
 ghost use Rattle.org_base.specs.declared.limits.TheConstants.{MOST_FILES};
 ghost use Rattle.org_client.specs.Files.{AreDifferent, AreRead, CanAdd, IsFullFor, IsNew, PutsFile, scopes_of};
-ghost use Rattle.org_client.specs.Places.{IsNoPlace, IsPlaceIn};
+ghost use Rattle.org_client.specs.Places.{IsNoPlace, IsPlaceIn, place_in};
 
 use crate::read_file::ReadFile;
 use org_base::{Code, Fault, MOST_FILES, Texts};
@@ -122,6 +122,7 @@ impl<T: Text> FileSet<T> {
     pub fn place(&self, file: usize, heading: usize) -> Option<Place>
         ensures some { IfSome result (IsPlaceIn self.now.files file heading) }
         ensures none { result ≡ None → IsNoPlace self.now.files file heading }
+        ensures value { result ≡ place_in self.now.files file heading }
     {
         if file >= self.count() {
             return None;

@@ -1,11 +1,16 @@
 //! Rows as objects of JSON, each in one line.
+ghost use Rattle.std.specs.Prelude.{◌≡◌, ◌++◌, OnOk};
+ghost use Rattle.org_base.specs.Results.{Gives};
+ghost use Rattle.org_client.specs.Json.{ended};
+ghost use Rattle.org_client.specs.Objects.{day_object, row_object};
 
-use crate::members::{kind_of, put_members};
+use crate::members::Members;
 use crate::one_line::OneLine;
 use crate::properties::push_properties;
+use crate::row_members::{kind_of, put_members};
 use crate::rows::{LoadReport, ViewRow};
 use org_base::Fault;
-use org_cal::{Day, push_date};
+use org_cal::Day;
 use org_text::Text;
 use std::alloc::{AllocError, Global};
 
@@ -16,34 +21,31 @@ pub fn json_line<T: Text>(
     files: &LoadReport<'_, '_, T>,
     row: &ViewRow,
     text: &[u8],
-) -> Result<OneLine, Fault> {
-    let mut line = OneLine::new(alloc);
-    begin(&mut line, kind_of(row))?;
-    put_members(alloc, &mut line, files, row)?;
+) -> Result<OneLine, Fault>
+    ensures value { Gives result (row_object files.now row.now text.now) }
+{
+    let mut members = Members::of_object(alloc, kind_of(row))?;
+    put_members(alloc, &mut members, files, row)?;
+    let mut line = members.into_line();
     push_properties(alloc, &mut line, files, row)?;
     end(&mut line, text)?;
     Ok(line)
 }
 
 /// The object of a day: its kind, the day, and the text of its line.
-pub fn day_line(alloc: Global, day: Day, text: &[u8]) -> Result<OneLine, Fault> {
-    let mut date = String::new(alloc);
-    push_date(&mut date, day)?;
-    let mut line = OneLine::new(alloc);
-    begin(&mut line, "day")?;
-    line.text("day", date.as_bytes())?;
+pub fn day_line(alloc: Global, day: Day, text: &[u8]) -> Result<OneLine, Fault>
+    ensures value { Gives result (day_object day text.now) }
+{
+    let mut members = Members::of_object(alloc, "day")?;
+    members.date("day", Some(day))?;
+    let mut line = members.into_line();
     end(&mut line, text)?;
     Ok(line)
 }
 
-fn begin(line: &mut OneLine, kind: &str) -> Result<(), AllocError> {
-    line.push(b'{')?;
-    line.push_quoted(b"kind")?;
-    line.push(b':')?;
-    line.push_quoted(kind.as_bytes())
-}
-
-fn end(line: &mut OneLine, text: &[u8]) -> Result<(), AllocError> {
+fn end(line: &mut OneLine, text: &[u8]) -> Result<(), AllocError>
+    ensures ok { OnOk result (line.new ≡ line.old ++ ended text.now) }
+{
     line.text("text", text)?;
     line.push(b'}')
 }

@@ -2,6 +2,7 @@
 ghost use Rattle.org_client.specs.BarLaws.{BarsFollowSums, LengthsAreNearest, NothingHasNoBar, PartsAddUp};
 ghost use Rattle.org_client.specs.ClockLaws.{ClocksMakeTheTotal};
 ghost use Rattle.org_client.specs.Examples.{ExamplesHold};
+ghost use Rattle.org_client.specs.JsonLaws.{StringsReadBack};
 ghost use Rattle.org_client.specs.Laws.{AgendasShowNext, CleanStands, NextIsFirst, NextLiesAhead, NoStampIsMissed, StampsComeOnce, VisibleIsClean};
 ghost use Rattle.org_client.specs.MatchingLaws.{DaysAreFiltered, MatchingMeetsAll, NextIsFiltered};
 ghost use Rattle.org_client.specs.ReminderLaws.{RemindersJoin};
@@ -71,6 +72,11 @@ pub fn visible_is_clean()
 #[tactic(auto, using(crate::proofs::CleanLemmas::clean_stands))]
 pub fn clean_stands()
     ensures { CleanStands }
+{}
+
+/// What is written of a text in a string of JSON is read as that text.
+pub fn strings_read_back()
+    ensures { StringsReadBack }
 {}
 
 /// Of each control character of one byte and of two: how JSON, a person and a field have it.

@@ -1,5 +1,5 @@
-//! Rows for clients: where their headings are in files, which stamps come next, and rows as JSON and as fields between
-//! commas.
+//! Rows for clients: where their headings are in files, which stamps come next, and rows as JSON, as fields between
+//! commas, and as components of a calendar.
 //!
 //! Every call that allocates may be refused memory. Where it names no other refusal, that is its only one.
 //!
@@ -21,9 +21,11 @@
 mod bars;
 mod clock_places;
 mod clocks;
+mod components;
 mod details;
 mod fields;
 mod file_set;
+mod heading_component;
 mod json;
 pub mod laws;
 mod line_starts;
@@ -34,13 +36,16 @@ mod one_line;
 mod properties;
 mod read_file;
 mod reminders;
+mod row_members;
 mod rows;
 mod template;
 mod visible;
+mod when;
 
 pub use bars::{bar_eighths, hundredths, part_lengths};
 pub use clock_places::shown_clocks;
 pub use clocks::{ClockRow, clock_rows, push_clock_minute};
+pub use components::{event_rows, push_events, push_tasks, task_stamps};
 pub use fields::csv_line;
 pub use file_set::FileSet;
 pub use json::{day_line, json_line};
@@ -53,3 +58,4 @@ pub use reminders::{Window, rows_between};
 pub use rows::{LoadReport, ShownClock, ShownSum, ViewRow};
 pub use template::{MEMBERS, Template, template_line};
 pub use visible::{Escape, push_visible};
+pub use when::{date_of, time_of};

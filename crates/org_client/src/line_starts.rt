@@ -2,7 +2,7 @@
 ghost use Rattle.std.specs.Prelude.{◌≡◌, ◌-◌, ◌≤◌, None, get_or, IfSome, IsOkUnless};
 ghost use Rattle.org_base.specs.Codes.{memory_fault};
 ghost use Rattle.org_base.specs.Results.{Gives};
-ghost use Rattle.org_client.specs.LinePlaces.{AreInOrder, AreUpTo, IsBeforeAll, StandsAt};
+ghost use Rattle.org_client.specs.LinePlaces.{AreInOrder, AreUpTo, IsBeforeAll, StandsAt, line_place, lines_to};
 ghost use Rattle.org_lines.specs.Cuts.{lines, starts};
 
 use org_base::{Fault, Span};
@@ -54,6 +54,7 @@ impl LineStarts {
     pub fn place(&self, at: u32) -> Option<LinePlace>
         ensures some { IfSome result (StandsAt self.now at) }
         ensures none { result ≡ None → IsBeforeAll self.now at }
+        ensures value { result ≡ line_place self.now at }
     {
         place_in(self.starts.as_slice(), at)
     }
@@ -64,6 +65,7 @@ fn place_in(starts: &[u32], at: u32) -> Option<LinePlace>
     requires order { AreInOrder 0 starts.now }
     ensures some { IfSome result (StandsAt starts.now at) }
     ensures none { result ≡ None → IsBeforeAll starts.now at }
+    ensures value { result ≡ line_place starts.now at }
 {
     let line = count_up_to(starts, at);
     if line == 0 {
@@ -90,7 +92,8 @@ fn start_of(starts: &[u32], count: usize, at: u32) -> u32
 // How many lines begin at a byte or before it.
 fn count_up_to(starts: &[u32], at: u32) -> usize
     requires order { AreInOrder 0 starts.now }
-    ensures { AreUpTo starts.now at result }
+    ensures up_to { AreUpTo starts.now at result }
+    ensures value { result ≡ lines_to at starts.now }
 {
     starts.partition_point(|start| *start <= at)
 }

@@ -1,283 +1,156 @@
-//! What is said of a row, member by member.
+//! The members of a row, all as those of an object, or one alone.
+ghost use Rattle.std.specs.Prelude.{◌≡◌, ◌++◌, [], bytes_eq, decimal, option_copied, OnOk};
+ghost use Rattle.org_base.specs.Results.{Gives};
+ghost use Rattle.org_cal.specs.Texts.{date_text, time_text};
+ghost use Rattle.org_client.specs.Json.{begun};
+ghost use Rattle.org_client.specs.Members.{MembersView, Puts, date_member, flag_member_of, is_asked, item_separator, number_member_of, text_member_of, texts_member_of, time_member};
 
-use crate::clocks::push_clock_minute;
-use crate::details::put_details;
 use crate::one_line::OneLine;
-use crate::rows::{LoadReport, ShownClock, ShownSum, ViewRow};
-use org_agenda::{Row, RowKind};
-use org_base::{Fault, Texts};
+use org_base::Texts;
 use org_cal::{Day, TimeOfDay, push_date, push_time};
-use org_clocktable::Of;
-use org_inherit::Heading;
-use org_layout::ShownRow;
-use org_store::Place;
-use org_text::Text;
 use std::alloc::{AllocError, Global};
+use std::marker::Model;
 
-/// Where the members of a row go, one after the other.
-pub(crate) trait Members {
-    fn put_text(&mut self, name: &str, text: &[u8]) -> Result<(), AllocError>;
-
-    fn put_number(&mut self, name: &str, number: u64) -> Result<(), AllocError>;
-
-    fn put_flag(&mut self, name: &str, flag: bool) -> Result<(), AllocError>;
-
-    fn put_texts(&mut self, name: &str, texts: &Texts) -> Result<(), AllocError>;
-}
-
-impl Members for OneLine {
-    fn put_text(&mut self, name: &str, text: &[u8]) -> Result<(), AllocError> {
-        self.text(name, text)
-    }
-
-    fn put_number(&mut self, name: &str, number: u64) -> Result<(), AllocError> {
-        self.number(name, number)
-    }
-
-    fn put_flag(&mut self, name: &str, flag: bool) -> Result<(), AllocError> {
-        self.flag(name, flag)
-    }
-
-    fn put_texts(&mut self, name: &str, texts: &Texts) -> Result<(), AllocError> {
-        self.texts(name, texts)
-    }
-}
-
-/// The name of a row's kind.
-pub(crate) fn kind_of(row: &ViewRow) -> &'static str {
-    match row {
-        ViewRow::Row(shown) => kind_name(shown.row.kind),
-        ViewRow::Sum(shown) => match shown.row.of {
-            Of::All => "total",
-            Of::File(_) => "file",
-            Of::Heading(..) => "heading",
-        },
-        ViewRow::Clock(_) => "clock",
-    }
-}
-
-/// The name of a kind of rows of days and lists.
-fn kind_name(kind: RowKind) -> &'static str {
-    match kind {
-        RowKind::Listed => "listed",
-        RowKind::OnDay => "stamp",
-        RowKind::InRange => "range",
-        RowKind::OnSchedule => "scheduled",
-        RowKind::LateSchedule => "late-scheduled",
-        RowKind::OnDeadline => "deadline",
-        RowKind::Warning => "warning",
-        RowKind::LateDeadline => "late-deadline",
-    }
-}
-
-/// Puts what is said of a row beside its kind and its line: those members that apply, in their order.
-pub(crate) fn put_members<M: Members, T: Text>(
+/// Members of a row, written one after the other: as those of an object of JSON, or the value of the one that has a name, as
+/// a person is told it.
+#[derive(Debug, Drop)]
+pub(crate) struct Members<'a> {
     alloc: Global,
-    to: &mut M,
-    files: &LoadReport<'_, '_, T>,
-    row: &ViewRow,
-) -> Result<(), Fault> {
-    match row {
-        ViewRow::Row(shown) => put_row(alloc, to, files, shown),
-        ViewRow::Sum(shown) => put_sum(alloc, to, files, shown),
-        ViewRow::Clock(shown) => put_clock(alloc, to, files, shown),
+    only: Option<&'a str>,
+    line: OneLine,
+}
+
+impl<'a> Model for Members<'a> {
+    ghost use Rattle.std.specs.Prelude.{option_copied};
+    ghost use Rattle.org_client.specs.Members.{MembersView};
+
+    ghost Value = { MembersView };
+
+    ghost view = { λ m. record { only = option_copied m.only; bytes = m.line } };
+}
+
+impl<'a> Members<'a> {
+    /// Those of an object, which begins with its kind.
+    pub fn of_object(alloc: Global, kind: &str) -> Result<Members<'a>, AllocError>
+        ensures value { Gives result (record { only = None; bytes = begun kind.now }) }
+    {
+        let mut line = OneLine::new(alloc);
+        line.push(b'{')?;
+        line.push_quoted(b"kind")?;
+        line.push(b':')?;
+        line.push_quoted(kind.as_bytes())?;
+        Ok(Members {
+            alloc,
+            only: None,
+            line,
+        })
     }
-}
 
-fn put_row<M: Members, T: Text>(
-    alloc: Global,
-    to: &mut M,
-    files: &LoadReport<'_, '_, T>,
-    shown: &ShownRow,
-) -> Result<(), Fault> {
-    let row = &shown.row;
-    if let Some(day) = shown.day {
-        put_date(alloc, to, "day", day)?;
-    }
-    put_time(alloc, to, "start", row.start)?;
-    put_time(alloc, to, "end", row.end)?;
-    put_numbers(to, row)?;
-    put_place(to, files, row.file, row.heading)?;
-    if shown.day.is_some() {
-        put_stamp(to, files, row)?;
-    }
-    let Some(heading) = Heading::find(files.inherits, row.file, row.heading) else {
-        return Ok(());
-    };
-    put_heading(to, &heading)?;
-    put_details(alloc, to, &heading)
-}
-
-fn put_date<M: Members>(alloc: Global, to: &mut M, name: &str, day: Day) -> Result<(), AllocError> {
-    let mut date = String::new(alloc);
-    push_date(&mut date, day)?;
-    to.put_text(name, date.as_bytes())
-}
-
-fn put_time<M: Members>(
-    alloc: Global,
-    to: &mut M,
-    name: &str,
-    time: Option<TimeOfDay>,
-) -> Result<(), AllocError> {
-    let Some(time) = time else {
-        return Ok(());
-    };
-    let mut text = String::new(alloc);
-    push_time(&mut text, time)?;
-    to.put_text(name, text.as_bytes())
-}
-
-// The days of a late row or a warning, and the numbers of a range.
-fn put_numbers<M: Members>(to: &mut M, row: &Row) -> Result<(), AllocError> {
-    match row.kind {
-        RowKind::InRange => {
-            to.put_number("day_of", u64::from(row.number))?;
-            to.put_number("days_in", u64::from(row.of))
-        }
-        RowKind::LateSchedule | RowKind::Warning | RowKind::LateDeadline => {
-            to.put_number("days", u64::from(row.number))
-        }
-        RowKind::Listed | RowKind::OnDay | RowKind::OnSchedule | RowKind::OnDeadline => Ok(()),
-    }
-}
-
-// The name of a file, and where a section of it begins.
-fn put_place<M: Members, T: Text>(
-    to: &mut M,
-    files: &LoadReport<'_, '_, T>,
-    file: usize,
-    heading: usize,
-) -> Result<(), AllocError> {
-    match files.file_set.place(file, heading) {
-        Some(place) => put_line(to, files, file, place),
-        None => Ok(()),
-    }
-}
-
-fn put_line<M: Members, T: Text>(
-    to: &mut M,
-    files: &LoadReport<'_, '_, T>,
-    file: usize,
-    place: Place,
-) -> Result<(), AllocError> {
-    put_file(to, files, file)?;
-    to.put_number("line", u64::from(place.line))?;
-    to.put_number("byte", u64::from(place.at))
-}
-
-fn put_file<M: Members, T: Text>(
-    to: &mut M,
-    files: &LoadReport<'_, '_, T>,
-    file: usize,
-) -> Result<(), AllocError> {
-    if file >= files.file_set.count() {
-        return Ok(());
-    }
-    to.put_text("file", files.file_set.file(file).name().as_bytes())
-}
-
-// Where the stamp of a day's row stands in its file: its byte, its line and the byte of that line.
-fn put_stamp<M: Members, T: Text>(
-    to: &mut M,
-    files: &LoadReport<'_, '_, T>,
-    row: &Row,
-) -> Result<(), AllocError> {
-    let Some(place) = files.file_set.place(row.file, row.heading) else {
-        return Ok(());
-    };
-    let at = u64::from(place.at).saturating_add(row.stamp_at as u64);
-    to.put_number("stamp", at)?;
-    let Some(place) = files.line_place(row.file, at) else {
-        return Ok(());
-    };
-    to.put_number("stamp_line", place.line as u64)?;
-    to.put_number("stamp_column", place.column)
-}
-
-// What a heading's line says.
-fn put_heading<M: Members>(to: &mut M, heading: &Heading<'_, '_>) -> Result<(), Fault> {
-    to.put_text("category", heading.category())?;
-    to.put_number("level", u64::from(heading.level()))?;
-    put_keyword(to, heading)?;
-    put_head(to, heading)
-}
-
-fn put_keyword<M: Members>(to: &mut M, heading: &Heading<'_, '_>) -> Result<(), AllocError> {
-    let Some(keyword) = heading.keyword() else {
-        return Ok(());
-    };
-    to.put_text("keyword", keyword)?;
-    to.put_flag("done", heading.is_done())
-}
-
-fn put_head<M: Members>(to: &mut M, heading: &Heading<'_, '_>) -> Result<(), Fault> {
-    if let Some(priority) = heading.priority() {
-        to.put_text("priority", priority)?;
-    }
-    to.put_text("title", heading.title())?;
-    let tags = heading.tags()?;
-    to.put_texts("tags", &tags)?;
-    Ok(())
-}
-
-// The days of a row of a clock table, its sums in minutes, and what it is of.
-fn put_sum<M: Members, T: Text>(
-    alloc: Global,
-    to: &mut M,
-    files: &LoadReport<'_, '_, T>,
-    shown: &ShownSum,
-) -> Result<(), Fault> {
-    put_date(alloc, to, "from", shown.first)?;
-    put_date(alloc, to, "to", shown.last)?;
-    to.put_number("clock", shown.row.clock)?;
-    to.put_number("effort", shown.row.effort)?;
-    match shown.row.of {
-        Of::All => Ok(()),
-        Of::File(file) => Ok(put_file(to, files, file)?),
-        Of::Heading(file, place, _) => {
-            put_place(to, files, file, place)?;
-            put_heading_of(to, files, file, place)
+    /// The one of a name.
+    pub fn of_name(alloc: Global, name: &'a str) -> Members<'a>
+        ensures value { result ≡ record { only = Some name.now; bytes = [] } }
+    {
+        Members {
+            alloc,
+            only: Some(name),
+            line: OneLine::new(alloc),
         }
     }
-}
 
-fn put_heading_of<M: Members, T: Text>(
-    to: &mut M,
-    files: &LoadReport<'_, '_, T>,
-    file: usize,
-    place: usize,
-) -> Result<(), Fault> {
-    match Heading::find(files.inherits, file, place) {
-        Some(heading) => put_heading(to, &heading),
-        None => Ok(()),
+    /// What is written.
+    pub fn into_line(self) -> OneLine
+        ensures value { result ≡ self.entry.bytes }
+    {
+        self.line
+    }
+
+    // Whether the member of a name is the one that is asked for.
+    fn is_asked(&self, name: &str) -> bool
+        ensures value { result ≡ is_asked self.now.only name.now }
+    {
+        match self.only {
+            Some(only) => only == name,
+            None => false,
+        }
+    }
+
+    /// Puts a member whose value is a text.
+    pub fn text(&mut self, name: &str, text: &[u8]) -> Result<(), AllocError>
+        ensures ok { Puts result self.old self.new (text_member_of self.old.only name.now text.now) }
+    {
+        if self.only.is_none() {
+            self.line.text(name, text)?;
+        } else if self.is_asked(name) {
+            self.line.push_seen(text)?;
+        }
+        Ok(())
+    }
+
+    /// Puts a member whose value is a number.
+    pub fn number(&mut self, name: &str, number: u64) -> Result<(), AllocError>
+        ensures ok { Puts result self.old self.new (number_member_of self.old.only name.now number) }
+    {
+        if self.only.is_none() {
+            self.line.number(name, number)?;
+        } else if self.is_asked(name) {
+            self.line.push_number(number)?;
+        }
+        Ok(())
+    }
+
+    /// Puts a member whose value is true or false.
+    pub fn flag(&mut self, name: &str, flag: bool) -> Result<(), AllocError>
+        ensures ok { Puts result self.old self.new (flag_member_of self.old.only name.now flag) }
+    {
+        if self.only.is_none() {
+            self.line.flag(name, flag)?;
+        } else if self.is_asked(name) {
+            self.line.push_flag(flag)?;
+        }
+        Ok(())
+    }
+
+    /// Puts a member whose value is a list of texts; to a person the items of `path` have slashes between them, and those of
+    /// others colons.
+    pub fn texts(&mut self, name: &str, texts: &Texts) -> Result<(), AllocError>
+        ensures ok { Puts result self.old self.new (texts_member_of self.old.only name.now texts.now) }
+    {
+        if self.only.is_none() {
+            self.line.texts(name, texts)?;
+        } else if self.is_asked(name) {
+            self.line.push_joined(texts, between(name))?;
+        }
+        Ok(())
+    }
+
+    /// Puts a date, if there is one.
+    pub fn date(&mut self, name: &str, day: Option<Day>) -> Result<(), AllocError>
+        ensures ok { Puts result self.old self.new (date_member self.old.only name.now day) }
+    {
+        let Some(day) = day else {
+            return Ok(());
+        };
+        let mut text = String::new(self.alloc);
+        push_date(&mut text, day)?;
+        self.text(name, text.as_bytes())
+    }
+
+    /// Puts a time of day, if there is one.
+    pub fn time(&mut self, name: &str, time: Option<TimeOfDay>) -> Result<(), AllocError>
+        ensures ok { Puts result self.old self.new (time_member self.old.only name.now time) }
+    {
+        let Some(time) = time else {
+            return Ok(());
+        };
+        let mut text = String::new(self.alloc);
+        push_time(&mut text, time)?;
+        self.text(name, text.as_bytes())
     }
 }
 
-// When a clock began and ended, its minutes, where its line stands, and what its heading says.
-fn put_clock<M: Members, T: Text>(
-    alloc: Global,
-    to: &mut M,
-    files: &LoadReport<'_, '_, T>,
-    shown: &ShownClock,
-) -> Result<(), Fault> {
-    let row = &shown.row;
-    put_minute(alloc, to, "from", row.from)?;
-    if let Some(end) = row.to {
-        put_minute(alloc, to, "to", end)?;
-    }
-    to.put_number("minutes", row.minutes)?;
-    put_line(to, files, row.file, shown.place)?;
-    put_heading_of(to, files, row.file, row.heading)
-}
-
-fn put_minute<M: Members>(
-    alloc: Global,
-    to: &mut M,
-    name: &str,
-    minute: u64,
-) -> Result<(), AllocError> {
-    let mut text = String::new(alloc);
-    push_clock_minute(&mut text, minute)?;
-    to.put_text(name, text.as_bytes())
+// What stands between the items of a list, as a person is told them.
+fn between(name: &str) -> u8
+    ensures value { result ≡ item_separator name.now }
+{
+    if name == "path" { b'/' } else { b':' }
 }

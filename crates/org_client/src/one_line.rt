@@ -1,8 +1,8 @@
 //! Bytes of one line.
-ghost use Rattle.std.specs.Prelude.{◌≡◌, ◌<◌, ◌≤◌, [], ◌∷◌, ◌++◌, decimal, IfOk, OnOk};
+ghost use Rattle.std.specs.Prelude.{◌≡◌, ◌<◌, ◌≤◌, [], ◌∷◌, ◌++◌, decimal, map, IfOk, OnOk};
 ghost use Rattle.org_base.specs.Results.{GivesItems};
 ghost use Rattle.org_client.specs.Clean.{IsClean};
-ghost use Rattle.org_client.specs.Json.{begins_quoted, field_text, flag_member, flag_text, named, number_member, quoted, text_member};
+ghost use Rattle.org_client.specs.Json.{begins_quoted, field_text, flag_member, flag_text, items_with, joined, named, number_member, object_of, pair_text, quoted, separator, text_member, texts_member};
 ghost use Rattle.org_client.specs.Visible.{visible};
 
 use crate::visible::{Escape, push_visible};
@@ -125,31 +125,55 @@ impl OneLine {
         self.push_flag(flag)
     }
 
+    // Appends what parts an item from the one before it, of an item at a place.
+    fn push_separator(&mut self, place: usize, byte: u8) -> Result<(), AllocError>
+        requires low { 32 ≤ byte }
+        requires high { byte < 127 }
+        ensures ok { OnOk result (self.new ≡ self.old ++ separator place byte) }
+    {
+        if place > 0 {
+            self.push(byte)?;
+        }
+        Ok(())
+    }
+
     /// Appends a member whose value is a list of texts.
-    pub fn texts(&mut self, name: &str, texts: &Texts) -> Result<(), AllocError> {
+    pub fn texts(&mut self, name: &str, texts: &Texts) -> Result<(), AllocError>
+        ensures ok { OnOk result (self.new ≡ self.old ++ texts_member name.now texts.now) }
+    {
         self.push_name(name)?;
         self.push(b'[')?;
-        for place in 0..texts.count() {
-            if place > 0 {
-                self.push(b',')?;
-            }
-            self.push_quoted(texts.get(place))?;
-        }
+        self.push_quoted_items(texts)?;
         self.push(b']')
     }
 
-    /// Appends a member whose value is an object of texts: of each name the value at its place.
-    pub fn object(&mut self, name: &str, names: &Texts, values: &Texts) -> Result<(), AllocError> {
+    // Appends texts as strings, with commas between them.
+    fn push_quoted_items(&mut self, texts: &Texts) -> Result<(), AllocError>
+        ensures ok { OnOk result (self.new ≡ self.old ++ items_with 44 (map quoted texts.now)) }
+    {
+        for place in 0..texts.count() {
+            self.push_separator(place, b',')?;
+            self.push_quoted(texts.get(place))?;
+        }
+        Ok(())
+    }
+
+    /// Appends a pair of an object.
+    pub fn push_pair(&mut self, name: &[u8], value: &[u8]) -> Result<(), AllocError>
+        ensures ok { OnOk result (self.new ≡ self.old ++ pair_text (name.now, value.now)) }
+    {
+        self.push_quoted(name)?;
+        self.push(b':')?;
+        self.push_quoted(value)
+    }
+
+    /// Appends a member whose value is an object, of which the pairs are written already.
+    pub fn object(&mut self, name: &str, pairs: &OneLine) -> Result<(), AllocError>
+        ensures ok { OnOk result (self.new ≡ self.old ++ object_of name.now pairs.now) }
+    {
         self.push_name(name)?;
         self.push(b'{')?;
-        for place in 0..names.count().min(values.count()) {
-            if place > 0 {
-                self.push(b',')?;
-            }
-            self.push_quoted(names.get(place))?;
-            self.push(b':')?;
-            self.push_quoted(values.get(place))?;
-        }
+        self.append(pairs)?;
         self.push(b'}')
     }
 
@@ -165,11 +189,10 @@ impl OneLine {
     pub fn push_joined(&mut self, texts: &Texts, between: u8) -> Result<(), AllocError>
         requires low { 32 ≤ between }
         requires high { between < 127 }
+        ensures ok { OnOk result (self.new ≡ self.old ++ joined between texts.now) }
     {
         for place in 0..texts.count() {
-            if place > 0 {
-                self.push(between)?;
-            }
+            self.push_separator(place, between)?;
             self.push_seen(texts.get(place))?;
         }
         Ok(())

@@ -1,4 +1,10 @@
 //! Rows, and the files that they are of.
+ghost use Rattle.std.specs.Prelude.{◌≡◌, map, slice_get, IsOkUnless};
+ghost use Rattle.org_base.specs.Codes.{memory_fault};
+ghost use Rattle.org_base.specs.Results.{Gives, GivesItems};
+ghost use Rattle.org_client.specs.LinePlaces.{line_place_in, line_place_of};
+ghost use Rattle.org_client.specs.Report.{report_of, starts_of};
+ghost use Rattle.org_client.specs.ViewRows.{heading_of};
 
 use crate::clocks::ClockRow;
 use crate::file_set::FileSet;
@@ -11,6 +17,7 @@ use org_layout::ShownRow;
 use org_store::Place;
 use org_text::Text;
 use std::alloc::Global;
+use std::marker::Model;
 
 /// Files, what their headings inherit, and what is asked of rows beside their views.
 #[derive(Drop)]
@@ -23,6 +30,14 @@ pub struct LoadReport<'a, 'b, T: Text> {
     starts: Vec<LineStarts>,
 }
 
+impl<'a, 'b, T: Text> Model for LoadReport<'a, 'b, T> {
+    ghost use Rattle.org_client.specs.Report.{ReportView};
+
+    ghost Value = { ReportView };
+
+    ghost view = { λ r. record { files = r.file_set.now.files; scopes = r.inherits.now; properties = r.properties; starts = r.starts.items } };
+}
+
 impl<'a, 'b, T: Text> LoadReport<'a, 'b, T> {
     /// Files of which rows are shown. Where rows have their stamps' lines each file is passed over once for them.
     pub fn new(
@@ -31,7 +46,10 @@ impl<'a, 'b, T: Text> LoadReport<'a, 'b, T> {
         inherits: &'a Inherits<'b>,
         properties: Texts,
         has_lines: bool,
-    ) -> Result<LoadReport<'a, 'b, T>, Fault> {
+    ) -> Result<LoadReport<'a, 'b, T>, Fault>
+        ensures value { Gives result (report_of file_set.now.files inherits.now properties has_lines) }
+        ensures memory { IsOkUnless result memory_fault }
+    {
         let starts = if has_lines {
             all_starts(alloc, file_set)?
         } else {
@@ -46,16 +64,26 @@ impl<'a, 'b, T: Text> LoadReport<'a, 'b, T> {
     }
 
     // The line of a file's byte, and the byte of that line, where lines are known.
-    pub(crate) fn line_place(&self, file: usize, at: u64) -> Option<LinePlace> {
-        if file >= self.starts.len() {
-            return None;
+    pub(crate) fn line_place(&self, file: usize, at: u64) -> Option<LinePlace>
+        ensures value { result ≡ line_place_in self.now.starts file at }
+    {
+        match u32::try_from(at) {
+            Ok(at) => self.place_of(file, at),
+            Err(_) => None,
         }
-        let at = u32::try_from(at).ok()?;
-        self.starts[file].place(at)
+    }
+
+    fn place_of(&self, file: usize, at: u32) -> Option<LinePlace>
+        ensures value { result ≡ line_place_of (slice_get self.now.starts file) at }
+    {
+        self.starts.get(file)?.place(at)
     }
 }
 
-fn all_starts<T: Text>(alloc: Global, file_set: &FileSet<T>) -> Result<Vec<LineStarts>, Fault> {
+fn all_starts<T: Text>(alloc: Global, file_set: &FileSet<T>) -> Result<Vec<LineStarts>, Fault>
+    ensures value { GivesItems result (map starts_of file_set.now.files) }
+    ensures memory { IsOkUnless result memory_fault }
+{
     let mut all = Vec::new(alloc);
     for place in 0..file_set.count() {
         let starts = file_set.file(place).line_starts(alloc)?;
@@ -92,7 +120,9 @@ pub enum ViewRow {
 
 impl ViewRow {
     /// The places of the file and of the heading that it is of, if it is of one.
-    pub fn heading(&self) -> Option<(usize, usize)> {
+    pub fn heading(&self) -> Option<(usize, usize)>
+        ensures value { result ≡ heading_of self.now }
+    {
         match self {
             ViewRow::Row(shown) => Some((shown.row.file, shown.row.heading)),
             ViewRow::Sum(shown) => match shown.row.of {

@@ -1,11 +1,15 @@
 //! Lines with names of members in braces.
+ghost use Rattle.std.specs.Prelude.{◌≡◌};
+ghost use Rattle.org_base.specs.Results.{Gives};
+ghost use Rattle.org_client.specs.Objects.{member_value};
 
-use crate::members::{Members, kind_of, put_members};
+use crate::members::Members;
 use crate::one_line::OneLine;
+use crate::row_members::{kind_of, put_members};
 use crate::rows::{LoadReport, ViewRow};
-use org_base::{Fault, Texts};
+use org_base::Fault;
 use org_text::Text;
-use std::alloc::{AllocError, Global};
+use std::alloc::Global;
 
 /// The names of the members that rows have, but for `properties`.
 pub const MEMBERS: [&str; 30] = [
@@ -142,51 +146,12 @@ fn value_of<T: Text>(
     row: &ViewRow,
     text: &[u8],
     name: &str,
-) -> Result<OneLine, Fault> {
-    let mut value = MemberValue {
-        name,
-        value: OneLine::new(alloc),
-    };
-    value.put_text("kind", kind_of(row).as_bytes())?;
+) -> Result<OneLine, Fault>
+    ensures value { Gives result (member_value files.now row.now text.now name.now) }
+{
+    let mut value = Members::of_name(alloc, name);
+    value.text("kind", kind_of(row).as_bytes())?;
     put_members(alloc, &mut value, files, row)?;
-    value.put_text("text", text)?;
-    Ok(value.value)
-}
-
-// The value of the member of a name, as it is told to a person.
-#[derive(Drop)]
-struct MemberValue<'a> {
-    name: &'a str,
-    value: OneLine,
-}
-
-impl Members for MemberValue<'_> {
-    fn put_text(&mut self, name: &str, text: &[u8]) -> Result<(), AllocError> {
-        if name == self.name {
-            self.value.push_seen(text)?;
-        }
-        Ok(())
-    }
-
-    fn put_number(&mut self, name: &str, number: u64) -> Result<(), AllocError> {
-        if name == self.name {
-            self.value.push_number(number)?;
-        }
-        Ok(())
-    }
-
-    fn put_flag(&mut self, name: &str, flag: bool) -> Result<(), AllocError> {
-        if name == self.name {
-            self.value.push_flag(flag)?;
-        }
-        Ok(())
-    }
-
-    fn put_texts(&mut self, name: &str, texts: &Texts) -> Result<(), AllocError> {
-        if name == self.name {
-            let between = if name == "path" { b'/' } else { b':' };
-            self.value.push_joined(texts, between)?;
-        }
-        Ok(())
-    }
+    value.text("text", text)?;
+    Ok(value.into_line())
 }

@@ -1,0 +1,7 @@
+use Rattle.org_client.specs.Json.{quoted}
+use Rattle.org_client.proofs.ItemLemmas.{put_more}
+use Rattle.org_client.proofs.one_line.OneLine.push_quoted_items.Goals as goal
+
+pub loop-place-preserved : goal.loop-place-preserved
+loop-place-preserved c =
+    put_more quoted 44 c.args.texts.now c.loop-place.place c.get.result.now _ _ _ _ c.get.ensures.value c.loop-place.invariant c.in_ok-push_separator.ensures.ok c.in_ok-push_quoted.ensures.ok
