@@ -1,0 +1,6 @@
+pub mod CharacterLemmas
+pub mod ReaderLemmas
+pub mod WrittenLemmas
+pub mod DraftLemmas
+pub mod SumLemmas
+pub mod LinkLemmas

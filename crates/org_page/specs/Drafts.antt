@@ -1,0 +1,37 @@
+-- A page that is being put together: what is put into it, and which titles.
+use Rattle.std.specs.Prelude.{◌≡◌, ℕ, ◌++◌, List, [], ◌∷◌, Result, IfOk, OnOk, Vec, chars}
+use Rattle.std.specs.List.{flat_map}
+use Rattle.org_page.specs.Characters.{part_text}
+use Rattle.org_page.specs.Pieces.{attributes_text, page_text, titles_of}
+use Rattle.org_page.specs.declared.character.Part.TheVariants.{Name, Words}
+use Rattle.org_page.specs.declared.draft.Draft.{Draft}
+use Rattle.org_page.specs.declared.draft.Given.{Given}
+use Rattle.org_page.specs.declared.piece.Attribute.{Attribute}
+
+-- these characters after those of a page, unless memory is refused
+abbrev pub Puts : {T E : Type 0} → Result T E → Draft → Draft → List ℕ → Type 0
+Puts result old new text = OnOk result (page_text new.pieces.items ≡ page_text old.pieces.items ++ text)
+
+-- these titles with their links after those of a page, unless memory is refused
+abbrev pub AddsTitles : {T E : Type 0} → Result T E → Draft → Draft → List (List ℕ × List ℕ) → Type 0
+AddsTitles result old new titles = OnOk result (titles_of new.pieces.items ≡ titles_of old.pieces.items ++ titles)
+
+-- no title more
+abbrev pub KeepsTitles : {T E : Type 0} → Result T E → Draft → Draft → Type 0
+KeepsTitles result old new = OnOk result (titles_of new.pieces.items ≡ titles_of old.pieces.items)
+
+-- an attribute that is given, as it stands in a page
+abbrev pub given_text : Given → List ℕ
+given_text given =
+    32 ∷ (part_text Name (chars given.name.now) ++ (61 ∷ 34 ∷ (part_text Words (chars given.value.now) ++ 34 ∷ [])))
+
+abbrev pub givens_text : List Given → List ℕ
+givens_text givens = flat_map given_text givens
+
+-- a tag with attributes that are given
+abbrev pub given_tag_text : List ℕ → List Given → List ℕ
+given_tag_text name givens = 60 ∷ (part_text Name (chars name) ++ (givens_text givens ++ 62 ∷ []))
+
+-- attributes that stand in a page as those that are given, unless memory is refused
+abbrev pub GivesAttributes : {A E : Type 0} → Result (Vec Attribute A) E → List Given → Type 0
+GivesAttributes result givens = IfOk result (λ attributes. attributes_text attributes.items ≡ givens_text givens)

@@ -1,0 +1,15 @@
+pub mod Characters
+pub mod Results
+pub mod Pieces
+pub mod Drafts
+pub mod Titles
+pub mod Rows
+pub mod Days
+pub mod Tasks
+pub mod Sums
+pub mod Clocked
+pub mod Whole
+pub mod Links
+pub mod Reader
+pub mod Laws
+pub mod Examples

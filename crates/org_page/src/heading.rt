@@ -1,0 +1,139 @@
+//! What is said of a row: its sign, its time, its keyword, its priority and its title.
+ghost use Rattle.std.specs.Prelude.{◌∷◌, []};
+ghost use Rattle.org_page.specs.Drafts.{AddsTitles, KeepsTitles};
+ghost use Rattle.org_page.specs.Rows.{row_title};
+
+use crate::draft::{Draft, with};
+use crate::row::{Row, Stand};
+use std::alloc::{AllocError, Global};
+
+/// Puts a row's keyword, its priority and its title.
+pub(crate) fn put_heading(draft: &mut Draft, row: &Row) -> Result<(), AllocError>
+    ensures titles { AddsTitles result draft.old draft.new (row_title row.now ∷ []) }
+{
+    put_keyword(draft, row.keyword.as_str())?;
+    put_priority(draft, row.priority.as_str())?;
+    put_title(draft, row)?;
+    Ok(())
+}
+
+/// Puts a row's title.
+pub(crate) fn put_title(draft: &mut Draft, row: &Row) -> Result<(), AllocError>
+    ensures titles { AddsTitles result draft.old draft.new (row_title row.now ∷ []) }
+{
+    draft.title(row.words.as_str(), row.link.as_str(), row.is_done)?;
+    Ok(())
+}
+
+fn put_keyword(draft: &mut Draft, keyword: &str) -> Result<(), AllocError>
+    ensures titles { KeepsTitles result draft.old draft.new }
+{
+    if keyword.is_empty() {
+        return Ok(());
+    }
+    put_span(draft, "word", keyword)?;
+    draft.words(" ")?;
+    Ok(())
+}
+
+fn put_priority(draft: &mut Draft, priority: &str) -> Result<(), AllocError>
+    ensures titles { KeepsTitles result draft.old draft.new }
+{
+    if priority.is_empty() {
+        return Ok(());
+    }
+    draft.open("span", &[with("class", "cookie")])?;
+    put_span(draft, "hidden", "priority ")?;
+    draft.words(priority)?;
+    draft.tag("/span")?;
+    draft.words(" ")?;
+    Ok(())
+}
+
+/// Puts words in an element of a class.
+pub(crate) fn put_span(draft: &mut Draft, class: &str, words: &str) -> Result<(), AllocError>
+    ensures titles { KeepsTitles result draft.old draft.new }
+{
+    draft.open("span", &[with("class", class)])?;
+    draft.words(words)?;
+    draft.tag("/span")?;
+    Ok(())
+}
+
+/// Puts the tags of a row's heading, behind a space.
+pub(crate) fn put_tags(draft: &mut Draft, row: &Row) -> Result<(), AllocError>
+    ensures titles { KeepsTitles result draft.old draft.new }
+{
+    if row.tags.as_str().is_empty() {
+        return Ok(());
+    }
+    draft.words(" ")?;
+    put_span(draft, "tags", row.tags.as_str())?;
+    Ok(())
+}
+
+/// Puts the file and the line of a row's heading, which lead there too.
+pub(crate) fn put_place(draft: &mut Draft, row: &Row) -> Result<(), AllocError>
+    ensures titles { KeepsTitles result draft.old draft.new }
+{
+    draft.open("a", &[with("href", row.link.as_str())])?;
+    draft.words(row.place.as_str())?;
+    draft.tag("/a")?;
+    Ok(())
+}
+
+/// Puts the sign of what is due or planned, for the eye, and its word, for the ear; each with a space behind it.
+pub(crate) fn put_sign(draft: &mut Draft, row: &Row) -> Result<(), AllocError>
+    ensures titles { KeepsTitles result draft.old draft.new }
+{
+    let (sign, word) = match (row.stand, row.is_done) {
+        (Stand::Due, false) => ("!", "due "),
+        (Stand::Due, true) => ("✓", "due "),
+        (Stand::Planned, false) => ("□", "planned "),
+        (Stand::Planned, true) => ("✓", "planned "),
+        _ => return Ok(()),
+    };
+    draft.open(
+        "span",
+        &[with("class", "sign"), with("aria-hidden", "true")],
+    )?;
+    draft.words(sign)?;
+    draft.tag("/span")?;
+    draft.words(" ")?;
+    put_span(draft, "hidden", word)?;
+    Ok(())
+}
+
+/// Puts the time at which a row begins, if it has one.
+pub(crate) fn put_start(draft: &mut Draft, row: &Row) -> Result<(), AllocError>
+    ensures titles { KeepsTitles result draft.old draft.new }
+{
+    let Some(hours) = row.time else {
+        return Ok(());
+    };
+    let start = time_text(draft.alloc(), hours.start)?;
+    put_time(draft, start.as_str(), start.as_str())?;
+    Ok(())
+}
+
+/// Puts words that say a time or a date.
+pub(crate) fn put_time(draft: &mut Draft, time: &str, words: &str) -> Result<(), AllocError>
+    ensures titles { KeepsTitles result draft.old draft.new }
+{
+    draft.open("time", &[with("datetime", time)])?;
+    draft.words(words)?;
+    draft.tag("/time")?;
+    Ok(())
+}
+
+/// Hours and minutes of a day.
+pub(crate) fn time_text(alloc: Global, minute: u16) -> Result<String, AllocError> {
+    let (hour, minute) = (minute / 60, minute % 60);
+    format!(in alloc; "{hour:02}:{minute:02}")
+}
+
+/// A sum of minutes as hours and minutes.
+pub(crate) fn duration_text(alloc: Global, minutes: u64) -> Result<String, AllocError> {
+    let (hours, minutes) = (minutes / 60, minutes % 60);
+    format!(in alloc; "{hours}:{minutes:02}")
+}

@@ -1,0 +1,142 @@
+//! A page.
+ghost use Rattle.std.specs.Prelude.{IfOk, string_bytes};
+ghost use Rattle.org_page.specs.Drafts.{AddsTitles, KeepsTitles};
+ghost use Rattle.org_page.specs.Whole.{IsPageOf, here_titles, page_titles};
+ghost use Rattle.org_page.specs.Clocked.{sums_titles};
+
+use crate::chart::Chart;
+use crate::clocked::{Sums, put_clocked, put_sums};
+use crate::coming::put_coming;
+use crate::day::{Day, Month, Today};
+use crate::draft::{Draft, with};
+use crate::head::{put_end, put_head};
+use crate::heading::duration_text;
+use crate::list::{List, put_list};
+use crate::month::put_month;
+use crate::row::Row;
+use crate::task::{TaskGroup, put_tasks};
+use crate::today::put_today;
+use crate::written::page_text;
+use std::alloc::{AllocError, Global};
+
+/// What a page shows: the day in words, its week, its rows, what is late and what is due soon, the days that come, the month,
+/// what was clocked by days and by headings, and today, open tasks by keywords, and of how many files at which moment.
+#[derive(Debug, Drop)]
+pub struct Page {
+    pub title: String,
+    pub week: u32,
+    pub today: Today,
+    pub late: Vec<Row>,
+    pub soon: Vec<Row>,
+    pub days: Vec<Day>,
+    pub month: Month,
+    pub chart: Chart,
+    pub sums: Sums,
+    pub clocked: u64,
+    pub groups: Vec<TaskGroup>,
+    pub footer: String,
+}
+
+/// The text of a page: one file of HTML that fetches nothing and runs nothing.
+pub fn html(alloc: Global, page: &Page) -> Result<String, AllocError>
+    ensures titles { IfOk result (λ text. IsPageOf (string_bytes text) page.now) }
+{
+    let mut draft = Draft::new(alloc);
+    put_page(&mut draft, page)?;
+    let text = page_text(alloc, draft.pieces.as_slice())?;
+    Ok(text)
+}
+
+fn put_page(draft: &mut Draft, page: &Page) -> Result<(), AllocError>
+    ensures titles { AddsTitles result draft.old draft.new (page_titles page.now) }
+{
+    put_head(draft, page)?;
+    put_counts(draft, page)?;
+    put_day(draft, page)?;
+    put_coming(draft, page.days.as_slice())?;
+    put_month(draft, &page.month)?;
+    put_clocks(draft, page)?;
+    put_tasks(draft, page.groups.as_slice())?;
+    put_end(draft, page.footer.as_str())?;
+    Ok(())
+}
+
+// Puts today with what is late and due soon beside it.
+fn put_day(draft: &mut Draft, page: &Page) -> Result<(), AllocError>
+    ensures titles { AddsTitles result draft.old draft.new (here_titles page.now) }
+{
+    draft.open("div", &[with("class", "columns")])?;
+    put_today(draft, &page.today)?;
+    draft.tag("div")?;
+    put_list(draft, page.late.as_slice(), List::Late)?;
+    put_list(draft, page.soon.as_slice(), List::Soon)?;
+    draft.tag("/div")?;
+    draft.tag("/div")?;
+    Ok(())
+}
+
+fn put_clocks(draft: &mut Draft, page: &Page) -> Result<(), AllocError>
+    ensures titles { AddsTitles result draft.old draft.new (sums_titles page.now.sums.rows.items) }
+{
+    draft.tag("section")?;
+    put_clocked(draft, &page.chart)?;
+    put_sums(draft, &page.sums)?;
+    draft.tag("/section")?;
+    Ok(())
+}
+
+// Puts what stands on the page, in numbers.
+fn put_counts(draft: &mut Draft, page: &Page) -> Result<(), AllocError>
+    ensures titles { KeepsTitles result draft.old draft.new }
+{
+    draft.open("ul", &[with("class", "counts")])?;
+    put_number(draft, "day", today_count(&page.today), "today")?;
+    put_number(draft, "late", page.late.len(), "late")?;
+    put_number(draft, "soon", page.soon.len(), "due soon")?;
+    put_number(
+        draft,
+        "open",
+        task_count(page.groups.as_slice()),
+        "open tasks",
+    )?;
+    let sum = duration_text(draft.alloc(), page.clocked)?;
+    put_count(draft, "clocked", sum.as_str(), "clocked today")?;
+    draft.tag("/ul")?;
+    Ok(())
+}
+
+fn today_count(today: &Today) -> usize {
+    let whole = today.whole.len();
+    whole
+        .saturating_add(today.boxes.len())
+        .saturating_add(today.beside.len())
+}
+
+fn task_count(groups: &[TaskGroup]) -> usize {
+    let mut count: usize = 0;
+    for group in groups {
+        count = count.saturating_add(group.tasks.len());
+    }
+    count
+}
+
+fn put_number(draft: &mut Draft, class: &str, number: usize, words: &str) -> Result<(), AllocError>
+    ensures titles { KeepsTitles result draft.old draft.new }
+{
+    let text = format!(in draft.alloc(); "{number}")?;
+    put_count(draft, class, text.as_str(), words)?;
+    Ok(())
+}
+
+fn put_count(draft: &mut Draft, class: &str, number: &str, words: &str) -> Result<(), AllocError>
+    ensures titles { KeepsTitles result draft.old draft.new }
+{
+    draft.open("li", &[with("class", class)])?;
+    draft.tag("b")?;
+    draft.words(number)?;
+    draft.tag("/b")?;
+    draft.words(" ")?;
+    draft.words(words)?;
+    draft.tag("/li")?;
+    Ok(())
+}
