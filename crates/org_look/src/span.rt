@@ -1,13 +1,13 @@
 //! Bars, and the places that they take.
-ghost use Rattle.std.specs.Prelude.{◌<◌, ◌≤◌};
+ghost use Rattle.std.specs.Prelude.{◌^◌, ◌<◌, ◌≤◌};
 
-/// Places that a bar takes, from 0: days of a week, or half hours of a day.
+/// Places that a bar takes, from 0: days of a week, or half hours or minutes of a day.
 #[derive(Clone, Copy, Debug)]
 pub struct Span {
     pub first: usize,
     pub last: usize,
     pub ghost forward: { first ≤ last },
-    pub ghost within: { last < 48 },
+    pub ghost within: { last < 2 ^ 16 },
 }
 
 /// A range within one week: its days, whether it comes from the week before and goes on in the next, and its label.

@@ -8,6 +8,12 @@ use org_base::Profile;
 use org_wire::Protocol;
 use std::alloc::{AllocError, Global};
 
+// What `--version` says behind the name. A build can't know the commit that its sources are of.
+const VERSION: &str = "\
+0.4.0
+kit: rattle-kit-13f logic dac8208d650f15bf
+commit: not known to a build; where a package has the file PROOF, that names it";
+
 /// The arguments that the program takes.
 pub fn command<'a>(alloc: Global) -> Result<Command<'a>, AllocError> {
     let at = Arg::new(alloc, "at")
@@ -42,6 +48,7 @@ pub fn command<'a>(alloc: Global) -> Result<Command<'a>, AllocError> {
         .num_args(0..)
         .action(ArgAction::Append);
     Command::new(alloc, "orgviews")
+        .version(VERSION)
         .about(
             "Answers questions about Org files: commands on standard input, replies on standard output",
         )
