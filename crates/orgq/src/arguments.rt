@@ -20,7 +20,8 @@ n;places;;FILE:LINE: in front of each row, as grep -n has it
 ;csv;;Fields with commas between them, a line a row
 ;format;TEXT;A line a row with members of JSON in braces, as \"{start} {title}\"
 ;color;WHEN;Late rows and warnings stand out: auto, always or never
-q;quiet;;Nothing is printed; the status tells whether there is a row";
+q;quiet;;Nothing is printed; the status tells whether there is a row
+;no-config;;The settings of the file config don't count";
 
 const OF_TODAY: &str = "d;days;N;How many days of the agenda from today on, 1 to 366";
 
@@ -60,6 +61,8 @@ const OF_CLOCKS: &str = "\
 ;from;DATE;The first day, in place of a block
 ;to;DATE;The last day; without it today";
 
+const OF_ICAL: &str = "d;days;N;How many days from today on, 1 to 366; without it 30";
+
 const OF_NEXT: &str = "\
 d;days;N;How many days from today on, 1 to 366; without it 30
 ;within;MINUTES;Only what begins in so many minutes, 0 to 100000
@@ -70,6 +73,22 @@ const OF_ACTS: &str = "\
 ;match;EXPR;The heading of which the expression holds, in place of FILE:LINE
 ;dry-run;;Nothing is written; the same is printed";
 
+const OF_CLOCK_IN: &str = "\
+;match;EXPR;The heading of which the expression holds, in place of FILE:LINE
+;switch;;The clock that runs is ended first
+;dry-run;;Nothing is written; the same is printed";
+
+const OF_CLOCK_OUT: &str = ";dry-run;;Nothing is written; the same is printed";
+
+const OF_ADD: &str = "\
+t;todo;KEYWORD;Its keyword, one of the file's
+;tag;TAG;A tag; there may be several
+;priority;X;Its priority: a letter, or a number 0 to 64
+;scheduled;DATE;When it is scheduled, as of schedule
+;deadline;DATE;Its deadline, as of deadline
+;under;PLACE;The heading below which it goes, as FILE:LINE
+;dry-run;;Nothing is written; the same is printed";
+
 const OF_CHECK: &str = "\
 ;only;KIND,..;These kinds of findings, in place of the usual ones
 ;not;KIND,..;Without these kinds
@@ -78,10 +97,16 @@ const OF_CHECK: &str = "\
 
 const OF_FOLLOW: &str = ";times;N;So many views, and no more";
 
+// What `--version` says behind the name. A build can't know the commit that its sources are of.
+const VERSION: &str = "\
+0.4.0
+kit: rattle-kit-13f logic dac8208d650f15bf
+commit: not known to a build; where a package has the file PROOF, that names it";
+
 // The commands.
-const COMMANDS: [&str; 13] = [
-    "agenda", "calendar", "todo", "match", "clock", "clocks", "next", "keywords", "tags", "check",
-    "follow", "done", "set",
+const COMMANDS: [&str; 18] = [
+    "agenda", "calendar", "todo", "match", "clock", "clocks", "next", "ical", "keywords", "tags",
+    "check", "follow", "done", "set", "schedule", "deadline", "add", "config",
 ];
 
 /// Whether a word is the name of a command.
@@ -113,7 +138,10 @@ fn has_value(line: &str) -> bool {
 
 /// The arguments that the program takes.
 pub fn command<'a>(alloc: Global) -> Result<Command<'a>, AllocError> {
-    let command = with_commands(alloc, program(alloc)?)?;
+    let clock = with_clock_acts(alloc, clock(alloc)?)?;
+    let command = with_commands(alloc, program(alloc)?, clock)?;
+    let command = command.subcommand(ical(alloc)?)?;
+    let command = command.subcommand(config(alloc)?)?;
     with_acts(alloc, command.subcommand(follow(alloc)?)?)
 }
 
@@ -121,17 +149,24 @@ pub fn command<'a>(alloc: Global) -> Result<Command<'a>, AllocError> {
 fn with_acts<'a>(alloc: Global, command: Command<'a>) -> Result<Command<'a>, AllocError> {
     command
         .subcommand(act_done(alloc)?)?
-        .subcommand(act_set(alloc)?)
+        .subcommand(act_set(alloc)?)?
+        .subcommand(act_schedule(alloc)?)?
+        .subcommand(act_deadline(alloc)?)?
+        .subcommand(act_add(alloc)?)
 }
 
-// The commands that give a view or words.
-fn with_commands<'a>(alloc: Global, command: Command<'a>) -> Result<Command<'a>, AllocError> {
+// The commands that give a view or words; that of clock tables is given.
+fn with_commands<'a>(
+    alloc: Global,
+    command: Command<'a>,
+    clock: Command<'a>,
+) -> Result<Command<'a>, AllocError> {
     command
         .subcommand(agenda(alloc)?)?
         .subcommand(calendar(alloc)?)?
         .subcommand(todo(alloc)?)?
         .subcommand(match_list(alloc)?)?
-        .subcommand(clock(alloc)?)?
+        .subcommand(clock)?
         .subcommand(clocks(alloc)?)?
         .subcommand(next(alloc)?)?
         .subcommand(keywords(alloc)?)?
@@ -144,6 +179,7 @@ fn program<'a>(alloc: Global) -> Result<Command<'a>, AllocError> {
     let program = Command::new(alloc, "orgq").about(
         "Agendas, lists and clock tables of your Org files, and what in them will not show; without a command today's agenda",
     );
+    let program = program.version(VERSION);
     with_options(alloc, with_front(alloc, program)?, OF_ALL, true)
 }
 
@@ -164,7 +200,7 @@ fn follow<'a>(alloc: Global) -> Result<Command<'a>, AllocError> {
         "The view of a command, anew when a file changed or a minute passed",
     );
     let follow = with_options(alloc, follow, OF_FOLLOW, false)?;
-    with_commands(alloc, with_front(alloc, follow)?)
+    with_commands(alloc, with_front(alloc, follow)?, clock(alloc)?)
 }
 
 fn agenda<'a>(alloc: Global) -> Result<Command<'a>, AllocError> {
@@ -219,6 +255,36 @@ fn clock<'a>(alloc: Global) -> Result<Command<'a>, AllocError> {
     with_options(alloc, clock, OF_CLOCK, false)
 }
 
+// What is said of the clock that runs, and done to it, in place of a table.
+fn with_clock_acts<'a>(alloc: Global, clock: Command<'a>) -> Result<Command<'a>, AllocError> {
+    clock
+        .args_conflicts_with_subcommands(true)
+        .disable_help_subcommand(true)
+        .subcommand(clock_in(alloc)?)?
+        .subcommand(clock_out(alloc, "out", "The clock that runs ends")?)?
+        .subcommand(clock_out(alloc, "cancel", "The clock that runs is taken away")?)?
+        .subcommand(Command::new(alloc, "status").about("The clock that runs, for a status bar"))
+}
+
+fn clock_in<'a>(alloc: Global) -> Result<Command<'a>, AllocError> {
+    let place = word(
+        alloc,
+        "PLACE",
+        "The heading, as FILE:LINE; or --match names it",
+    );
+    let begin = Command::new(alloc, "in").about("A clock of a heading begins");
+    with_options(alloc, begin.arg(place)?, OF_CLOCK_IN, false)
+}
+
+fn clock_out<'a>(
+    alloc: Global,
+    name: &'static str,
+    about: &'static str,
+) -> Result<Command<'a>, AllocError> {
+    let end = Command::new(alloc, name).about(about);
+    with_options(alloc, end, OF_CLOCK_OUT, false)
+}
+
 fn clocks<'a>(alloc: Global) -> Result<Command<'a>, AllocError> {
     let block = word(
         alloc,
@@ -234,6 +300,16 @@ fn next<'a>(alloc: Global) -> Result<Command<'a>, AllocError> {
     let next = Command::new(alloc, "next").about("What comes next of each stamp, by time");
     let next = with_options(alloc, next, OF_NEXT, false)?;
     with_options(alloc, next, OF_ROWS, false)
+}
+
+fn ical<'a>(alloc: Global) -> Result<Command<'a>, AllocError> {
+    let ical = Command::new(alloc, "ical").about("Some days and all deadlines as iCalendar");
+    let ical = with_options(alloc, ical, OF_ICAL, false)?;
+    with_options(alloc, ical, OF_ROWS, false)
+}
+
+fn config<'a>(alloc: Global) -> Result<Command<'a>, AllocError> {
+    Ok(Command::new(alloc, "config").about("Which options count, and from where"))
 }
 
 fn keywords<'a>(alloc: Global) -> Result<Command<'a>, AllocError> {
@@ -281,6 +357,50 @@ fn with_place<'a>(
     with_options(alloc, command, OF_ACTS, false)
 }
 
+fn act_schedule<'a>(alloc: Global) -> Result<Command<'a>, AllocError> {
+    let schedule = Command::new(alloc, "schedule").about(
+        "A heading of a file is scheduled for a date, or no longer",
+    );
+    with_date(alloc, schedule)
+}
+
+fn act_deadline<'a>(alloc: Global) -> Result<Command<'a>, AllocError> {
+    let deadline = Command::new(alloc, "deadline").about(
+        "A heading of a file gets a deadline, or loses it",
+    );
+    with_date(alloc, deadline)
+}
+
+fn act_add<'a>(alloc: Global) -> Result<Command<'a>, AllocError> {
+    let add = Command::new(alloc, "add").about(
+        "A new heading, behind all others of a file or below one",
+    );
+    let title = words(
+        alloc,
+        "TITLE",
+        "Its title; with - at the end standard input is its body",
+    );
+    with_options(alloc, add.arg(title)?, OF_ADD, false)
+}
+
+// What names a heading and a date.
+fn with_date<'a>(alloc: Global, command: Command<'a>) -> Result<Command<'a>, AllocError> {
+    let place = word(
+        alloc,
+        "PLACE",
+        "The heading, as FILE:LINE; with --match the date stands here",
+    );
+    let date = word(
+        alloc,
+        "DATE",
+        "The date: tomorrow, fri, +3d, 2024-02-28; none takes it away",
+    );
+    let time = word(alloc, "TIME", "A time of that day: 9:30, 9:30-10:15");
+    let command = command.arg(place.allow_hyphen_values(true))?;
+    let command = command.arg(date.allow_hyphen_values(true))?.arg(time)?;
+    with_options(alloc, command, OF_ACTS, false)
+}
+
 fn word<'a>(alloc: Global, name: &'static str, help: &'static str) -> Arg<'a> {
     Arg::new(alloc, name).help(help).action(ArgAction::Set)
 }
@@ -318,7 +438,8 @@ fn option<'a>(alloc: Global, line: &'static str) -> Arg<'a> {
     let arg = arg.value_name(value);
     match name {
         "file" | "inherit" | "only" | "not" | "tag" | "properties" => arg.action(ArgAction::Append),
-        "from" | "to" | "at" | "since" | "format" => arg.allow_hyphen_values(true),
+        "from" | "to" | "at" | "since" | "format" | "scheduled" | "deadline" | "link" | "output" =>
+            { arg.allow_hyphen_values(true) }
         "limit" | "times" => arg.value_parser(value_parser!(u32).range(1..=1_000_000)),
         "profile" => arg.value_parser(value_parser!(u32).range(1..=2)),
         "days" => arg.value_parser(value_parser!(u32).range(1..=i64::from(MOST_DAYS))),

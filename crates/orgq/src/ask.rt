@@ -1,7 +1,8 @@
 //! What is asked, and the answer to it.
-ghost use Rattle.std.specs.Prelude.{◌^◌, ◌<◌, IfSome};
+ghost use Rattle.std.specs.Prelude.{◌≡◌, ◌^◌, ◌<◌, IfSome};
 ghost use Rattle.org_client.specs.Files.{AreRead};
 ghost use Rattle.orgq.specs.Ahead.{IsLater};
+ghost use Rattle.orgq.specs.Asked.{AnswersClock, AnswersMatch, AnswersNext, AnswersQuestion, AnswersSince, chosen_of};
 
 use crate::calendar::{Calendar, Canvas, asked_calendar};
 use crate::chart::clock_chart;
@@ -40,6 +41,8 @@ pub enum Query<'a> {
     Calendar(Calendar),
     /// A picture of a day by its half hours; in other forms its rows.
     Hours(Days, Canvas),
+    /// Days and deadlines as a calendar, which has one form.
+    Ical(Days),
 }
 
 impl<'a> Query<'a> {
@@ -49,13 +52,18 @@ impl<'a> Query<'a> {
             Query::Match(expression) => expression,
             Query::Clock(table) => table.expression,
             Query::Agenda(_) | Query::Todo(_) | Query::Next(..) | Query::Since(..) => "",
-            Query::Calendar(_) | Query::Hours(..) => "",
+            Query::Calendar(_) | Query::Hours(..) | Query::Ical(_) => "",
         }
     }
 
     /// Whether bars are asked for, which have no form but their lines.
     pub fn is_chart(&self) -> bool {
         matches!(self, Query::Clock(table) if table.is_chart)
+    }
+
+    /// Whether a calendar for other programs is asked for.
+    pub fn is_ical(&self) -> bool {
+        matches!(self, Query::Ical(_))
     }
 
     /// The kind of a list's rows in fields between commas.
@@ -94,6 +102,7 @@ pub fn read_question<'a>(
             Ok(Query::Calendar(asked_calendar(own, moment, columns)?))
         }
         Some(("next", own)) => asked_next(own, days, moment),
+        Some(("ical", own)) => asked_ical(own, days, moment.day),
         None => Ok(Query::Agenda(days_from(moment.day, days.unwrap_or(1))?)),
         Some(_) if days.is_some() => Err(Problem::DaysOf),
         Some((name, own)) => asked_list(alloc, name, own, moment),
@@ -139,6 +148,16 @@ fn asked_days(own: &ArgMatches<'_>, days: Option<u32>, moment: &Moment) -> Resul
     let all = (period.last.number() + 1).saturating_sub(period.first.number());
     let count = own.get_one::<u32>("days").or(days).unwrap_or(all);
     days_from(period.first, count)
+}
+
+// Days from today on as a calendar.
+fn asked_ical<'a>(
+    own: &ArgMatches<'a>,
+    days: Option<u32>,
+    today: Day,
+) -> Result<Query<'a>, Problem> {
+    let count = own.get_one::<u32>("days").or(days).unwrap_or(30);
+    Ok(Query::Ical(days_from(today, count)?))
 }
 
 // What comes next, or what begins since a moment.
@@ -274,7 +293,7 @@ pub fn read_filters<'a, 'b>(matches: &'b ArgMatches<'a>) -> Result<Filters<'a, '
     match matches.subcommand() {
         None => Ok(front),
         Some(("calendar", _)) if front.limit.is_some() => Err(Problem::LimitOf),
-        Some(("agenda" | "next" | "calendar", own)) => Ok(Filters::of(own).or(&front)),
+        Some(("agenda" | "next" | "calendar" | "ical", own)) => Ok(Filters::of(own).or(&front)),
         Some(_) if front.chooses() => Err(Problem::FilterOf),
         Some(("todo" | "match", own)) => {
             let limit = own.get_one::<u32>("limit").or(front.limit);
@@ -296,7 +315,9 @@ pub struct Question<'a, 'b> {
 
 impl<'a> Question<'a, '_> {
     /// Which stamps agendas look at.
-    pub fn chosen(&self) -> Chosen<'a> {
+    pub fn chosen(&self) -> Chosen<'a>
+        ensures value { result ≡ chosen_of self.now }
+    {
         Chosen {
             as_of: AsOf {
                 profile: self.profile,
@@ -318,7 +339,7 @@ pub fn check(alloc: Global, question: &Question<'_, '_>) -> Result<(), Fault> {
             check_options(alloc, table.options.as_str(), question.moment.day)?;
         }
         Query::Agenda(_) | Query::Todo(_) | Query::Next(..) | Query::Since(..) => {}
-        Query::Calendar(_) | Query::Hours(..) => {}
+        Query::Calendar(_) | Query::Hours(..) | Query::Ical(_) => {}
     }
     Ok(())
 }
@@ -338,6 +359,7 @@ pub fn answer(
     question: &Question<'_, '_>,
 ) -> Result<Answer, Fault>
     requires read { AreRead inherits.now }
+    ensures value { AnswersQuestion result inherits.now question.now }
 {
     let now = question.moment;
     let chosen = question.chosen();
@@ -345,20 +367,44 @@ pub fn answer(
         Query::Agenda(days) => agenda_days(alloc, inherits, &chosen, *days),
         Query::Calendar(calendar) => agenda_days(alloc, inherits, &chosen, calendar.days),
         Query::Hours(days, _) => agenda_days(alloc, inherits, &chosen, *days),
+        Query::Ical(days) => agenda_days(alloc, inherits, &chosen, *days),
         Query::Todo(words) => todo_list(alloc, inherits, words),
         Query::Match(expression) => match_answer(alloc, inherits, expression, now),
         Query::Clock(table) => clock(alloc, inherits, table, now),
-        Query::Next(days, within) => {
-            let agenda = agenda_over(alloc, inherits, &chosen, *days)?;
-            rows_ahead(alloc, inherits, &agenda, &now, *within)
-        }
-        Query::Since(window, days) => {
-            let agenda = agenda_over(alloc, inherits, &chosen, *days)?;
-            rows_since(alloc, inherits, &agenda, window)
-        }
+        Query::Next(days, within) => next_answer(alloc, inherits, &chosen, *days, *within),
+        Query::Since(window, days) => since_answer(alloc, inherits, &chosen, *days, window),
     }
 }
 
+fn next_answer(
+    alloc: Global,
+    inherits: &Inherits<'_>,
+    chosen: &Chosen<'_>,
+    days: Days,
+    within: Option<u32>,
+) -> Result<Answer, Fault>
+    requires read { AreRead inherits.now }
+    ensures value { AnswersNext result inherits.now chosen.now days within }
+{
+    let agenda = agenda_over(alloc, inherits, chosen, days)?;
+    rows_ahead(alloc, inherits, &agenda, &chosen.moment, within)
+}
+
+fn since_answer(
+    alloc: Global,
+    inherits: &Inherits<'_>,
+    chosen: &Chosen<'_>,
+    days: Days,
+    window: &Window,
+) -> Result<Answer, Fault>
+    requires read { AreRead inherits.now }
+    ensures value { AnswersSince result inherits.now chosen.now days window.now }
+{
+    let agenda = agenda_over(alloc, inherits, chosen, days)?;
+    rows_since(alloc, inherits, &agenda, window)
+}
+
+#[tactic(auto, using(crate::proofs::AskedLemmas::listed))]
 fn match_answer(
     alloc: Global,
     inherits: &Inherits<'_>,
@@ -366,11 +412,13 @@ fn match_answer(
     now: Moment,
 ) -> Result<Answer, Fault>
     requires read { AreRead inherits.now }
+    ensures value { AnswersMatch result inherits.now expression.now now }
 {
     let expression = read_expression(alloc, expression)?;
     match_list(alloc, inherits, &expression, now)
 }
 
+#[tactic(auto, using(crate::proofs::AskedLemmas::tabled))]
 fn clock(
     alloc: Global,
     inherits: &Inherits<'_>,
@@ -378,6 +426,7 @@ fn clock(
     now: Moment,
 ) -> Result<Answer, Fault>
     requires read { AreRead inherits.now }
+    ensures value { AnswersClock result inherits.now table.now now }
 {
     let options = table.options.as_str();
     if options.len() > LONGEST {

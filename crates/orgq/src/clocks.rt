@@ -87,13 +87,38 @@ fn push_clock<T: Text>(
     ensures clean { IsSafe look.now → KeepsClean result out.old out.new }
 {
     let text = clock_text(alloc, files, clock, look.form == Form::Places)?;
+    let shown = ClockText {
+        clock: *clock,
+        text: text.as_str(),
+    };
+    push_row(alloc, out, files, &shown, look)
+}
+
+/// A clock, and its line in words.
+#[derive(Clone, Copy, Debug)]
+pub struct ClockText<'a> {
+    pub clock: ShownClock,
+    pub text: &'a str,
+}
+
+/// Appends the line of a clock in its form.
+pub fn push_row<T: Text>(
+    alloc: Global,
+    out: &mut Vec<u8>,
+    files: &LoadReport<'_, '_, T>,
+    shown: &ClockText<'_>,
+    look: &PrintOptions<'_, '_>,
+) -> Result<(), Fault>
+    ensures clean { IsSafe look.now → KeepsClean result out.old out.new }
+{
+    let text = shown.text.as_bytes();
     if !is_safe(look) {
-        out.extend_from_slice(text.as_bytes())?;
+        out.extend_from_slice(text)?;
         out.push(b'\n')?;
         return Ok(());
     }
-    let row = ViewRow::Clock(*clock);
-    let line = row_line(alloc, files, &row, text.as_bytes(), look)?;
+    let row = ViewRow::Clock(shown.clock);
+    let line = row_line(alloc, files, &row, text, look)?;
     Ok(push_whole(out, &line)?)
 }
 
@@ -125,14 +150,24 @@ fn clock_text<T: Text>(
     push_end(&mut text, row.to)?;
     let (hours, minutes) = (row.minutes / 60, row.minutes % 60);
     write!(text, " {hours:>5}:{minutes:02} ")?;
-    if let Some(heading) = Heading::find(files.inherits, row.file, row.heading) {
-        text.push_str(str::from_utf8(heading.title()).unwrap_or(""))?;
-    }
+    push_title(&mut text, files, clock)?;
     Ok(text)
 }
 
-// Appends the file and the line of a clock, and a space, since its line begins with a number.
-fn push_place<T: Text>(
+/// Appends the title of a clock's heading.
+pub fn push_title<T: Text>(
+    text: &mut String,
+    files: &LoadReport<'_, '_, T>,
+    clock: &ShownClock,
+) -> Result<(), AllocError> {
+    match Heading::find(files.inherits, clock.row.file, clock.row.heading) {
+        Some(heading) => text.push_str(str::from_utf8(heading.title()).unwrap_or("")),
+        None => Ok(()),
+    }
+}
+
+/// Appends the file and the line of a clock, and a space, since its line begins with a number.
+pub fn push_place<T: Text>(
     text: &mut String,
     files: &LoadReport<'_, '_, T>,
     clock: &ShownClock,

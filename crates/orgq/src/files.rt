@@ -105,10 +105,15 @@ pub fn load_input<R: AllocGlobal + Input, S: FileSink>(
     keywords: Option<&str>,
 ) -> Result<(), LeftOut> {
     check_name(named.name)?;
+    Ok(set.take(rt.alloc(), named, read_input(rt)?, keywords)?)
+}
+
+/// Standard input, to its end.
+pub fn read_input<R: AllocGlobal + Input>(rt: &R) -> Result<String, LeftOut> {
     let mut bytes = Vec::new(rt.alloc());
     let mut input = rt.reader().take(MAX_BYTES as u64 + 1);
     let bytes = as_text(input.read_to_end(&mut bytes), bytes)?;
-    Ok(set.take(rt.alloc(), named, text_of(bytes)?, keywords)?)
+    text_of(bytes)
 }
 
 /// The text of a file, whole.

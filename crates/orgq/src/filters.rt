@@ -1,4 +1,6 @@
 //! Which headings' rows agendas and what comes next show, and how many rows.
+ghost use Rattle.std.specs.Prelude.{chars, IfOk};
+ghost use Rattle.org_expression.specs.Grammar.{Reads};
 
 use crate::problem::Problem;
 use clap::ArgMatches;
@@ -77,7 +79,9 @@ fn add(expressions: &mut Vec<Match>, expression: Match) -> Result<(), Fault> {
 }
 
 /// The expression that a text spells.
-pub fn read_expression(alloc: Global, expression: &str) -> Result<Match, Fault> {
+pub fn read_expression(alloc: Global, expression: &str) -> Result<Match, Fault>
+    ensures value { IfOk result (λ found. Reads (chars expression.now) found) }
+{
     if expression.len() > LONGEST {
         return Err(Fault::Plain(Code::Long));
     }

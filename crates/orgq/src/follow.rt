@@ -1,11 +1,12 @@
 //! The command that shows a view anew whenever a file changed or a minute passed.
 
 use crate::exit::{BAD_ARGUMENTS, STOPPED};
+use crate::file_list::INPUT;
 use crate::files::push_paths;
 use crate::filters::Filters;
 use crate::problem::Problem;
 use crate::session::answer_query;
-use crate::sources::{INPUT, paths};
+use crate::sources::paths;
 use clap::ArgMatches;
 use std::alloc::AllocError;
 use std::fs::File;

@@ -1,12 +1,15 @@
 //! A heading that is changed, with the text of its file.
 
+use crate::adding::WishedHeading;
 use crate::files::{LeftOut, read_text};
 use crate::keywords::line_behind;
 use crate::place::HeadingPlace;
-use crate::wish::{Look, Wish, WishedKeyword};
-use org_act::Completion;
+use crate::wish::{Look, Wish, WishedAct, WishedKeyword};
+use org_act::{Addition, ClockAct, ClockStep, Completion, Planning};
+use org_amend::TypedDate;
 use org_base::Fault;
 use org_cal::Moment;
+use org_stamp::PlanningKeyword;
 use std::alloc::{AllocError, Global};
 use std::rt::Files;
 
@@ -21,7 +24,7 @@ pub struct HeadingText {
     pub text: String,
     /// What is read after the text and never written: a line of keywords, or nothing.
     pub behind: String,
-    pub keyword: WishedKeyword,
+    pub act: WishedAct,
     /// When it is done.
     pub moment: Moment,
     pub look: Look,
@@ -44,18 +47,44 @@ impl HeadingText {
             line: place.line,
             text,
             behind,
-            keyword: wish.keyword.copy(alloc)?,
+            act: wish.act.copy(alloc)?,
             moment: wish.moment,
             look: wish.look,
         })
     }
 
     /// The act that completes it, or gives it another keyword.
-    pub fn completion(&self) -> Completion<'_> {
+    pub fn completion<'a>(&'a self, keyword: &'a WishedKeyword) -> Completion<'a> {
         Completion {
             line: self.line,
-            keyword: self.keyword.choice(),
+            keyword: keyword.choice(),
             moment: self.moment,
+            behind: self.behind.as_str(),
+        }
+    }
+
+    /// The act that does a step to its clock.
+    pub fn clocking(&self, step: ClockStep) -> ClockAct {
+        ClockAct {
+            line: self.line,
+            step,
+        }
+    }
+
+    /// The act that gives it a date under a planning keyword, or takes the stamps there away.
+    pub fn planning(&self, keyword: PlanningKeyword, date: Option<TypedDate>) -> Planning {
+        Planning {
+            line: self.line,
+            keyword,
+            date,
+        }
+    }
+
+    /// The act that writes another heading, with these tags.
+    pub fn addition<'a>(&'a self, added: &'a WishedHeading, tags: &'a [&'a str]) -> Addition<'a> {
+        Addition {
+            under: added.under,
+            entry: added.entry(tags),
             behind: self.behind.as_str(),
         }
     }

@@ -1,8 +1,12 @@
 //! Keywords of files that have none of their own.
+ghost use Rattle.std.specs.Prelude.{◌≡◌, string_bytes};
+ghost use Rattle.org_base.specs.Results.{Gives, GivesText};
+ghost use Rattle.org_class.specs.Classes.{setting_lines};
+ghost use Rattle.orgq.specs.Keywords.{lacks_feed, line_after, line_behind, names_keywords, with_keywords};
 
 use crate::say::say_of;
-use org_base::{Fault, Texts};
-use org_client::ReadFile;
+use org_base::{Fault, Meter, Texts};
+use org_class::{Settings, classify, push_setting_lines, sections};
 use org_inherit::Inherits;
 use org_text::{Text, Whole};
 use std::alloc::{AllocError, Global};
@@ -10,24 +14,30 @@ use std::str;
 
 /// A text with a line of keywords after it, where it has none of its own. Setting lines count wherever they stand, so every
 /// place of the text stays what it was.
-pub fn with_keywords(alloc: Global, mut text: String, words: &str) -> Result<String, Fault> {
+pub fn with_keywords(alloc: Global, mut text: String, words: &str) -> Result<String, Fault>
+    ensures value { GivesText result (with_keywords (string_bytes text) words.now) }
+{
     let line = line_behind(alloc, text.as_str(), words)?;
     text.push_str(line.as_str())?;
     Ok(text)
 }
 
 /// The line of keywords that is read after a text; none where the text has keywords of its own.
-pub fn line_behind(alloc: Global, text: &str, words: &str) -> Result<String, Fault> {
+pub fn line_behind(alloc: Global, text: &str, words: &str) -> Result<String, Fault>
+    ensures value { GivesText result (line_behind text.now words.now) }
+{
     if names_keywords(alloc, text)? {
         return Ok(String::new(alloc));
     }
-    let line = String::new(alloc);
-    Ok(with_line(line, text, words)?)
+    Ok(line_after(alloc, text, words)?)
 }
 
-// A string with a line of keywords at its end, as it stands after a text.
-fn with_line(mut line: String, text: &str, words: &str) -> Result<String, AllocError> {
-    if !text.is_empty() && !text.ends_with('\n') {
+// A line of keywords as it stands after a text.
+fn line_after(alloc: Global, text: &str, words: &str) -> Result<String, AllocError>
+    ensures value { GivesText result (line_after text.now words.now) }
+{
+    let mut line = String::new(alloc);
+    if lacks_feed(text.as_bytes()) {
         line.push_str("\n")?;
     }
     line.push_str("#+TODO: ")?;
@@ -36,63 +46,43 @@ fn with_line(mut line: String, text: &str, words: &str) -> Result<String, AllocE
     Ok(line)
 }
 
-// Whether a text names keywords of its own. Where it has blocks the line that does may stand in one, and is text then.
-fn names_keywords(alloc: Global, text: &str) -> Result<bool, Fault> {
-    if !text.split('\n').any(|line| is_keyword_line(line)) {
-        return Ok(false);
-    }
-    if !text.split('\n').any(|line| begins_block(line)) {
-        return Ok(true);
-    }
-    are_before(
-        alloc,
-        with_line(String::from_str(alloc, text)?, text, PROBE)?,
-    )
-}
-
-// A keyword that no file has.
-const PROBE: &str = "\u{1}";
-
-// Whether other keywords stand in a text before the one that was put after it.
-fn are_before(alloc: Global, text: String) -> Result<bool, Fault> {
-    let text = Whole::of_string(alloc, text)?;
-    let file = ReadFile::new(alloc, String::new(alloc), String::new(alloc), text)?;
-    let inherited = Texts::new(alloc);
-    let inherit = file.inherit(alloc, &inherited)?;
-    Ok(inherit.settings().keyword_place(PROBE.as_bytes()) != Some(0))
-}
-
-fn begins_block(line: &str) -> bool {
-    match line.trim_start_matches(SPACES).get(..8) {
-        Some(front) => front.eq_ignore_ascii_case("#+begin_"),
+// Whether a text's last line doesn't end with a line feed.
+fn lacks_feed(text: &[u8]) -> bool
+    ensures value { result ≡ lacks_feed text.now }
+{
+    match text.last() {
+        Some(byte) => *byte != b'\n',
         None => false,
     }
 }
 
-// White space of Org's lines.
-const SPACES: [char; 3] = [' ', '\t', '\r'];
-
-// Whether a line sets keywords: it names one, or more.
-fn is_keyword_line(line: &str) -> bool {
-    let Some((key, value)) = line.trim_start_matches(SPACES).split_once(':') else {
-        return false;
-    };
-    is_keyword_key(key) && value.split(SPACES).any(|word| is_keyword(word))
+// Whether a text names keywords of its own.
+fn names_keywords(alloc: Global, text: &str) -> Result<bool, Fault>
+    ensures value { Gives result (names_keywords text.now) }
+{
+    let text = Whole::of(alloc, text)?;
+    let mut lines = setting_lines(alloc, &text)?;
+    lines.push(PROBE_LINE)?;
+    let settings = Settings::of_lines(alloc, &lines)?;
+    Ok(settings.keyword_place(PROBE) != Some(0))
 }
 
-fn is_keyword_key(key: &str) -> bool {
-    key.eq_ignore_ascii_case("#+todo")
-        || key.eq_ignore_ascii_case("#+seq_todo")
-        || key.eq_ignore_ascii_case("#+typ_todo")
-}
+// A keyword that no file has, and a line that names it: behind lines that name none it is the first one.
+const PROBE: &[u8] = b"\x01";
 
-// Whether a word is a keyword, with what may stand in parentheses after it, and no bar.
-fn is_keyword(word: &str) -> bool {
-    let name = match word.split_once('(') {
-        Some((name, _)) if word.ends_with(')') => name,
-        _ => word,
-    };
-    !name.is_empty() && name != "|"
+const PROBE_LINE: &[u8] = b"#+TODO: \x01";
+
+// The setting lines of a text.
+fn setting_lines(alloc: Global, text: &Whole) -> Result<Texts, Fault>
+    ensures value { Gives result (setting_lines text.now) }
+{
+    let spans = sections(alloc, text)?;
+    let mut lines = Texts::new(alloc);
+    for span in spans.as_slice() {
+        let classes = classify(alloc, &mut Meter::new(), text, *span)?;
+        push_setting_lines(alloc, &mut lines, text, *span, classes.as_slice())?;
+    }
+    Ok(lines)
 }
 
 /// Says which words are keywords of no file.

@@ -3,6 +3,7 @@
 #![tactic(auto)]
 
 mod act;
+mod adding;
 mod amending;
 mod arguments;
 mod ask;
@@ -11,31 +12,43 @@ mod chart;
 mod check;
 mod checked;
 mod clock;
+mod clock_act;
+mod clock_status;
 mod clocks;
+mod config;
+mod counted;
 mod environment;
 mod exit;
+mod file_list;
 mod files;
 mod filters;
 mod findings;
 mod follow;
 mod heading;
 mod hours;
+mod ical;
 mod joined;
 mod keywords;
 mod labels;
+pub mod laws;
 mod limits;
 mod names;
+mod once_words;
 mod one_match;
 mod options;
 mod out;
 mod picture;
 mod place;
+mod planning;
 mod problem;
 mod refusals;
 mod rows_ahead;
+mod running;
 mod say;
 mod session;
+mod setting;
 mod show;
+mod shown_config;
 mod sources;
 mod table;
 mod unwritten;
@@ -45,10 +58,10 @@ mod wish;
 mod words;
 
 use crate::arguments::command;
+use crate::counted::run_with_config;
 use crate::exit::BAD_ARGUMENTS;
 use crate::joined::joined_values;
 use crate::say::{out_of_memory, say};
-use crate::session::run;
 use crate::usage::parser_said;
 use std::env;
 use std::fs::File;
@@ -88,7 +101,7 @@ fn start<R: AllocGlobal + Files<File = File> + Env + Clock + Input + Print + Epr
         return out_of_memory(rt);
     };
     match command.try_get_matches_from(joined.as_slice()) {
-        Ok(matches) => run(rt, &matches, on_terminal),
+        Ok(matches) => run_with_config(rt, words, &matches, on_terminal),
         Err(error) => parser_said(rt, words, &error),
     }
 }

@@ -18,8 +18,14 @@ pub enum Problem {
     /// Bars are asked for in a form that they don't have.
     Chart,
     Clock,
+    /// A form is asked for that the acts of `clock` don't have.
+    ClockForm,
     Color,
     Command,
+    /// The file of settings can't be read.
+    Config,
+    /// A form is asked for that what `config` prints doesn't have.
+    ConfigForm,
     Date,
     Days,
     DaysOf,
@@ -28,6 +34,8 @@ pub enum Problem {
     Environment(Variable),
     /// Fields between commas are asked for, and there are none of what is asked.
     Fields,
+    /// A file and a heading below which another one goes.
+    FileBeside,
     Files,
     /// What chooses rows stands before a command that chooses none.
     FilterOf,
@@ -44,14 +52,24 @@ pub enum Problem {
     Grid,
     /// Some rows of a picture are asked for.
     GridLimit,
+    /// A calendar for other programs is asked for in another form.
+    Ical,
     Lead,
+    /// A form is asked for that what a command prints that changes files doesn't have.
+    LineForm,
     LimitOf,
     List,
     Moment,
     /// A name of a text on standard input, and there is none.
     Name,
+    /// No date stands behind the place of a heading.
+    NoDate,
     /// No keyword stands behind the place of a heading.
     NoKeyword,
+    /// Not one file is named where one is written.
+    OneFile,
+    /// A word says no date that a heading can get.
+    OneDate,
     Order,
     /// A word is no place of a heading.
     Place,
@@ -99,18 +117,30 @@ impl Problem {
             Problem::Clock => {
                 "neither clock nor time zone can be read (TZ, /etc/localtime): --at names the moment"
             }
+            Problem::ClockForm => {
+                "clock in, out and cancel print lines: --json, --csv and --format are no forms of theirs"
+            }
             Problem::Color => "--color is auto, always or never",
             Problem::Command => "no such command; for a file or folder write -f before its name",
+            Problem::Config => {
+                "the file of settings, orgq/config in XDG_CONFIG_HOME or ~/.config, can't be read as a file of UTF-8"
+            }
+            Problem::ConfigForm =>
+                "config has lines alone, without -n, --json, --csv and --days-too",
             Problem::Date => {
                 "no such date; there are today, tomorrow, yesterday, mon to sun, such as +3d, -1w, +2m, 2024-02-28, and the blocks thisweek, nextweek, lastweek, thismonth and so on, 2024-W09, 2024-02"
             }
             Problem::Days => "days past 9999-12-31",
-            Problem::DaysOf => "-d is an option of agenda and next",
+            Problem::DaysOf => "-d is an option of agenda, ical and next",
             Problem::DaysToo => "--days-too is for --json",
             Problem::Environment(variable) => variable.why(),
             Problem::Fields => "--csv is no form of check, which has lines and --json",
-            Problem::Files => "no files: name them by -f, ORGQ_FILES or ~/.config/orgq/files",
-            Problem::FilterOf => "--match, --tag and --category are options of agenda and next",
+            Problem::FileBeside => "--under names the file too: without -f",
+            Problem::OneFile => "add writes one file: -f FILE, or --under FILE:LINE",
+            Problem::Files =>
+                "no files: name them by -f, ORGQ_FILES, ~/.config/orgq/config or ~/.config/orgq/files",
+            Problem::FilterOf =>
+                "--match, --tag and --category are options of agenda, ical and next",
             Problem::FollowFront => "files without -f and options of rows stand after follow",
             Problem::FollowInput =>
                 "follow reads files again and again, and standard input only once",
@@ -118,9 +148,11 @@ impl Problem {
             Problem::FormatBeside => "--format goes neither with --json nor with --csv nor with -n",
             Problem::Grid => "--grid shows one day",
             Problem::GridLimit => "--grid shows all rows of a day, without --limit",
+            Problem::Ical => "ical has one form, without -n, --json, --csv and --format",
             Problem::From => "--from names the first day in place of a block",
             Problem::Lead => "--lead wants --since",
-            Problem::LimitOf => "--limit is an option of agenda, next, todo and match",
+            Problem::LineForm => "this command prints lines: --json and --csv are no forms of its",
+            Problem::LimitOf => "--limit is an option of agenda, ical, next, todo and match",
             Problem::List => {
                 "the list of files, orgq/files in XDG_CONFIG_HOME or ~/.config, can't be read as a file of UTF-8"
             }
@@ -128,6 +160,8 @@ impl Problem {
                 "no such moment: --at takes one as \"2024-02-28 10:30\" or \"tomorrow 9:00\""
             }
             Problem::Name => "--name names the text of -f -",
+            Problem::NoDate => "schedule and deadline take a date or none: schedule FILE:LINE DATE",
+            Problem::OneDate => NO_DATE,
             Problem::NoKeyword => "set takes a keyword: set FILE:LINE KEYWORD",
             Problem::Place => "a heading is named by FILE:LINE, as -n prints it, or by --match",
             Problem::PlaceBeside => "a heading is named either by FILE:LINE or by --match",
@@ -157,6 +191,9 @@ impl Problem {
 
 const NO_BLOCK: &str =
     "no such block of time; there are today, yesterday, thisweek, lastweek, nextweek, and so month and year, such as 2024, 2024-Q1, 2024-02, 2024-W09, 2024-02-28, and such days as -1d";
+
+const NO_DATE: &str =
+    "no such date; there are today, tomorrow, yesterday, mon to sun, such as +3d, -1w, +2m, 2024-02-28, and a time behind it, 9:30 or 9:30-10:15";
 
 const NO_FORMAT: &str =
     "--format takes names of members in braces, and {{ and }} for braces; there are kind, day, start, end, days, day_of, days_in, file, line, byte, stamp, stamp_line, stamp_column, category, level, keyword, done, priority, title, tags, scheduled, deadline, closed, effort, path, from, to, clock, minutes, text";

@@ -4,8 +4,10 @@ use crate::heading::HeadingText;
 use crate::say::{out_of_memory, say_of};
 use crate::unwritten::say_unsaved;
 use org_act::{Refusal, Unamended};
+use org_amend::Unreadable;
 use org_base::{Code, Fault, Meter};
 use org_class::read_settings;
+use org_client::push_clock_minute;
 use org_settings::Settings;
 use org_text::{Text, Whole};
 use std::alloc::{AllocError, Global};
@@ -34,18 +36,49 @@ fn refusal_text(
     heading: &HeadingText,
     why: Refusal,
 ) -> Result<Option<String>, Fault> {
-    let word = heading.keyword.word();
+    let word = heading.act.word();
     match why {
         Refusal::NotDone => {
             let done = keyword_list(alloc, heading, true)?;
             Ok(Some(format!(in alloc; "no done keyword {word}; it has {done}")?))
         }
         Refusal::NoDone => Ok(Some(String::from_str(alloc, NO_DONE)?)),
+        Refusal::ClockRuns => Ok(Some(String::from_str(alloc, "a clock of this heading runs")?)),
+        Refusal::NoClock => Ok(Some(String::from_str(alloc, "no clock of this heading runs")?)),
+        Refusal::EndsEarly(from) => Ok(Some(early_text(alloc, from)?)),
+        Refusal::Misread => Ok(Some(String::from_str(alloc, MISREAD)?)),
+        Refusal::Unreadable(Unreadable::Keyword) => fault_text(alloc, heading, Code::Keyword),
+        Refusal::Unreadable(why) => Ok(Some(String::from_str(alloc, why_unreadable(why))?)),
         Refusal::Fault(fault) => fault_text(alloc, heading, fault.code()),
     }
 }
 
+fn early_text(alloc: Global, from: u64) -> Result<String, AllocError> {
+    let mut text = String::from_str(alloc, "its clock begins at ")?;
+    push_clock_minute(&mut text, from)?;
+    text.push_str(", which is later")?;
+    Ok(text)
+}
+
 const NO_DONE: &str = "the keywords of this heading have no done one";
+
+const MISREAD: &str =
+    "what stands behind its stamps would be read as something else; nothing was written";
+
+fn why_unreadable(why: Unreadable) -> &'static str {
+    match why {
+        Unreadable::Keyword => "the keyword is none of its own",
+        Unreadable::Priority => "no such priority: a letter A to Z, or a number 0 to 64",
+        Unreadable::Tags => "no such tag: a tag has letters, digits, _, @, # and %",
+        Unreadable::Title => {
+            "the title would be read as something else: it is empty, or has a keyword, a priority, COMMENT, tags or an end of a line"
+        }
+        Unreadable::Dates => "the dates can't stand on one line",
+        Unreadable::Body => {
+            "the body would be read as something else: it has a heading, a setting, planning, properties or a clock"
+        }
+    }
+}
 
 fn fault_text(alloc: Global, heading: &HeadingText, code: Code) -> Result<Option<String>, Fault> {
     match code {
@@ -55,7 +88,7 @@ fn fault_text(alloc: Global, heading: &HeadingText, code: Code) -> Result<Option
             Ok(Some(format!(in alloc; "no heading at line {line}")?))
         }
         Code::Keyword => {
-            let (word, all) = (heading.keyword.word(), keyword_list(alloc, heading, false)?);
+            let (word, all) = (heading.act.word(), keyword_list(alloc, heading, false)?);
             Ok(Some(format!(in alloc; "no keyword {word}; it has {all}")?))
         }
         code => Ok(Some(String::from_str(alloc, why_code(code))?)),

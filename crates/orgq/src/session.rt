@@ -6,12 +6,14 @@ use crate::ask::{Query, Question, answer, check, read_filters, read_question};
 use crate::calendar::columns_for;
 use crate::check::check_files;
 use crate::clock::{now, typed_moment};
+use crate::clock_status::print_status;
 use crate::clocks::print_clocks;
 use crate::environment::{Variable, value_of};
 use crate::exit::status_of;
 use crate::filters::Filters;
 use crate::follow::follow;
 use crate::hours::day_picture;
+use crate::ical::ical_of;
 use crate::keywords::say_unknown;
 use crate::limits::lines_within;
 use crate::options::{
@@ -75,14 +77,21 @@ pub fn answer_query<
         limit: filters.limit,
         is_last,
     };
-    if let Some(("clocks", own)) = matches.subcommand() {
-        return print_clocks(rt, matches, own, moment.day, &look);
+    match matches.subcommand() {
+        Some(("clocks", own)) => return print_clocks(rt, matches, own, moment.day, &look),
+        Some(("clock", own)) if own.subcommand().is_some() => {
+            return print_status(rt, matches, moment, &look);
+        }
+        _ => {}
     }
     let columns = columns_for(rt, matches)?;
     let asked = read_question(rt.alloc(), matches, &moment, columns)?;
     look.list = asked.list();
     if asked.is_chart() && look.form != Form::Plain {
         return Err(Problem::Chart);
+    }
+    if asked.is_ical() && look.form != Form::Plain {
+        return Err(Problem::Ical);
     }
     let typed = filters.expression.unwrap_or(asked.expression());
     let expressions = match filters.expressions(rt.alloc()) {
@@ -221,6 +230,10 @@ fn printed_of(
 ) -> Result<(bool, Vec<u8>), Fault>
     requires read { AreRead inherits.now }
 {
+    if let Query::Ical(days) = question.asked {
+        let ical = ical_of(alloc, inherits, &question.chosen(), *days, look.limit)?;
+        return Ok((ical.has_component, ical.bytes));
+    }
     if look.form == Form::Plain {
         if let Some(picture) = picture_of(alloc, inherits, question)? {
             let text = picture_bytes(alloc, picture.text.as_str(), look.is_seen)?;

@@ -1,18 +1,16 @@
 //! Which files are asked, and what comes of loading them.
 
 use crate::environment::{Variable, value_of};
-use crate::files::{FileSink, LeftOut, Named, load, load_input, push_paths, read_whole, real_path};
+pub use crate::file_list::INPUT;
+use crate::file_list::{push_listed, read_list};
+use crate::files::{FileSink, LeftOut, Named, load, load_input, push_paths, real_path};
 use crate::options::is_path;
 use crate::problem::Problem;
 use crate::say::{say, say_of};
 use clap::ArgMatches;
 use std::alloc::{AllocError, Global};
-use std::fs;
 use std::io::ErrorKind;
 use std::rt::{Env, Files};
-
-/// The path that stands for standard input.
-pub const INPUT: &str = "-";
 
 /// The paths that the arguments name, those of the command's own words last; without any those of `ORGQ_FILES`, else those of
 /// the configuration folder's list.
@@ -70,79 +68,18 @@ fn push_each(alloc: Global, paths: &mut Vec<String>, part: &[&str]) -> Result<()
 
 // The paths of `ORGQ_FILES`, else of the configuration folder's list.
 fn configured_paths<R: AllocGlobal + Files + Env>(rt: &R) -> Result<Vec<String>, Problem> {
+    let mut paths = Vec::new(rt.alloc());
     match value_of(rt, Variable::Files)? {
-        Some(paths) => Ok(split(rt.alloc(), paths.as_str(), ':', "")?),
-        None => in_list(rt),
-    }
-}
-
-// The paths of the configuration folder's list; none where there is no list.
-fn in_list<R: AllocGlobal + Files + Env>(rt: &R) -> Result<Vec<String>, Problem> {
-    let home = match value_of(rt, Variable::Home)? {
-        Some(home) => home,
-        None => String::new(rt.alloc()),
-    };
-    let list = list_of(rt, home.as_str())?;
-    match list_text(rt, list.as_str())? {
-        Some(text) => Ok(split(rt.alloc(), text.as_str(), '\n', home.as_str())?),
-        None => Ok(Vec::new(rt.alloc())),
-    }
-}
-
-// The path of the list.
-fn list_of<R: AllocGlobal + Env>(rt: &R, home: &str) -> Result<String, Problem> {
-    let folder = value_of(rt, Variable::Config)?;
-    match folder {
-        Some(folder) if !folder.as_str().is_empty() => {
-            Ok(format!(in rt.alloc(); "{folder}/orgq/files")?)
-        }
-        _ => Ok(format!(in rt.alloc(); "{home}/.config/orgq/files")?),
-    }
-}
-
-// The text of the list, if there is a list.
-fn list_text<R: AllocGlobal + Files>(rt: &R, list: &str) -> Result<Option<String>, Problem> {
-    match fs::metadata(rt, list) {
-        Ok(metadata) if metadata.is_file() => {}
-        Ok(_) => return Err(Problem::List),
-        Err(error) => {
-            return match error.kind() {
-                ErrorKind::NotFound | ErrorKind::NotADirectory => Ok(None),
-                _ => Err(Problem::List),
-            };
-        }
-    }
-    let Ok(mut file) = fs::open(rt, list) else {
-        return Err(Problem::List);
-    };
-    match read_whole(rt.alloc(), &mut file) {
-        Ok(bytes) => match String::from_utf8(bytes) {
-            Ok(text) => Ok(Some(text)),
-            Err(_) => Err(Problem::List),
-        },
-        Err(LeftOut::Memory) => Err(Problem::from(AllocError)),
-        Err(LeftOut::Because(_)) => Err(Problem::List),
-    }
-}
-
-// The paths between separators, but for empty ones and comments; `~/` in front of one stands for a folder.
-fn split(
-    alloc: Global,
-    text: &str,
-    separator: char,
-    home: &str,
-) -> Result<Vec<String>, AllocError> {
-    let mut paths = Vec::new(alloc);
-    for part in text.split(separator) {
-        let part = part.trim();
-        if part.is_empty() || part.starts_with('#') {
-            continue;
-        }
-        match part.strip_prefix("~/") {
-            Some(rest) if !home.is_empty() => paths.push(format!(in alloc; "{home}/{rest}")?)?,
-            // A list names files alone.
-            _ if part == INPUT => paths.push(String::from_str(alloc, "./-")?)?,
-            _ => paths.push(String::from_str(alloc, part)?)?,
+        Some(value) => push_listed(rt.alloc(), &mut paths, value.as_str(), ':', "")?,
+        None => {
+            let list = read_list(rt)?;
+            push_listed(
+                rt.alloc(),
+                &mut paths,
+                list.text.as_str(),
+                '\n',
+                list.home.as_str(),
+            )?;
         }
     }
     Ok(paths)
@@ -229,7 +166,7 @@ fn load_file<R: AllocGlobal + Files + Input + Eprint, S: FileSink>(
     reading: &Reading<'_>,
     missing: &mut Missing,
 ) -> Result<(), AllocError> {
-    let path = path_of(rt, name)?;
+    let path = real_path_of(rt, name)?;
     if set.has_path(path.as_str()) {
         return Ok(());
     }
@@ -248,7 +185,7 @@ fn load_file<R: AllocGlobal + Files + Input + Eprint, S: FileSink>(
 }
 
 // The path by which a file is told from others; no file's is that of standard input.
-fn path_of<R: AllocGlobal + Files>(rt: &R, name: &str) -> Result<String, AllocError> {
+fn real_path_of<R: AllocGlobal + Files>(rt: &R, name: &str) -> Result<String, AllocError> {
     if name == INPUT {
         return String::from_str(rt.alloc(), INPUT);
     }

@@ -1,12 +1,49 @@
 //! What a command that changes a file asks for.
 
+use crate::adding::WishedHeading;
 use crate::options::form;
 use crate::problem::Problem;
 use crate::show::Form;
 use clap::ArgMatches;
-use org_act::KeywordChoice;
+use org_act::{ClockStep, KeywordChoice};
+use org_amend::TypedDate;
 use org_cal::Moment;
+use org_stamp::PlanningKeyword;
 use std::alloc::{AllocError, Global};
+
+/// What is to be done to a heading.
+#[derive(Debug, Drop)]
+pub enum WishedAct {
+    /// It gets a keyword.
+    Keyword(WishedKeyword),
+    /// It gets a date under a planning keyword, or loses the stamps there.
+    Planning(PlanningKeyword, Option<TypedDate>),
+    /// It is written anew.
+    Addition(WishedHeading),
+    /// Its clock is changed.
+    Clock(ClockStep),
+}
+
+impl WishedAct {
+    /// The word of the keyword, if one is named.
+    pub fn word(&self) -> &str {
+        match self {
+            WishedAct::Keyword(keyword) => keyword.word(),
+            WishedAct::Planning(..) | WishedAct::Clock(_) => "",
+            WishedAct::Addition(heading) => heading.keyword_word(),
+        }
+    }
+
+    /// An equal one.
+    pub fn copy(&self, alloc: Global) -> Result<WishedAct, AllocError> {
+        match self {
+            WishedAct::Keyword(keyword) => Ok(WishedAct::Keyword(keyword.copy(alloc)?)),
+            WishedAct::Planning(keyword, date) => Ok(WishedAct::Planning(*keyword, *date)),
+            WishedAct::Addition(heading) => Ok(WishedAct::Addition(heading.copy(alloc)?)),
+            WishedAct::Clock(step) => Ok(WishedAct::Clock(*step)),
+        }
+    }
+}
 
 /// The keyword that a heading gets.
 #[derive(Debug, Drop)]
@@ -63,7 +100,7 @@ pub struct Look {
 /// What is asked of a heading.
 #[derive(Debug, Drop)]
 pub struct Wish {
-    pub keyword: WishedKeyword,
+    pub act: WishedAct,
     /// When it is done.
     pub moment: Moment,
     /// The keywords of files that have none of their own.
@@ -73,25 +110,26 @@ pub struct Wish {
     pub look: Look,
 }
 
-/// What the arguments ask for, by the words of the command and the keyword that they name.
+/// What the arguments ask for, by the words of the command and the act that they name.
 pub fn read_wish(
     alloc: Global,
     matches: &ArgMatches<'_>,
     own: &ArgMatches<'_>,
-    keyword: WishedKeyword,
+    act: WishedAct,
     moment: Moment,
 ) -> Result<Wish, Problem> {
     let keywords = match matches.get_str("keywords") {
         Some(words) => Some(String::from_str(alloc, words)?),
         None => None,
     };
+    let is_keyword = matches!(act, WishedAct::Keyword(_));
     Ok(Wish {
-        keyword,
+        act,
         moment,
         keywords,
         is_dry: own.get_flag("dry-run"),
         look: Look {
-            has_place: has_place(matches)?,
+            has_place: has_place(matches, is_keyword)?,
             is_quiet: matches.get_flag("quiet"),
             is_seen: false,
         },
@@ -99,7 +137,7 @@ pub fn read_wish(
 }
 
 // Whether a place stands in front of each line; the lines are no rows.
-fn has_place(matches: &ArgMatches<'_>) -> Result<bool, Problem> {
+fn has_place(matches: &ArgMatches<'_>, is_keyword: bool) -> Result<bool, Problem> {
     if matches.get_one::<u32>("days").is_some() {
         return Err(Problem::DaysOf);
     }
@@ -109,7 +147,8 @@ fn has_place(matches: &ArgMatches<'_>) -> Result<bool, Problem> {
     match form(matches)? {
         Form::Plain => Ok(false),
         Form::Places => Ok(true),
-        Form::Json | Form::Csv | Form::Template(_) => Err(Problem::ActForm),
+        Form::Json | Form::Csv | Form::Template(_) if is_keyword => Err(Problem::ActForm),
+        Form::Json | Form::Csv | Form::Template(_) => Err(Problem::LineForm),
     }
 }
 

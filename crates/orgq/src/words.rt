@@ -1,6 +1,11 @@
 //! The keywords and the tags of files, a word a line.
+ghost use Rattle.std.specs.Prelude.{◌≡◌};
+ghost use Rattle.org_base.specs.Results.{Adds, Gives, GivesItems};
+ghost use Rattle.org_client.specs.Files.{scopes_of};
+ghost use Rattle.orgq.specs.Words.{AddsOnce, file_words, headings_tags, keyword_words, shown_word, tags_under, word_line, word_lines, words_of};
 
 use crate::exit::status_of;
+use crate::once_words::OnceWords;
 use crate::options::named_form;
 use crate::out::print_all;
 use crate::problem::Problem;
@@ -10,11 +15,10 @@ use clap::ArgMatches;
 use org_base::{Fault, Texts};
 use org_client::{Escape, FileSet, OneLine, push_visible};
 use org_inherit::{Heading, Inherit, Inherits};
+use org_settings::Settings;
 use org_text::Whole;
 use std::alloc::{AllocError, Global};
-use std::collections::BTreeSet;
 use std::rt::{Env, Files};
-use std::str;
 
 /// Which words of files are listed.
 #[derive(Clone, Copy, Debug, PartialEq, Eq)]
@@ -44,86 +48,62 @@ pub fn print_words<R: AllocGlobal + Files + Env + Input + Print + Eprint + Clone
 }
 
 // The words of files in the order in which they come, each once.
-fn words_of(alloc: Global, file_set: &FileSet<Whole>, kind: WordKind) -> Result<Texts, Fault> {
+fn words_of(alloc: Global, file_set: &FileSet<Whole>, kind: WordKind) -> Result<Texts, Fault>
+    ensures value { Gives result (words_of kind (scopes_of file_set.now)) }
+{
     let inherits = file_set.inherits()?;
-    let mut words = Texts::new(alloc);
-    gather_words(alloc, &mut words, &inherits, kind)?;
-    Ok(words)
+    once_words(alloc, &inherits, kind)
 }
 
-fn gather_words(
-    alloc: Global,
-    words: &mut Texts,
-    inherits: &Inherits<'_>,
-    kind: WordKind,
-) -> Result<(), Fault> {
-    let mut known = BTreeSet::new(alloc);
+fn once_words(alloc: Global, inherits: &Inherits<'_>, kind: WordKind) -> Result<Texts, Fault>
+    ensures value { Gives result (words_of kind inherits.now) }
+{
+    let mut words = OnceWords::new(alloc);
     for file in 0..inherits.count() {
-        match kind {
-            WordKind::Keywords => push_keywords(alloc, words, &mut known, inherits.get(file))?,
-            WordKind::Tags => push_tags(alloc, words, &mut known, inherits.get(file))?,
-        }
+        push_file(&mut words, inherits.get(file), kind)?;
     }
-    Ok(())
+    Ok(words.into_texts())
 }
 
-fn push_keywords(
-    alloc: Global,
-    words: &mut Texts,
-    known: &mut BTreeSet<String>,
-    inherit: &Inherit<'_>,
-) -> Result<(), Fault> {
-    let settings = inherit.settings();
+#[tactic(auto, using(crate::proofs::WordLemmas::adds_both))]
+fn push_file(words: &mut OnceWords, inherit: &Inherit<'_>, kind: WordKind) -> Result<(), Fault>
+    ensures ok { AddsOnce result words.old words.new (file_words kind inherit.now) }
+{
+    match kind {
+        WordKind::Keywords => push_keywords(words, inherit.settings()),
+        WordKind::Tags => {
+            words.add_all(inherit.settings().file_tags())?;
+            push_tags(words, inherit)
+        }
+    }
+}
+
+fn push_keywords(words: &mut OnceWords, settings: &Settings) -> Result<(), Fault>
+    ensures ok { AddsOnce result words.old words.new (keyword_words settings.now) }
+{
     for place in 0..settings.keyword_count() {
-        push_word(alloc, words, known, settings.keyword_word(place))?;
+        words.add(settings.keyword_word(place))?;
     }
     Ok(())
 }
 
-// The tags that hold for all of a file, and those of its headings.
-fn push_tags(
-    alloc: Global,
-    words: &mut Texts,
-    known: &mut BTreeSet<String>,
-    inherit: &Inherit<'_>,
-) -> Result<(), Fault> {
-    push_texts(alloc, words, known, inherit.settings().file_tags())?;
+// The tags of a file's headings.
+fn push_tags(words: &mut OnceWords, inherit: &Inherit<'_>) -> Result<(), Fault>
+    ensures ok { AddsOnce result words.old words.new (headings_tags inherit.now) }
+{
     for place in 0..inherit.outline().count() {
-        if let Some(heading) = Heading::at(inherit, 0, place) {
-            let tags = heading.tags()?;
-            push_texts(alloc, words, known, &tags)?;
-        }
+        push_heading(words, inherit, place)?;
     }
     Ok(())
 }
 
-fn push_texts(
-    alloc: Global,
-    words: &mut Texts,
-    known: &mut BTreeSet<String>,
-    texts: &Texts,
-) -> Result<(), Fault> {
-    for place in 0..texts.count() {
-        push_word(alloc, words, known, texts.get(place))?;
+fn push_heading(words: &mut OnceWords, inherit: &Inherit<'_>, place: usize) -> Result<(), Fault>
+    ensures ok { AddsOnce result words.old words.new (tags_under inherit.now place) }
+{
+    match Heading::at(inherit, 0, place) {
+        Some(heading) => words.add_all(&heading.tags()?),
+        None => Ok(()),
     }
-    Ok(())
-}
-
-// Puts a word after others, unless it is known.
-fn push_word(
-    alloc: Global,
-    words: &mut Texts,
-    known: &mut BTreeSet<String>,
-    word: &[u8],
-) -> Result<(), Fault> {
-    let Ok(text) = str::from_utf8(word) else {
-        return Ok(());
-    };
-    if known.contains(text) {
-        return Ok(());
-    }
-    known.insert(String::from_str(alloc, text)?)?;
-    words.push(word)
 }
 
 // A line for each word, in a form.
@@ -132,7 +112,9 @@ fn word_lines(
     words: &Texts,
     form: Form<'_>,
     is_seen: bool,
-) -> Result<Vec<u8>, AllocError> {
+) -> Result<Vec<u8>, AllocError>
+    ensures value { GivesItems result (word_lines form.entry is_seen words.now) }
+{
     let mut lines = Vec::new(alloc);
     for place in 0..words.count() {
         push_line(alloc, &mut lines, words.get(place), form, is_seen)?;
@@ -140,29 +122,44 @@ fn word_lines(
     Ok(lines)
 }
 
+// Appends the line of a word.
 fn push_line(
     alloc: Global,
     lines: &mut Vec<u8>,
     word: &[u8],
     form: Form<'_>,
     is_seen: bool,
-) -> Result<(), AllocError> {
+) -> Result<(), AllocError>
+    ensures value { Adds result lines.old lines.new (word_line form.entry is_seen word.now) }
+{
+    push_shown(alloc, lines, word, form, is_seen)?;
+    lines.push(b'\n')?;
+    Ok(())
+}
+
+fn push_shown(
+    alloc: Global,
+    lines: &mut Vec<u8>,
+    word: &[u8],
+    form: Form<'_>,
+    is_seen: bool,
+) -> Result<(), AllocError>
+    ensures value { Adds result lines.old lines.new (shown_word form.entry is_seen word.now) }
+{
     match form {
         Form::Json => {
             let mut line = OneLine::new(alloc);
             line.push_quoted(word)?;
-            lines.extend_from_slice(line.as_slice())?;
+            lines.extend_from_slice(line.as_slice())
         }
         Form::Csv => {
             let mut line = OneLine::new(alloc);
             line.field(word)?;
-            lines.extend_from_slice(line.as_slice())?;
+            lines.extend_from_slice(line.as_slice())
         }
         Form::Plain | Form::Places | Form::Template(_) if is_seen => {
-            push_visible(lines, word, Escape::Caret)?
+            push_visible(lines, word, Escape::Caret)
         }
-        Form::Plain | Form::Places | Form::Template(_) => lines.extend_from_slice(word)?,
+        Form::Plain | Form::Places | Form::Template(_) => lines.extend_from_slice(word),
     }
-    lines.push(b'\n')?;
-    Ok(())
 }

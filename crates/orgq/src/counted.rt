@@ -1,0 +1,102 @@
+//! A run with the settings of the file `config`.
+
+use crate::arguments::command;
+use crate::config::{Config, Unread, no_config, read_config};
+use crate::environment::{Variable, value_of};
+use crate::exit::BAD_ARGUMENTS;
+use crate::joined::joined_values;
+use crate::problem::{Problem, report_problem};
+use crate::say::{out_of_memory, say_of};
+use crate::session::run;
+use crate::setting::{NamedChoices, words_with};
+use crate::shown_config::show_config;
+use crate::usage::parser_said;
+use clap::ArgMatches;
+use std::fs::File;
+use std::rt::{Env, Files};
+use std::time::Clock;
+
+/// Answers what the arguments ask for with the settings of the file that count, and gives the exit status.
+pub fn run_with_config<
+    R: AllocGlobal + Files<File = File> + Env + Clock + Input + Print + Eprint + Clone + Drop,
+>(rt: &R, words: &[String], matches: &ArgMatches<'_>, on_terminal: bool) -> u8 {
+    let config = if matches.get_flag("no-config") {
+        Ok(no_config(rt.alloc()))
+    } else {
+        read_config(rt)
+    };
+    let counted = match config {
+        Ok(config) => with_settings(rt, words, matches, &config, on_terminal),
+        Err(unread) => Err(unread),
+    };
+    match counted {
+        Ok(status) => status,
+        Err(unread) => report_unread(rt, &unread),
+    }
+}
+
+fn with_settings<
+    R: AllocGlobal + Files<File = File> + Env + Clock + Input + Print + Eprint + Clone + Drop,
+>(
+    rt: &R,
+    words: &[String],
+    matches: &ArgMatches<'_>,
+    config: &Config,
+    on_terminal: bool,
+) -> Result<u8, Unread> {
+    let named = named_choices(rt, matches)?;
+    if let Some(("config", _)) = matches.subcommand() {
+        return Ok(show_config(rt, matches, config, &named)?);
+    }
+    if config.settings.is_empty() {
+        return Ok(run(rt, matches, on_terminal));
+    }
+    let all = words_with(rt.alloc(), words, config.settings.as_slice(), &named)?;
+    let all = joined_values(rt.alloc(), all.as_slice())?;
+    match command(rt.alloc())?.try_get_matches_from(all.as_slice()) {
+        Ok(matches) => Ok(run(rt, &matches, on_terminal)),
+        Err(error) => Ok(parser_said(rt, all.as_slice(), &error)),
+    }
+}
+
+// Which options are named by the command line, or by the environment, which names files.
+fn named_choices<R: AllocGlobal + Env>(
+    rt: &R,
+    matches: &ArgMatches<'_>,
+) -> Result<NamedChoices, Problem> {
+    Ok(NamedChoices {
+        color: matches.get_str("color").is_some(),
+        file: names_file(matches) || value_of(rt, Variable::Files)?.is_some(),
+        inherit: matches.get_strs("inherit").is_some(),
+        keywords: matches.get_str("keywords").is_some(),
+        profile: matches.get_one::<u32>("profile").is_some(),
+    })
+}
+
+/// Whether the command line names a file, by an option or by a word.
+pub fn names_file(matches: &ArgMatches<'_>) -> bool {
+    match matches.subcommand() {
+        Some(("follow", own)) => names_own_file(matches) || names_own_file(own),
+        _ => names_own_file(matches),
+    }
+}
+
+// The same of the words of one command.
+fn names_own_file(matches: &ArgMatches<'_>) -> bool {
+    matches.get_strs("file").is_some()
+        || matches.get_strs("PATH").is_some()
+        || match matches.subcommand() {
+            Some(("check", own)) => own.get_strs("FILE").is_some(),
+            _ => false,
+        }
+}
+
+fn report_unread<R: AllocGlobal + Eprint>(rt: &R, unread: &Unread) -> u8 {
+    match unread {
+        Unread::Problem(problem) => report_problem(rt, *problem, ""),
+        Unread::Line(place, why) => {
+            say_of(rt, place.as_str(), why);
+            BAD_ARGUMENTS
+        }
+    }
+}
