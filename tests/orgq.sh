@@ -9,8 +9,8 @@
 # NAME.terminal is there the program is run on a terminal, by `script`, and what it writes to either stands in NAME.stdout.
 # Objects are read back by python3 where there is one, and held against docs/orgq-rows.schema.json. Then each control character in all that a file, a name and an argument
 # hold: none is written in any form but into a pipe, as in the file. Each refused growth of memory gives the answer all the
-# same or status 4. Each option of --help has to stand in each completion file; what completes and orgq-notify are run. The
-# last line counts.
+# same or status 4. Each option of --help has to be offered by bash; what completes and orgq-notify are run. The last line
+# counts.
 here=$(cd "$(dirname "$0")" && pwd)
 passed=0
 failed=0
@@ -216,7 +216,7 @@ for expected in "$here"/orgq/*.stdout; do
         fi
     done < "$room/out"
     case $name in
-        check-* | keywords-* | tags-* | done-* | set-*) ;;
+        check-* | keywords-* | tags-* | done-* | set-* | config-* | ical-*) ;;
         *) follow_schema "$name" ;;
     esac
 done
@@ -307,6 +307,10 @@ while [ "$number" -lt 160 ]; do
                 is_clean "$room/err" "" || fail "control character $number stands in what $form $view says"
             done
         done
+        "$orgq" --at "2024-02-28 10:30" -f "$number.org" -f "n${of}n.org" ical > "$room/out" 2> "$room/err"
+        [ $? -eq 3 ] && [ -s "$room/out" ] || fail "control character $number, ical: $(cat "$room/err")"
+        LC_ALL=C sed 's/\r$//' "$room/out" > "$room/lines"
+        is_clean "$room/lines" "" || fail "control character $number stands in ical"
         printf '* K%s k :v%s:\n\nDEADLINE: <2024-02-30%s>\n=<2024-02-31 %s>=\n' "$of" "$of" "$of" "$of" > "found$number.org"
         for form in "" --json --color=always; do
             # shellcheck disable=SC2086
@@ -355,6 +359,7 @@ if shim=$(sh "$here/faults/build.sh" "$room" 2> /dev/null); then
     refuse_memory -f home.org -f work.org todo
     refuse_memory -f home.org -f work.org calendar week --columns 100
     refuse_memory -f home.org -f work.org agenda --grid
+    refuse_memory -f home.org -f work.org ical
     refuse_memory --keywords "TODO | DONE" check --all ../../check/kinds.org ../../check/other.org
 else
     echo "orgq: refused growths of memory are left out: the shim of tests/faults can't be built here"
@@ -411,28 +416,29 @@ notify 10 --at "2024-02-28 10:30" -f "$room/fails.org" -f "$room/soon.org"
 # What bash completes: names with spaces, folders, and no command of a word that is an option's value.
 if command -v bash > /dev/null 2>&1; then
     completed() {
-        bash -c '. "$0"; shift; COMP_WORDS=("$@"); COMP_CWORD=$(($# - 1)); _orgq; printf "%s\n" "${COMPREPLY[@]}"' \
+        PATH=$room/bin:$PATH bash -c '. "$0"; shift; COMP_WORDS=("$@"); COMP_CWORD=$(($# - 1)); _orgq; printf "%s\n" "${COMPREPLY[@]}"' \
             "$here/../contrib/completions/orgq.bash" "" "$@"
     }
     [ "$(completed orgq -f my)" = "my notes.org" ] && passed=$((passed + 1)) || fail "bash completes a name with a space: $(completed orgq -f my)"
     [ "$(completed orgq my)" = "my notes.org" ] && passed=$((passed + 1)) || fail "bash completes a bare name: $(completed orgq my)"
     [ "$(completed orgq keyw)" = "keywords" ] && passed=$((passed + 1)) || fail "bash completes a folder: $(completed orgq keyw)"
-    kind=$(PATH=$room/bin:$PATH; completed orgq check --only no-such-date,stray-pl)
+    kind=$(completed orgq check --only no-such-date,stray-pl)
     [ "$kind" = "no-such-date,stray-planning" ] && passed=$((passed + 1)) || fail "bash completes a list of kinds: $kind"
     [ "$(completed orgq --keywords todo ag)" = "agenda" ] && passed=$((passed + 1)) || fail "bash takes an option's value for a command: $(completed orgq --keywords todo ag)"
+    # Each option of --help is offered behind its command; tests/completions.sh asks all three shells for everything.
+    for command in "" $("$orgq" --help | awk '/^Commands:/ { on = 1; next } /^$/ { on = 0 } on && $1 != "help" { print $1 }'); do
+        completed orgq $command - > "$room/offered"
+        for option in $("$orgq" $command --help | sed -n 's/^ *\(-[a-zA-Z], \)*\(--[a-z-]*\).*/\2/p'); do
+            grep -q -x -e "$option" "$room/offered" && passed=$((passed + 1)) || fail "bash doesn't offer $option behind orgq $command"
+        done
+    done
 fi
 
-# Each option of --help stands in each completion file.
-for command in "" agenda calendar todo match clock clocks next keywords tags check follow done set; do
-    "$orgq" $command --help | grep -o -e '--[a-z]*' | sort -u
-done | sort -u > "$room/options"
-for file in "$here"/../contrib/completions/orgq.bash "$here"/../contrib/completions/_orgq "$here"/../contrib/completions/orgq.fish; do
-    for option in $(cat "$room/options"); do
-        word=$option
-        case $file in *.fish) word="-l ${option#--}" ;; esac
-        grep -q -e "$word" "$file" && passed=$((passed + 1)) || fail "$file lacks $option"
-    done
-done
+# What is said of the version: that of VERSION, with the kit.
+said=$("$orgq" --version 2> "$room/err")
+[ $? -eq 0 ] && [ "$(printf '%s\n' "$said" | head -n 1)" = "orgq $(cat "$here/../VERSION")" ] && [ ! -s "$room/err" ] && passed=$((passed + 1)) || fail "orgq --version: $said $(cat "$room/err")"
+said=$("$orgviews" --version 2>&1 > "$room/out")
+[ $? -eq 2 ] && [ "$(printf '%s\n' "$said" | head -n 1)" = "orgviews $(cat "$here/../VERSION")" ] && [ ! -s "$room/out" ] && passed=$((passed + 1)) || fail "orgviews --version: $said"
 
 echo "orgq: $passed passed, $failed failed"
 [ "$failed" -eq 0 ] && [ "$passed" -gt 0 ]

@@ -4,8 +4,8 @@
 # string, as the first keeps it in pieces. NAME is standard input, or NAME.make a script that writes it where it is long;
 # NAME.args the arguments, one a line, NAME.files a script that writes files into the folder that the program is then run in,
 # NAME.stdout what has to be written, NAME.status the exit status (0 where there is no such file), NAME.stderr what has to
-# stand on standard error (anything where there is no such file). All run with a stack of 512 KiB, which is enough as the
-# manual says. Says which differ; the last line counts.
+# stand on standard error (anything where there is no such file). All run with a stack of 512 KiB, which is enough as
+# docs/stream.md says. Says which differ; the last line counts.
 ulimit -s 512 || exit 2
 program=$(cd "$(dirname "$1")" && pwd)/$(basename "$1")
 if [ ! -x "$program" ]; then

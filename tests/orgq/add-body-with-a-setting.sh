@@ -1,0 +1,3 @@
+printf '* a\n' > a.org
+printf '#+TODO: X\n' > body
+exec < body

@@ -1,0 +1,1 @@
+printf '* a\r\n' > a.org

@@ -1,0 +1,3 @@
+printf '* a\n' > a.org
+printf 'Text,\nand more' > body
+exec < body

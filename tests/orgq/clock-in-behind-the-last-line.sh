@@ -1,0 +1,1 @@
+printf '* One' > a.org

@@ -1,0 +1,1 @@
+printf '* One\r\nbody\r\n' > a.org

@@ -1,0 +1,1 @@
+printf '* One\n* TODO Two\n  body\n' > a.org

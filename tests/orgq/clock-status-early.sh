@@ -1,0 +1,1 @@
+printf '* One\nCLOCK: [2024-02-28 Wed 11:00]\n' > a.org

@@ -1,0 +1,2 @@
+export XDG_CONFIG_HOME=conf
+mkdir -p conf/orgq/config

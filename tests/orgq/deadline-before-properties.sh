@@ -1,0 +1,1 @@
+printf '* a\n:PROPERTIES:\n:x: y\n:END:\n' > a.org

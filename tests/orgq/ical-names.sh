@@ -1,0 +1,30 @@
+mkdir notes
+cat > notes/names.org <<'TEXT'
+#+TODO: TODO | DONE CANCELLED
+#+FILETAGS: :file:
+* Walk <2024-02-28 Wed 07:00>
+* Walk <2024-02-28 Wed 07:00>
+* Meeting :team:
+:PROPERTIES:
+:ID: 6f1c
+:END:
+<2024-02-28 Wed 09:00-09:30> <2024-02-28 Wed 14:00>
+** DONE [#B] Slides
+DEADLINE: <2024-02-28 Wed>
+* CANCELLED Lunch
+:PROPERTIES:
+:ID:
+:END:
+SCHEDULED: <2024-02-28 Wed 12:00>
+* TODO [#B] Tax
+DEADLINE: <2024-02-28 Wed 23:00-01:00>
+:PROPERTIES:
+:ID: 6f1c
+:END:
+* Party
+DEADLINE: <2024-05-31 Fri>
+* TODO [#D] Later
+DEADLINE: <2024-04-30 Tue 18:00>
+* COMMENT Hidden <2024-02-28 Wed>
+DEADLINE: <2024-02-28 Wed>
+TEXT

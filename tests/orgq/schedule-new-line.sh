@@ -1,0 +1,1 @@
+printf '* TODO a\nb\n' > a.org
