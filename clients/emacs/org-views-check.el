@@ -9,6 +9,9 @@
 ;; The buffer is checked as it stands, saved or not.  In your init file:
 ;;
 ;;   (add-hook 'org-mode-hook #'org-views-check-setup)
+;;
+;; `org-views-write-config' lets `orgq' ask your agenda files and take your
+;; keywords wherever it is run.
 
 ;;; Code:
 
@@ -19,6 +22,10 @@
 (require 'subr-x)
 (require 'org-views-engine)
 (require 'org-views-files)
+
+(defvar org-agenda-files)
+(defvar org-directory)
+(declare-function org-read-agenda-file-list "org" (&optional pair-with-expansion))
 
 (defcustom org-views-check-program '("orgq")
   "The program that checks Org buffers, and arguments for all its commands."
@@ -128,6 +135,52 @@ For `org-mode-hook'; \\[flymake-mode] shows nothing any more."
   (interactive)
   (add-hook 'flymake-diagnostic-functions #'org-views-check-flymake nil t)
   (flymake-mode 1))
+
+;;;; Settings
+
+(defun org-views-check--config ()
+  "The file of settings of `orgq'."
+  (let ((folder (getenv "XDG_CONFIG_HOME")))
+    (expand-file-name "orgq/config"
+                      (if (member folder '(nil "")) "~/.config" folder))))
+
+(defun org-views-check--file-lines ()
+  "A setting for each of `org-agenda-files', which may be a folder.
+A path that no line can hold is left out."
+  (require 'org)
+  (mapcan (lambda (path)
+            (let ((path (abbreviate-file-name (expand-file-name path org-directory))))
+              (if (string-match-p "[\n\r\0]\\|[ \t]\\'" path)
+                  (progn (message "No line of settings can hold %S" path) nil)
+                (list (concat "file " path)))))
+          (if (stringp org-agenda-files) (org-read-agenda-file-list)
+            (copy-sequence org-agenda-files))))
+
+;;;###autoload
+(defun org-views-write-config ()
+  "Write your agenda files and keywords into the settings of `orgq'.
+The lines that name files or keywords are replaced, all others stay; what
+the file said before is kept beside it, under its name and a tilde."
+  (interactive)
+  (let ((config (org-views-check--config))
+        (files (org-views-check--file-lines))
+        (keywords (with-temp-buffer (org-views-check--keywords)))
+        (coding-system-for-read 'utf-8-unix)
+        (coding-system-for-write 'utf-8-unix))
+    (with-temp-buffer
+      (when (file-exists-p config)
+        (copy-file config (concat config "~") t)
+        (insert-file-contents config))
+      (goto-char (point-min))
+      (flush-lines "^[ \t]*\\(?:file\\|keywords\\)[ \t]")
+      (goto-char (point-max))
+      (unless (bolp) (insert "\n"))
+      (dolist (line (append files (list (concat "keywords " keywords))))
+        (insert line "\n"))
+      (make-directory (file-name-directory config) t)
+      (write-region nil nil config nil 'silent))
+    (message "Wrote %d files and the keywords into %s" (length files)
+             (abbreviate-file-name config))))
 
 (provide 'org-views-check)
 

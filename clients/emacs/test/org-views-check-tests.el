@@ -147,6 +147,51 @@
         (while (not (flymake-diagnostics)) (accept-process-output nil 0.1)))
       (should (equal (mapcar #'flymake-diagnostic-beg (flymake-diagnostics)) '(10))))))
 
+(defmacro org-views-check-tests-config (files keywords &rest body)
+  "Do BODY in a folder of settings, with agenda FILES and KEYWORDS.
+There `config' is the path of the settings."
+  (declare (indent 2) (debug t))
+  `(let* ((folder (file-name-as-directory (make-temp-file "orgq" t)))
+          (config (concat folder "orgq/config"))
+          (process-environment (cons (concat "XDG_CONFIG_HOME=" (directory-file-name folder))
+                                    process-environment))
+          (org-directory folder)
+          (org-agenda-files ,files)
+          (org-todo-keywords ,keywords))
+     (unwind-protect (progn ,@body)
+       (delete-directory folder t))))
+
+(defun org-views-check-tests-text (path)
+  "The text of the file at PATH."
+  (with-temp-buffer
+    (insert-file-contents path)
+    (buffer-string)))
+
+(ert-deftest org-views-check-writes-settings ()
+  (org-views-check-tests-config '("/org/work.org" "/org/b\u00e4r") '((sequence "TODO" "NEXT(n)" "|" "DONE(d!)"))
+    (org-views-write-config)
+    (should (equal (org-views-check-tests-text config)
+                   "file /org/work.org\nfile /org/b\u00e4r\nkeywords TODO NEXT | DONE\n"))))
+
+(ert-deftest org-views-check-keeps-other-settings ()
+  (org-views-check-tests-config '("/org/work.org") '((sequence "TODO" "DONE"))
+    (make-directory (concat folder "orgq"))
+    (write-region "# mine\nfile /old.org\ncolor never\n keywords A | B\nfilex" nil config nil 'silent)
+    (org-views-write-config)
+    (should (equal (org-views-check-tests-text config)
+                   "# mine\ncolor never\nfilex\nfile /org/work.org\nkeywords TODO | DONE\n"))))
+
+(ert-deftest org-views-check-settings-count ()
+  (org-views-check-tests-config '("/org/work.org" "/org/with a space.org") '((sequence "TODO" "DONE"))
+    (org-views-write-config)
+    (with-temp-buffer
+      (should (equal (apply #'call-process (car org-views-check-program) nil t nil
+                            (append (cdr org-views-check-program) '("config")))
+                     0))
+      (should (equal (buffer-string)
+                     (format "%s:1: file /org/work.org\n%s:2: file /org/with a space.org\n%s:3: keywords TODO | DONE\n"
+                             config config config))))))
+
 (provide 'org-views-check-tests)
 
 ;;; org-views-check-tests.el ends here
