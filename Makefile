@@ -10,7 +10,8 @@ PREFIX ?= /usr/local
 NEEDS_RT = $(if $(shell command -v rt),,$(error there is no `rt`: building wants Rattle's kit, with its folder bin in PATH; what is \
 built already is an archive or a package, see Install in README.md))
 
-.PHONY: run try build check changed test rows orgq-test reading faults emacs-test vim-test bench collide install deb clean
+.PHONY: run try build check changed test rows orgq-test reading faults emacs-test vim-test ical-test bench collide install deb clean
+.PHONY: completions-test agenda-test acts-test
 
 # Builds the program where it isn't fresh, and runs the first example.
 run: $(PROGRAM)
@@ -80,6 +81,24 @@ emacs-test: $(PROGRAM) $(ORGQ)
 vim-test: $(PROGRAM) $(ORGQ)
 	@sh tests/vim.sh $(ORGQ) $(PROGRAM)
 
+# The completions of bash, zsh and fish, each run in its shell, beside what --help lists; a shell that isn't installed is left
+# out. No part of the gate.
+completions-test: $(ORGQ)
+	@sh tests/completions.sh $(ORGQ)
+
+# `orgq` beside a real Emacs: agendas as fields, and files after the same acts; left out where Emacs isn't installed. No part of
+# the gate.
+agenda-test: $(ORGQ)
+	@sh tests/agenda-csv.sh $(ORGQ)
+
+acts-test: $(ORGQ)
+	@sh tests/acts.sh $(ORGQ)
+
+# Calendars of `orgq` as it was last built, read back by khal and by python3's icalendar; what isn't installed is left out. No part
+# of the gate.
+ical-test: $(ORGQ)
+	@sh tests/ical.sh $(ORGQ)
+
 # What the programs do as they were last built where memory is refused, the stream is cut, reads and writes fail, and a file
 # is replaced on a real disk.
 faults: $(PROGRAM) $(PARTS) $(ORGQ)
@@ -87,6 +106,10 @@ faults: $(PROGRAM) $(PARTS) $(ORGQ)
 	@sh tests/devices.sh $(PROGRAM)
 	@sh tests/saves.sh $(PARTS) append
 	@sh tests/saves.sh $(ORGQ) done
+	@sh tests/saves.sh $(ORGQ) in
+	@sh tests/saves.sh $(ORGQ) out
+	@sh tests/saves.sh $(ORGQ) cancel
+	@sh tests/saves.sh $(ORGQ) add
 
 bench: $(PROGRAM) $(PARTS) $(ORGQ)
 	@sh bench/run.sh $(PROGRAM) $(PARTS) $(ORGQ)

@@ -1,0 +1,65 @@
+#!/bin/sh
+# Does the same acts to the same made files in Emacs and by `orgq`, and compares the files byte for byte: each difference has to
+# be of a kind that has its row in docs/manual.md. The files are made from a seed, some 3,500 acts to 330 of them; all logging of
+# Org is off. An act that this `orgq` hasn't is left out, and that is said. Where Emacs or python3 isn't there all is left out,
+# and the status is 0. The last line counts.
+#     tests/acts.sh ORGQ [SEED [COUNT]]
+here=$(cd "$(dirname "$0")" && pwd)
+emacs=${EMACS:-emacs}
+for needed in "$emacs" python3; do
+    if ! command -v "$needed" > /dev/null 2>&1; then
+        echo "acts: left out, $needed is not installed (on Debian: apt-get install emacs-nox python3)"
+        exit 0
+    fi
+done
+if [ ! -x "$1" ]; then
+    echo "acts: there is no program $1"
+    echo "acts: 0 passed, 1 failed"
+    exit 1
+fi
+orgq=$(cd "$(dirname "$1")" && pwd)/$(basename "$1")
+work=$(mktemp -d) || exit 2
+trap 'rm -rf "$work"' EXIT
+unset ORGQ_FILES NO_COLOR TZ TZDIR
+HOME=$work/home XDG_CONFIG_HOME=$work/home/config LC_ALL=C.UTF-8
+export HOME XDG_CONFIG_HOME LC_ALL
+mkdir -p "$HOME" "$work/orgq"
+python3 "$here/acts/make.py" "${2:-20240228}" "${3:-330}" "$work" || exit 2
+if ! "$emacs" -Q --batch -l "$here/acts/acts.el" "$work" < /dev/null > "$work/said" 2>&1; then
+    tail -5 "$work/said"
+    echo "acts: Emacs ended with an error"
+    echo "acts: 0 passed, 1 failed"
+    exit 1
+fi
+
+# Does an act by `orgq` to a file in the present folder.
+act() {
+    case $3 in
+        in) "$orgq" --at "2024-02-28 10:30" -f "$1" clock in "$1:$2" ;;
+        out | cancel) "$orgq" --at "2024-02-28 10:30" -f "$1" clock "$3" ;;
+        done) "$orgq" --at "2024-02-28 10:30" done "$1:$2" DONE ;;
+        # A date and a time are two words.
+        *) "$orgq" --at "2024-02-28 10:30" "$3" "$1:$2" $4 ;;
+    esac
+}
+
+# Whether this program has an act.
+has() {
+    case $1 in
+        in | out | cancel) "$orgq" clock --help | grep -q "^  $1 " ;;
+        *) "$orgq" --help | grep -q "^  $1 " ;;
+    esac
+}
+
+acts=
+for name in schedule deadline in out cancel done; do
+    if has "$name"; then acts="$acts $name "; else echo "acts: left out, this orgq hasn't $name"; fi
+done
+cd "$work/orgq" || exit 2
+while IFS="$(printf '\t')" read -r case file line name date; do
+    case $acts in *" $name "*) ;; *) continue ;; esac
+    cp "$work/files/$file" "$case.org"
+    act "$case.org" "$line" "$name" "$date" > "$case.said" 2>&1 < /dev/null
+    echo $? > "$case.status"
+done < "$work/acts"
+python3 "$here/acts/compare.py" "$work" "$here/../docs/manual.md"

@@ -1,0 +1,174 @@
+#!/bin/sh
+# Runs the completions of bash, zsh and fish, each in its shell, and compares what they offer with what the program takes: behind
+# a minus the options that `--help` of the same command lists, and no others; as words its commands, days, keywords or tags;
+# behind an option the values that its line of `--help` names. Each day that is offered has to be taken by the program. What is
+# missing and what is too much fails. The man page has a section for each command, with each of its options. A shell that isn't installed is left out, and that is said. The last line counts.
+#     tests/completions.sh ORGQ [SHELL..]
+here=$(cd "$(dirname "$0")" && pwd)
+if [ ! -x "$1" ]; then
+    echo "completions: there is no program $1"
+    echo "completions: 0 passed, 1 failed"
+    exit 1
+fi
+work=$(mktemp -d) || exit 2
+trap 'rm -rf "$work"' EXIT
+mkdir "$work/bin" "$work/empty" "$work/home"
+ln -s "$(cd "$(dirname "$1")" && pwd)/$(basename "$1")" "$work/bin/orgq"
+printf '%s\n' '#+TODO: TODO NEXT | DONE' '* NEXT a :errand:' '* TODO b :home:' > "$work/words.org"
+unset NO_COLOR TZ TZDIR
+PATH=$work/bin:$PATH HOME=$work/home XDG_CONFIG_HOME=$work/home/config XDG_DATA_HOME=$work/home/data ORGQ_FILES=$work/words.org LC_ALL=C
+export PATH HOME XDG_CONFIG_HOME XDG_DATA_HOME ORGQ_FILES LC_ALL
+shift
+shells=$*
+passed=0
+failed=0
+tab=$(printf '\t')
+
+# The options and the commands that the help of a command lists, and the values that it names behind an option.
+options_of() { orgq $1 --help | sed -n 's/^ *\(-[a-zA-Z]\), \(--[a-z-]*\).*/\1 \2/p; s/^ *\(--[a-z-]*\).*/\1/p' | tr '\n' ' '; }
+commands_of() { orgq $1 --help | awk '/^Commands:/ { on = 1; next } /^$/ { on = 0 } on && /^  [a-z]/ { print $1 }' | tr '\n' ' '; }
+values_of() {
+    orgq $1 --help | sed -n "s/^ .*$2 <[^>]*> *//p" | sed -n 's/.*: \(.* or [a-z]*\)$/\1/p; s/.*, \([0-9]* or [0-9]*\)$/\1/p' | sed 's/,//g; s/ or / /'
+}
+
+days="today tomorrow yesterday mon tue wed thu fri sat sun thisweek lastweek nextweek thismonth lastmonth nextmonth thisyear lastyear nextyear"
+
+# A line, and what has to be offered at its end.
+ask() { printf '%s\t%s\n' "$1" "$2" >> "$work/asked"; }
+
+# The words that may stand behind a command: commands below it, else what the program takes there.
+words_of() {
+    below=$(commands_of "$1")
+    case $1 in
+        # What can be helped with: the commands beside it.
+        help | *" help") below=$(commands_of "${1%help}") ;;
+        agenda | clock | clocks | *" agenda" | *" clock" | *" clocks") below="$below $days" ;;
+        calendar | *" calendar") below="$below month week $(taken_by "$1")" ;;
+        todo | *" todo") below="$below $(orgq keywords | tr '\n' ' ')" ;;
+    esac
+    echo "$below"
+}
+
+# Of the words for days those that a command takes.
+taken_by() {
+    for day in $days; do
+        orgq --at "2024-02-28 10:30" $1 "$day" > /dev/null 2>&1
+        [ $? -eq 2 ] || printf '%s ' "$day"
+    done
+}
+
+# The second words of commands that change a file: keywords, or days, of which no block is one.
+ask_second() {
+    case $1 in
+        done | set) ask "orgq $1 words.org:2 " "$(orgq keywords | tr '\n' ' ')" ;;
+        schedule | deadline) ask "orgq $1 words.org:2 " "${days%% thisweek*} none" ;;
+    esac
+}
+
+# What stands behind a command on its line, and behind each of its own options with a value that can be known.
+of_all=
+ask_all_of() {
+    ask "orgq ${1:+$1 }" "$(words_of "$1")"
+    case $1 in help | *" help") return ;; esac
+    options=$(options_of "$1")
+    ask "orgq ${1:+$1 }-" "$options"
+    for option in $options; do
+        case " $of_all " in *" $option "*) continue ;; esac
+        case $option in
+            --color | --profile | --step | --severity) ask "orgq ${1:+$1 }$option " "$(values_of "$1" "$option")" ;;
+            --from | --to) ask "orgq ${1:+$1 }$option " "$days" ;;
+            --tag) ask "orgq ${1:+$1 }$option " "$(orgq tags | tr '\n' ' ')" ;;
+            --only | --not) ask "orgq ${1:+$1 }$option " "$(orgq check --only '?' 2>&1 | sed 's/.*there are //; s/,//g')" ;;
+            --at | --days | --limit | --match) ask "orgq ${1:+$1 }$option " "" ;;
+        esac
+    done
+}
+
+: > "$work/asked"
+ask_all_of ""
+of_all=$(options_of "")
+for command in $(commands_of ""); do
+    ask_all_of "$command"
+    ask_second "$command"
+    for below in $(commands_of "$command"); do
+        [ "$command" = help ] || ask_all_of "$command $below"
+    done
+done
+cut -f1 "$work/asked" > "$work/lines"
+count=$(wc -l < "$work/lines")
+for day in $days; do
+    orgq --at "2024-02-28 10:30" agenda "$day" > /dev/null 2>&1
+    [ $? -ne 2 ] && passed=$((passed + 1)) || { failed=$((failed + 1)); echo "completions: orgq agenda $day is refused"; }
+done
+
+# Words one a line, each once.
+listed() { printf '%s\n' $1 | grep . | sort -u; }
+
+# Compares what a shell offers, line by line, with what is listed.
+compare() {
+    number=0
+    while IFS=$tab read -r line wanted; do
+        number=$((number + 1))
+        listed "$wanted" > "$work/wanted"
+        awk -F'\t' -v number="$number" '$1 == number { sub(/ +$/, "", $2); print $2 }' "$work/$1" | grep . | sort -u > "$work/offered"
+        # Where no word is wanted zsh offers options at once; they are compared behind a minus.
+        [ -n "$wanted" ] || { grep -v '^-' "$work/offered" > "$work/words"; mv "$work/words" "$work/offered"; }
+        missing=$(comm -23 "$work/wanted" "$work/offered" | tr '\n' ' ')
+        extra=$(comm -13 "$work/wanted" "$work/offered" | tr '\n' ' ')
+        if [ -z "$missing$extra" ]; then
+            passed=$((passed + 1))
+        else
+            failed=$((failed + 1))
+            echo "completions: $1 at '$line':${missing:+ lacks $missing}${extra:+ has too much $extra}"
+        fi
+    done < "$work/asked"
+}
+
+cd "$work/empty" || exit 2
+for shell in ${shells:-bash zsh fish}; do
+    if ! command -v "$shell" > /dev/null 2>&1; then
+        echo "completions: $shell isn't installed, and is left out"
+        continue
+    fi
+    case $shell in
+        bash) bash "$here/completions/ask.bash" "$here/../contrib/completions/orgq.bash" "$work/lines" ;;
+        zsh) mkdir "$work/inner" && zsh -f "$here/completions/ask.zsh" "$here/../contrib/completions/_orgq" "$work/lines" "$work/inner" ;;
+        fish) fish --no-config "$here/completions/ask.fish" "$here/../contrib/completions/orgq.fish" "$work/lines" ;;
+    esac > "$work/$shell" || { failed=$((failed + 1)); echo "completions: $shell can't be asked"; continue; }
+    compare "$shell"
+done
+echo "completions: $count lines were asked of each shell"
+
+# A section of the man page, from its heading to the next one, without backslashes.
+section() { sed -n "/^\.S[SH] \"*$1\"*\$/,/^\.S[SH] /p" "$here/../docs/orgq.1" | sed '1d; s/\\//g'; }
+
+# The man page has a section for each command, which names each option that the command has of its own.
+describe() {
+    section "$1" > "$work/section"
+    grep -q ROWS "$work/section" && section ROWS >> "$work/section"
+    [ -s "$work/section" ] || { failed=$((failed + 1)); echo "completions: the man page has no section $1"; return; }
+    for option in $(options_of "$1"); do
+        case " $of_every " in *" $option "*) continue ;; esac
+        if grep -q -e "$option\\b" "$work/section"; then
+            passed=$((passed + 1))
+        else
+            failed=$((failed + 1))
+            echo "completions: the man page's section $1 lacks $option"
+        fi
+    done
+}
+
+# Those of all commands stand in a section of their own.
+of_every=$(options_of tags)
+for option in $of_every; do
+    section OPTIONS | grep -q -e "$option\\b" && passed=$((passed + 1)) || { failed=$((failed + 1)); echo "completions: the man page lacks $option"; }
+done
+for command in $(commands_of ""); do
+    [ "$command" = help ] || describe "$command"
+    case $command in follow | help) continue ;; esac
+    for below in $(commands_of "$command"); do
+        describe "$command $below"
+    done
+done
+echo "completions: $passed passed, $failed failed"
+[ "$failed" -eq 0 ] && [ "$passed" -gt 0 ]
