@@ -25,4 +25,4 @@ fi
 (cd "$work/$name" && find . -type f ! -name SHA256SUMS | sed 's,^\./,,' | sort | xargs sha256sum > SHA256SUMS) || exit 1
 tar -C "$work" --format=ustar --sort=name --mtime="@$time" --owner=0 --group=0 --numeric-owner --mode=u=rwX,go=rX \
     -cf "$work/$name.tar" "$name" || exit 1
-xz --best -T1 "$work/$name.tar" && mv "$work/$name.tar.xz" . && sha256sum "$name.tar.xz"
+xz --best --threads=1 "$work/$name.tar" && mv "$work/$name.tar.xz" . && sha256sum "$name.tar.xz"

@@ -1,5 +1,15 @@
 # SPDX-License-Identifier: Apache-2.0 OR MIT
-# Completion of orgq for bash.
+# Completion of orgq for bash. Commands and options are those that the program's own help lists.
+
+# The help of a command, and of it the commands, the arguments, the options, and those options that take a value.
+_orgq_help() { orgq "$@" --help 2> /dev/null; }
+_orgq_commands() { awk '/^Commands:/ { on = 1; next } /^$/ { on = 0 } on && /^  [a-z]/ { print $1 }' <<< "$1"; }
+_orgq_arguments() { awk '/^Arguments:/ { on = 1; next } /^$/ { on = 0 } on && /^  [[<]/ { print $1 (/ none / ? "/none" : "") }' <<< "$1"; }
+_orgq_options() { sed -n 's/^ *\(-[a-zA-Z]\), \(--[a-z-]*\).*/\1 \2/p; s/^ *\(--[a-z-]*\).*/\1/p' <<< "$1"; }
+_orgq_valued() { sed -n 's/^ *\(-[a-zA-Z]\), \(--[a-z-]*\) <.*/\1 \2/p; s/^ *\(--[a-z-]*\) <.*/\1/p' <<< "$1"; }
+
+# The words with which the line of an option ends, as in "auto, always or never".
+_orgq_values() { sed -n "s/^.* $2 <[^>]*>.*: \(.* or [a-z]*\)\$/\1/p; s/^.* $2 <[^>]*>.*, \([0-9]* or [0-9]*\)\$/\1/p" <<< "$1" | sed 's/,//g; s/ or / /'; }
 
 # Completes a list of kinds of findings, with commas between; the program lists all kinds where it refuses one.
 _orgq_kinds() {
@@ -8,51 +18,52 @@ _orgq_kinds() {
     COMPREPLY=($(compgen -P "$front" -W "$(orgq check --only '?' 2>&1 | sed 's/.*there are //; s/,//g')" -- "${1##*,}"))
 }
 
+# Whether a word is among others.
+_orgq_among() { [[ " ${*:2} " == *" $1 "* ]]; }
+
 _orgq() {
     local word=${COMP_WORDS[COMP_CWORD]} before=${COMP_WORDS[COMP_CWORD-1]}
-    local options="--file --name --at --keywords --inherit --profile --places --json --days-too --properties --csv --format --color --quiet --help"
-    local rows="--match --tag --category --limit"
-    local days="today tomorrow yesterday mon tue wed thu fri sat sun thisweek lastweek nextweek thismonth lastmonth nextmonth thisyear lastyear nextyear"
-    local part command="" valued=""
+    local days="today tomorrow yesterday mon tue wed thu fri sat sun"
+    local blocks="thisweek lastweek nextweek thismonth lastmonth nextmonth thisyear lastyear nextyear"
+    local above=() arguments=() part place=0 valued="" words="" help
+    help=$(_orgq_help)
     for part in "${COMP_WORDS[@]:1:COMP_CWORD-1}"; do
         if [ -n "$valued" ]; then
             valued=""
-            continue
+        elif _orgq_among "$part" $(_orgq_valued "$help"); then
+            valued=yes
+        elif [ "$part" != help ] && _orgq_among "$part" $(_orgq_commands "$help"); then
+            above+=("$part") place=0
+            help=$(_orgq_help "${above[@]}")
+        else
+            case $part in -*) ;; *) place=$((place + 1)) ;; esac
         fi
-        case $part in
-            -f|--file|--name|--at|--keywords|--inherit|--profile|--properties|--format|--color|-d|--days|--level|--step|--match|--tag|--category|--limit|--from|--to|--within|--since|--lead|--only|--not|--severity|--columns|--lines|--times) valued=1 ;;
-            follow) ;;
-            agenda|calendar|todo|match|clock|clocks|next|keywords|tags|check|done|set) [ -n "$command" ] || command=$part ;;
-        esac
     done
-    case $before in
-        -f|--file) mapfile -t COMPREPLY < <(compgen -f -- "$word"); return ;;
-        --color) COMPREPLY=($(compgen -W "auto always never" -- "$word")); return ;;
-        --profile) COMPREPLY=($(compgen -W "1 2" -- "$word")); return ;;
-        --severity) COMPREPLY=($(compgen -W "error warning note" -- "$word")); return ;;
-        --only|--not) _orgq_kinds "$word"; return ;;
-        --step) COMPREPLY=($(compgen -W "day week" -- "$word")); return ;;
-        --from|--to) COMPREPLY=($(compgen -W "$days" -- "$word")); return ;;
-        --tag) COMPREPLY=($(compgen -W "$(orgq tags 2> /dev/null)" -- "$word")); return ;;
-        --name|--at|--keywords|--inherit|--properties|--format|--days|--level|--within|--match|--category|--limit|--since|--lead|--columns|--lines|--times|-d) return ;;
+    if [ -n "$valued" ]; then
+        case $before in
+            -f|--file|-o|--output|--under) mapfile -t COMPREPLY < <(compgen -f -- "$word") ;;
+            --only|--not) _orgq_kinds "$word" ;;
+            --from|--to) COMPREPLY=($(compgen -W "$days $blocks" -- "$word")) ;;
+            --scheduled|--deadline) COMPREPLY=($(compgen -W "$days" -- "$word")) ;;
+            --tag) COMPREPLY=($(compgen -W "$(orgq tags 2> /dev/null)" -- "$word")) ;;
+            *) COMPREPLY=($(compgen -W "$(_orgq_values "$help" "$before")" -- "$word")) ;;
+        esac
+        return
+    fi
+    # Options are offered behind a minus alone.
+    case $word in -*) COMPREPLY=($(compgen -W "$(_orgq_options "$help")" -- "$word")); return ;; esac
+    words=$(_orgq_commands "$help")
+    arguments=($(_orgq_arguments "$help"))
+    # The last argument may stand several times.
+    part=${arguments[place]}
+    [ -n "$part" ] || case "${arguments[*]}" in *...) part=${arguments[-1]} ;; esac
+    case $part in
+        *DATE*none) words="$words $days none" ;;
+        *DATE*|*BLOCK*) words="$words $days $blocks" ;;
+        *VIEW*) words="$words month week $days $blocks" ;;
+        *KEYWORD*) words="$words $(orgq keywords 2> /dev/null)" ;;
     esac
-    case $command in
-        agenda) options="$options --days --grid --columns --ascii $rows" ;;
-        calendar) options="$options --columns --lines --ascii --match --tag --category" ;;
-        todo|match) options="$options --limit" ;;
-        clock) options="$options --from --to --level --step --effort --match --chart" ;;
-        clocks) options="$options --from --to" ;;
-        next) options="$options --days --within --since --lead $rows" ;;
-        done|set) options="$options --match --dry-run" ;;
-        check) options="$options --only --not --all --severity" ;;
-        "") options="$options --days --times $rows agenda calendar todo match clock clocks next keywords tags check follow done set" ;;
-    esac
-    case $command in
-        agenda|clock|clocks) [ "${word#-}" != "$word" ] || options=$days ;;
-        calendar) [ "${word#-}" != "$word" ] || options="month week $days" ;;
-        todo) [ "${word#-}" != "$word" ] || options=$(orgq keywords 2> /dev/null) ;;
-    esac
-    COMPREPLY=($(compgen -W "$options" -- "$word"))
+    COMPREPLY=($(compgen -W "$words" -- "$word"))
     [ ${#COMPREPLY[@]} -gt 0 ] || mapfile -t COMPREPLY < <(compgen -f -X '!*.org' -- "$word"; compgen -d -- "$word")
 }
 complete -o filenames -F _orgq orgq

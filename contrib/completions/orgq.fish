@@ -1,63 +1,95 @@
 # SPDX-License-Identifier: Apache-2.0 OR MIT
-# Completion of orgq for fish.
+# Completion of orgq for fish. Commands and options are those that the program's own help lists.
+
+# Of a help text the commands, each with what it does behind a tab.
+function _orgq_commands
+    printf '%s\n' $argv | awk '/^Commands:/ { on = 1; next } /^$/ { on = 0 } on && /^  [a-z]/ { name = $1; sub(/^ *[^ ]* */, ""); print name "\t" $0 }'
+end
+
+# The options, each with what it does; and those that take a value.
+function _orgq_options
+    printf '%s\n' $argv | string replace -rf '^ *(?:(-\w), )?(--[a-z-]+)(?: <[^>]*>)? +(.*)$' '$1 $2\t$3' | while read --local --delimiter \t names does
+        for name in (string split -n ' ' -- $names)
+            printf '%s\t%s\n' $name $does
+        end
+    end
+end
+function _orgq_valued
+    printf '%s\n' $argv | string replace -rf '^ *(?:(-\w), )?(--[a-z-]+) <.*$' '$1 $2' | string split -n ' '
+end
+
+# The words with which the line of an option ends, as in "auto, always or never".
+function _orgq_values
+    set -l does (printf '%s\n' $argv[2..] | string match -re " $argv[1] <")
+    string match -rg '(?:: |, )([a-z0-9, ]+) or ([a-z0-9]+)$' -- (string replace -r '.*: ' ': ' -- $does[1]) | string split -n ', '
+end
+
 # The names of all kinds of findings, as the program lists them where it refuses one.
 function _orgq_kinds
     orgq check --only '?' 2>&1 | string replace -r '.*there are ' '' | string split ', '
 end
-set -l commands agenda calendar todo match clock clocks next keywords tags check done set
-complete -c orgq -n "not __fish_seen_subcommand_from $commands" -a agenda -d 'Today, or some days from a date on'
-complete -c orgq -n "not __fish_seen_subcommand_from $commands" -a calendar -d 'A month or a week as a picture'
-complete -c orgq -n "not __fish_seen_subcommand_from $commands" -a todo -d 'The open entries, or those with one of some keywords'
-complete -c orgq -n "not __fish_seen_subcommand_from $commands" -a match -d 'The entries of which an expression holds'
-complete -c orgq -n "not __fish_seen_subcommand_from $commands" -a clock -d 'A clock table'
-complete -c orgq -n "not __fish_seen_subcommand_from $commands" -a clocks -d 'The clock lines of some days'
-complete -c orgq -n "not __fish_seen_subcommand_from $commands" -a next -d 'What comes next of each stamp'
-complete -c orgq -n "not __fish_seen_subcommand_from $commands" -a keywords -d 'The keywords of the files'
-complete -c orgq -n "not __fish_seen_subcommand_from $commands" -a tags -d 'The tags of the files'
-complete -c orgq -n '__fish_seen_subcommand_from todo' -x -a '(orgq keywords 2> /dev/null)'
-complete -c orgq -n "not __fish_seen_subcommand_from $commands follow" -a follow -d 'The view of a command, anew after each change'
-complete -c orgq -n '__fish_seen_subcommand_from follow' -l times -x -d 'So many views, and no more'
-complete -c orgq -n "not __fish_seen_subcommand_from $commands" -a check -d 'What looks planned and will not show'
-complete -c orgq -n "not __fish_seen_subcommand_from $commands" -a done -d 'A heading of a file is done'
-complete -c orgq -n "not __fish_seen_subcommand_from $commands" -a set -d 'A heading of a file gets a keyword'
-complete -c orgq -n '__fish_seen_subcommand_from done set' -l dry-run -d 'Nothing is written'
-complete -c orgq -s f -l file -r -d 'A file, or a folder with its *.org files'
-complete -c orgq -l name -x -d 'The name of the text on standard input'
-complete -c orgq -l at -x -d 'The moment'
-complete -c orgq -l keywords -x -d 'Keywords of files that have no such line'
-complete -c orgq -l inherit -x -d 'A property whose values headings inherit'
-complete -c orgq -l profile -x -a '1 2' -d 'The profile that agendas follow'
-complete -c orgq -s n -l places -d 'FILE:LINE: in front of each row'
-complete -c orgq -l json -d 'A JSON object a row'
-complete -c orgq -l days-too -d 'With --json an object for each day too'
-complete -c orgq -l properties -x -d 'With --json these properties too'
-complete -c orgq -l format -x -d 'A line a row with members in braces'
-complete -c orgq -l csv -d 'Fields with commas between them, a line a row'
-complete -c orgq -l color -x -a 'auto always never' -d 'Late rows and warnings stand out'
-complete -c orgq -s q -l quiet -d 'Print nothing'
-complete -c orgq -s h -l help -d 'Print help'
-complete -c orgq -n "not __fish_seen_subcommand_from calendar todo match clock clocks keywords tags check done set" -s d -l days -x -d 'How many days'
-set -l days today tomorrow yesterday mon tue wed thu fri sat sun thisweek lastweek nextweek thismonth lastmonth nextmonth thisyear lastyear nextyear
-complete -c orgq -n "not __fish_seen_subcommand_from todo match keywords tags check" -l match -x -d 'Only rows of headings of which the expression holds'
-complete -c orgq -n "not __fish_seen_subcommand_from todo match clock clocks keywords tags check done set" -l tag -x -a '(orgq tags 2> /dev/null)' -d 'Only rows of headings with the tag'
-complete -c orgq -n "not __fish_seen_subcommand_from todo match clock clocks keywords tags check done set" -l category -x -d 'Only rows of headings of that category'
-complete -c orgq -n "not __fish_seen_subcommand_from calendar clock clocks keywords tags check done set" -l limit -x -d 'At most so many rows'
-complete -c orgq -n '__fish_seen_subcommand_from next' -l since -x -d 'What began after that moment'
-complete -c orgq -n '__fish_seen_subcommand_from next' -l lead -x -d 'With --since, so many minutes ahead'
-complete -c orgq -n '__fish_seen_subcommand_from clock clocks' -l from -x -a "$days" -d 'The first day, in place of a block'
-complete -c orgq -n '__fish_seen_subcommand_from clock clocks' -l to -x -a "$days" -d 'The last day'
-complete -c orgq -n '__fish_seen_subcommand_from agenda clock clocks calendar' -x -a "$days"
-complete -c orgq -n '__fish_seen_subcommand_from calendar' -x -a 'month week'
-complete -c orgq -n '__fish_seen_subcommand_from agenda' -l grid -d 'One day by its half hours'
-complete -c orgq -n '__fish_seen_subcommand_from agenda calendar' -l columns -x -d 'How wide the picture is'
-complete -c orgq -n '__fish_seen_subcommand_from calendar' -l lines -x -d 'The most lines of a day of a month'
-complete -c orgq -n '__fish_seen_subcommand_from agenda calendar' -l ascii -d 'Signs that any terminal has'
-complete -c orgq -n '__fish_seen_subcommand_from next' -l within -x -d 'Only what begins in so many minutes'
-complete -c orgq -n '__fish_seen_subcommand_from clock' -l level -x -d 'The deepest level that is shown'
-complete -c orgq -n '__fish_seen_subcommand_from clock' -l step -x -a 'day week' -d 'A table for each day or week'
-complete -c orgq -n '__fish_seen_subcommand_from clock' -l effort -d 'Effort sums beside those of clocks'
-complete -c orgq -n '__fish_seen_subcommand_from clock' -l chart -d 'Sums as bars'
-complete -c orgq -n '__fish_seen_subcommand_from check' -l only -x -a '(__fish_complete_list , _orgq_kinds)' -d 'These kinds of findings alone'
-complete -c orgq -n '__fish_seen_subcommand_from check' -l not -x -a '(__fish_complete_list , _orgq_kinds)' -d 'Without these kinds'
-complete -c orgq -n '__fish_seen_subcommand_from check' -l all -d 'Those kinds too that are not usual'
-complete -c orgq -n '__fish_seen_subcommand_from check' -l severity -x -a 'error warning note' -d 'How severe a finding makes status 1'
+
+# What may stand at the end of the line.
+function _orgq_offers
+    set -l days today tomorrow yesterday mon tue wed thu fri sat sun
+    set -l blocks thisweek lastweek nextweek thismonth lastmonth nextmonth thisyear lastyear nextyear
+    set -l above
+    set -l place 1
+    set -l help (orgq --help 2> /dev/null)
+    set -l valued
+    for part in (commandline -opc)[2..]
+        if set -q valued[1]
+            set valued
+        else if contains -- $part (_orgq_valued $help)
+            set valued $part
+        else if test $part != help; and contains -- $part (_orgq_commands $help | string replace -r '\t.*' '')
+            set -a above $part
+            set place 1
+            set help (orgq $above --help 2> /dev/null)
+        else if not string match -q -- '-*' $part
+            set place (math $place + 1)
+        end
+    end
+    if set -q valued[1]
+        switch $valued
+            case -f --file -o --output --under
+                __fish_complete_path (commandline -ct)
+            case --only --not
+                __fish_complete_list , _orgq_kinds
+            case --from --to
+                printf '%s\n' $days $blocks
+            case --scheduled --deadline
+                printf '%s\n' $days
+            case --tag
+                orgq tags 2> /dev/null
+            case '*'
+                _orgq_values $valued $help
+        end
+        return
+    end
+    # Options are offered behind a minus alone.
+    if string match -q -- '-*' (commandline -ct)
+        _orgq_options $help
+        return
+    end
+    _orgq_commands $help
+    set -l arguments (printf '%s\n' $help | awk '/^Arguments:/ { on = 1; next } /^$/ { on = 0 } on && /^  [[<]/ { print $1 (/ none / ? "/none" : "") }')
+    # The last argument may stand several times.
+    set -l name $arguments[$place]
+    if not set -q name[1]; and string match -q -- '*...' $arguments[-1]
+        set name $arguments[-1]
+    end
+    switch "$name"
+        case '*DATE*none'
+            printf '%s\n' $days none
+        case '*DATE*' '*BLOCK*'
+            printf '%s\n' $days $blocks
+        case '*VIEW*'
+            printf '%s\n' month week $days $blocks
+        case '*KEYWORD*'
+            orgq keywords 2> /dev/null
+        case '*PLACE*' '*FILE*' '*PATH*'
+            __fish_complete_path (commandline -ct)
+    end
+end
+complete -c orgq -f -a '(_orgq_offers)'
