@@ -1,7 +1,9 @@
 #!/bin/sh
-# Tries on real files a program that changes a file by one replacement: PROGRAM append, which puts a line at the end, or
-# PROGRAM done, which completes the heading on the first line. Its status is to be 0 where the change stands there, and 5 where
-# nothing was changed; of `done` also 3 where the file couldn't be read, and 4 where the change stands there and output failed.
+# Tries on real files a program that changes a file by one replacement: PROGRAM append, which puts a line at the end,
+# PROGRAM add, which puts a heading there, PROGRAM done, which completes the heading on the first line, or PROGRAM in, out or
+# cancel, which begins, ends or takes away the clock of that heading. Its status is to be 0 where the change stands there, and 5
+# where nothing was changed; of all but `append` also 3 where the file couldn't be read, and 4 where the change stands there and
+# output failed.
 # Modes, links, pipes, read-only and locked files; each call on files failing with four errors, the program killed before each,
 # and another program writing in place before each (tests/save/shim.c); eight programs at once; a program killed at any time; a
 # device that is full, where one can be made. Nothing may be torn, and no line lost. The last line counts.
@@ -21,21 +23,58 @@ give_up() {
 [ -x "$1" ] || give_up "there is no program $1"
 program=$(cd "$(dirname "$1")" && pwd)/$(basename "$1")
 kind=$2
+clock='CLOCK: [2024-02-28 Wed 09:45]'
 case $kind in
     append) before='* One' after=x ;;
+    add) before='* One' after='* DONE x' ;;
     done) before='* TODO One' after='* DONE One' ;;
+    in)
+        before='* One'
+        after="* One
+:LOGBOOK:
+CLOCK: [2024-02-28 Wed 10:30]
+:END:"
+        ;;
+    out)
+        before="* One
+$clock"
+        after="$before--[2024-02-28 Wed 10:30] =>  0:45"
+        ;;
+    cancel)
+        before="* One
+:LOGBOOK:
+$clock
+:END:
+body"
+        after="* One
+body"
+        ;;
     *) give_up "there is no kind $kind" ;;
 esac
+# The status where a file can't be read: an act on a clock reads it once before it is opened to be changed.
+case $kind in
+    append | add | done) unread=5 ;;
+    *) unread=3 ;;
+esac
+lines_before=$(printf '%s\n' "$before" | wc -l)
+lines_after=$(printf '%s\n' "$after" | wc -l)
 shim=$(sh "$here/save/build.sh" "$work") || give_up "the shim of tests/save can't be built here"
 cd "$work" || exit 2
 
-# The program over a path and a line or the number of one.
+# Whether the change is a line at the end.
+grows() {
+    [ "$kind" = append ] || [ "$kind" = add ]
+}
+
+# The program over a path and a line, a title or the number of a line.
 run() {
-    if [ "$kind" = append ]; then
-        exec "$program" append "$1" "$2"
-    else
-        exec "$program" --at "2024-02-28 10:30" done "$1:$2"
-    fi
+    case $kind in
+        append) exec "$program" append "$1" "$2" ;;
+        add) exec "$program" --no-config --at "2024-02-28 10:30" -f "$1" add -t DONE "$2" ;;
+        done) exec "$program" --no-config --at "2024-02-28 10:30" done "$1:$2" ;;
+        in) exec "$program" --no-config --at "2024-02-28 10:30" clock in "$1:$2" ;;
+        *) exec "$program" --no-config --at "2024-02-28 10:30" -f "$1" clock "$kind" ;;
+    esac
 }
 
 # The same over a path, with what is set before it.
@@ -44,7 +83,7 @@ put() {
     shift
     (
         [ $# -eq 0 ] || export "$@"
-        if [ "$kind" = append ]; then run "$path" x; else run "$path" 1; fi
+        if grows; then run "$path" x; else run "$path" 1; fi
     ) > "$work/out" 2> "$work/err"
     status=$?
 }
@@ -56,9 +95,9 @@ new() {
     printf '%s\n' "$before" > d/a.org
 }
 
-# The line of a file that is changed.
+# The lines of a file that are changed.
 changed() {
-    if [ "$kind" = append ]; then tail -n 1 "$1"; else head -n 1 "$1"; fi
+    if grows; then tail -n 1 "$1"; else head -n "$lines_after" "$1"; fi
 }
 
 # What stands in the folder but the file.
@@ -82,7 +121,18 @@ is_done() {
 
 # Whether it was refused, with the file as it was, beside which these stand.
 is_refused() {
-    is "$1" "$status $(cat d/a.org) $(beside)" "5 $before ${2:-}"
+    is "$1" "$status $(cat d/a.org) $(beside)" "${3:-5} $before ${2:-}"
+}
+
+# How often the change stands in a file.
+stands() {
+    if [ "$kind" = append ]; then
+        grep -c -x -F -e "$after" "$1"
+    elif [ "$(changed "$1")" = "$after" ]; then
+        echo 1
+    else
+        echo 0
+    fi
 }
 
 echo "saves: modes, links and files that are none of its"
@@ -119,19 +169,21 @@ is_done "a link to a link" "one two "
 new
 ln -s nowhere d/none
 put d/none
-is_refused "a link to nothing" "none "
-new
-mkfifo d/pipe
-put d/pipe
-is_refused "a pipe" "pipe "
-put d
-is_refused "a folder" "pipe "
-put /dev/null
-is "a device" "$status" 5
+is_refused "a link to nothing" "none " "$unread"
+if [ "$unread" -eq 5 ]; then
+    new
+    mkfifo d/pipe
+    put d/pipe
+    is_refused "a pipe" "pipe "
+    put d
+    is_refused "a folder" "pipe "
+    put /dev/null
+    is "a device" "$status" 5
+fi
 new
 put d/none.org
-is_refused "no such file"
-if [ "$kind" = append ]; then
+is_refused "no such file" "" "$unread"
+if grows; then
     new
     : > d/a.org
     put d/a.org
@@ -184,7 +236,7 @@ long() {
         echo
     } > d/a.org
     cp d/a.org was
-    if [ "$kind" = append ]; then { cat was; echo x; }; else { echo "$after"; tail -n +2 was; }; fi > will
+    if grows; then { cat was; echo "$after"; }; else { echo "$after"; tail -n +2 was; }; fi > will
 }
 
 # What the file holds: what it did, what it is to, or neither.
@@ -215,7 +267,10 @@ for error in 5 28 13 4 none; do
         fi
         case "$status $(held)" in
             "0 new" | "5 old" | "137 old" | "137 new") passed=$((passed + 1)) ;;
-            "3 old" | "4 new") is "error $error at call $call is one of done" "$kind" done ;;
+            "3 old" | "4 new")
+                if [ "$kind" = append ]; then wanted=done; else wanted=$kind; fi
+                is "error $error at call $call is one of an act" "$kind" "$wanted"
+                ;;
             *)
                 failed=$((failed + 1))
                 echo "saves: error $error at call $call: status $status, $(held): $(cat "$work/err")"
@@ -240,7 +295,7 @@ while [ "$call" -lt "$calls" ]; do
     put d/a.org LD_PRELOAD="$shim" FILE_WRITES="$call" FILE_TARGET=d/a.org
     [ "$status" -ne 5 ] || refused=$((refused + 1))
     [ ! -e d/a.org.orgq1 ] || rescued=$((rescued + 1))
-    is "foreign line at call $call" "$(cat d/* | grep -c '^foreign$') $(grep -c -x -F -e "$after" d/a.org)" "1 $((status == 0))"
+    is "foreign line at call $call" "$(cat d/* | grep -c '^foreign$') $(stands d/a.org)" "1 $((status == 0))"
     if [ -e d/a.org.orgq1 ]; then
         is "kept line at call $call" "$(grep -c 'd/a.org.orgq1' err) $(wc -c < d/a.org.orgq1)" "1 $(($(wc -c < was) + 8))"
     fi
@@ -249,7 +304,11 @@ is "some were refused, and some kept" "$((refused > 0)) $((rescued > 0))" "1 1"
 echo "saves: of $calls writes of another program $refused were found before the rename and $rescued after it, none was lost"
 
 echo "saves: eight at once, five times"
-if [ "$kind" = append ]; then echo '* One'; else seq 40 | sed 's/^/* TODO /'; fi > d/b.org
+case $kind in
+    append | add) echo '* One' > d/b.org ;;
+    done | in) seq 40 | sed 's/^/* TODO /' > d/b.org ;;
+    *) echo "$before" > d/b.org ;;
+esac
 for round in 0 1 2 3 4; do
     for each in 1 2 3 4 5 6 7 8; do
         number=$((round * 8 + each))
@@ -258,12 +317,38 @@ for round in 0 1 2 3 4; do
     done
     wait
 done
-is "all lines stand" "$(grep -c '^[*] DONE' d/b.org)" 40
-is "none stands twice" "$(sort d/b.org | uniq -d | wc -l)" 0
+case $kind in
+    append | done)
+        is "all lines stand" "$(grep -c '^[*] DONE' d/b.org)" 40
+        is "none stands twice" "$(sort d/b.org | uniq -d | wc -l)" 0
+        ;;
+    in) is "one clock runs" "$(grep -c '^[*] TODO' d/b.org) $(grep -c '^CLOCK' d/b.org)" "40 1" ;;
+    *) is "one did it" "$(cat d/b.org)" "$after" ;;
+esac
+
+if [ "$kind" = add ]; then
+    echo "saves: two at once, fifty times"
+    echo '* One' > d/c.org
+    stood=0
+    for number in $(seq 50); do
+        { run d/c.org "one $number" > /dev/null 2> err1; } &
+        first=$!
+        { run d/c.org "two $number" > /dev/null 2> err2; } &
+        second=$!
+        wait "$first"
+        one=$?
+        wait "$second"
+        two=$?
+        is "one of $number" "$one $(grep -c -x -F "* DONE one $number" d/c.org) $(wc -l < err1)" "$one $((one == 0)) $((one != 0))"
+        is "two of $number" "$two $(grep -c -x -F "* DONE two $number" d/c.org) $(wc -l < err2)" "$two $((two == 0)) $((two != 0))"
+        stood=$((stood + (one == 0) + (two == 0)))
+    done
+    echo "saves: of 100 headings $stood stand, and the others were refused"
+fi
 
 echo "saves: killed at any time, fifty times"
 long 4000000
-if [ "$kind" = append ]; then number=x; else number=1; fi
+if grows; then number=x; else number=1; fi
 old=0
 made=0
 left=0
