@@ -65,9 +65,10 @@ one_version() {
     version=$(cat "$here/VERSION")
     cd "$here" && grep -qx "pkgver=$version" contrib/aur/PKGBUILD && grep -qx "## $version" CHANGELOG.md &&
         grep -q "orgviews $version 2" crates/org_engine/src/engine.rt &&
+        grep -qx "$version" crates/orgq/src/arguments.rt && grep -qx "$version" crates/orgviews/src/arguments.rt &&
         [ "$(grep -ohE 'orgviews[-_][0-9.]+[0-9]' README.md | sed 's/orgviews.//' | sort -u)" = "$version" ]
 }
-check "VERSION, the change log, README, the recipes and the reply to version say one version" one_version
+check "VERSION, the change log, README, the recipes, the reply to version and --version say one version" one_version
 
 # 2. Without rt.
 without_rt() {
@@ -93,7 +94,7 @@ installed() {
     done
     for file in share/man/man1/orgq-notify.1 share/doc/orgviews/THIRD-PARTY-NOTICES share/doc/orgviews/LICENSE \
         share/bash-completion/completions/orgq share/zsh/site-functions/_orgq share/fish/vendor_completions.d/orgq.fish \
-        share/systemd/user/orgq-notify.timer share/doc/orgviews/manual.md; do
+        share/systemd/user/orgq-notify.timer share/doc/orgviews/manual.md share/doc/orgviews/stream.md; do
         [ -s "$root/usr/$file" ] || { echo "no $file"; return 1; }
     done
     ls "$root"/usr/share/emacs/site-lisp/elpa/org-views-*/org-views-autoloads.el

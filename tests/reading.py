@@ -57,7 +57,9 @@ class Definition:
     size = property(lambda self: len(self.comment) + len(self.body))
 
     def say(self, line):
-        self.words += WORD.findall(without_strings(line))
+        """Notes the words of a line, but for the fields that a record's value names."""
+        line = re.sub(r"(^ +|[{;] *)[a-z]\w* = ", r"\1", without_strings(line))
+        self.words += WORD.findall(line)
 
     def bind(self, text):
         self.bound |= {word for word in re.split(r"\W+", text) if re.match(r"[a-z_]", word)}
@@ -79,7 +81,7 @@ class Specs:
 
     def __init__(self):
         self.definitions, self.made_by, self.names, self.aliases, self.passed_on = {}, {}, {}, {}, {}
-        self.code = {}
+        self.code, self.kit = {}, {}
         for path in sorted(glob.glob(os.path.join(ROOT, "crates/*/specs/*.antt"))):
             self.read_specs(os.path.relpath(path, ROOT))
         for path in sorted(glob.glob(os.path.join(ROOT, "crates/*/src/**/*.rt"), recursive=True)):
@@ -89,6 +91,11 @@ class Specs:
         """Notes what an import names: definitions as (crate, FILE, name), and of the code as (crate, module, NAME)."""
         found = re.search(r"Rattle\.(org\w*|orgq|orgviews)\.specs\.([\w.]+?)(?:\.\{([^}]*)\}| as (\w+))?;?\s*$", line)
         if not found:
+            found = re.search(r"Rattle\.(\w+)\.specs\.([\w.]+)\.\{([^}]*)\}", line)
+            for name in re.split(r", *", found[3]) if found else []:
+                name, _, other = name.partition(" as ")
+                if re.match(r"\w", name) and "Prelude" not in found[2]:
+                    self.kit[into, other or name] = (found[1], found[2], name)
             return
         crate, path, names, alias = found[1], found[2].rstrip(".").split("."), found[3], found[4]
         if path[0] == "declared":
@@ -209,6 +216,12 @@ class Specs:
         item = self.get(key)
         found = (self.resolve(key[:2], word, item.bound) for word in item.words)
         return [target for target in dict.fromkeys(found) if target and target != key]
+
+    def of_kit(self, keys):
+        """What some definitions name of the kit's libraries, but for the words that every file has: (library, FILE, name)."""
+        found = {self.kit[key[:2], word] for key in keys for word in self.get(key).words
+                 if (key[:2], word) in self.kit and word not in self.get(key).bound}
+        return sorted(found)
 
     def reached(self, first, cut=()):
         """All that is reached from some keys, in the order in which it is, without going on from those that are cut."""
@@ -456,6 +469,9 @@ def page(specs, laws, first):
     for key in code:
         item = specs.code[key]
         out += [f"`{item.path}:{item.line}`", "", "```", *item.comment, *item.body, "```", ""]
+    out += ["## What the kit defines", "", "Definitions of the kit's libraries that these name, beside the words of its prelude. They come with",
+            "the toolchain, and are read in its folder.", "", "| Library | File | Definition |", "|---|---|---|"]
+    out += [f"| `{library}` | `{file}` | `{name}` |" for library, file, name in specs.of_kit(own)]
     return "\n".join(out) + "\n", own
 
 
