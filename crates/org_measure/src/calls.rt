@@ -4,6 +4,7 @@
 //! A part answers true where its call gave what it should. Where memory is refused it looks, without taking any, whether
 //! what it was given is as before, and hands the refusal on; it answers false where one of the two isn't so.
 
+use crate::day_calls::{indexes_a_stamp, reads_a_table, rows_of_a_day, sums_of_clocks};
 use crate::engine_calls::{changes, keeps, works};
 use crate::outline_calls::{gathers, pushes_entries, replaces_entries, tests_an_expression};
 use crate::text_calls::{assembles_a_line, copies_texts, cuts_lines, edits};
@@ -28,11 +29,15 @@ enum Call {
     Changes,
     Pins,
     Work,
+    Index,
+    Day,
+    Sums,
+    Table,
     Column,
     Stream,
 }
 
-const CALLS: [Call; 14] = [
+const CALLS: [Call; 18] = [
     Call::Texts,
     Call::Whole,
     Call::Pieces,
@@ -45,6 +50,10 @@ const CALLS: [Call; 14] = [
     Call::Changes,
     Call::Pins,
     Call::Work,
+    Call::Index,
+    Call::Day,
+    Call::Sums,
+    Call::Table,
     Call::Column,
     Call::Stream,
 ];
@@ -110,6 +119,10 @@ fn run_call(alloc: Global, call: Call) -> Result<bool, Fault> {
         Call::Changes => changes(alloc),
         Call::Pins => keeps(alloc),
         Call::Work => works(alloc),
+        Call::Index => indexes_a_stamp(alloc),
+        Call::Day => rows_of_a_day(alloc),
+        Call::Sums => sums_of_clocks(alloc),
+        Call::Table => reads_a_table(alloc),
         Call::Column => pads(alloc),
         Call::Stream => opens_a_stream(alloc),
     }

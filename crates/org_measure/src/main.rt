@@ -21,6 +21,7 @@
 
 mod append;
 mod calls;
+mod day_calls;
 mod engine_calls;
 mod outline_calls;
 mod sequences;
