@@ -4,7 +4,7 @@
 # cancel, which begins, ends or takes away the clock of that heading. Its status is to be 0 where the change stands there, and 5
 # where nothing was changed; of all but `append` also 3 where the file couldn't be read, and 4 where the change stands there and
 # output failed.
-# Modes, links, pipes, read-only and locked files; each call on files failing with four errors, the program killed before each,
+# Modes, links, pipes, read-only and locked files, a read-only folder; each call on files failing with four errors, the program killed before each,
 # and another program writing in place before each (tests/save/shim.c); eight programs at once; a program killed at any time; a
 # device that is full, where one can be made. Nothing may be torn, and no line lost. The last line counts.
 # To see it bite, let `look_back` of org_save answer `Nothing` at once: then lines of the other program are lost and named.
@@ -60,20 +60,29 @@ lines_before=$(printf '%s\n' "$before" | wc -l)
 lines_after=$(printf '%s\n' "$after" | wc -l)
 shim=$(sh "$here/save/build.sh" "$work") || give_up "the shim of tests/save can't be built here"
 cd "$work" || exit 2
+unset ORGQ_FILES NO_COLOR TZ TZDIR
+HOME=$work/home
+XDG_CONFIG_HOME=$work/home/config
+export HOME XDG_CONFIG_HOME
 
 # Whether the change is a line at the end.
 grows() {
     [ "$kind" = append ] || [ "$kind" = add ]
 }
 
+# Who runs it: another user, where this one may write everywhere and another is wanted.
+user=
+other=
+[ "$(id -u)" -ne 0 ] || other="setpriv --reuid 65534 --regid 65534 --clear-groups"
+
 # The program over a path and a line, a title or the number of a line.
 run() {
     case $kind in
-        append) exec "$program" append "$1" "$2" ;;
-        add) exec "$program" --no-config --at "2024-02-28 10:30" -f "$1" add -t DONE "$2" ;;
-        done) exec "$program" --no-config --at "2024-02-28 10:30" done "$1:$2" ;;
-        in) exec "$program" --no-config --at "2024-02-28 10:30" clock in "$1:$2" ;;
-        *) exec "$program" --no-config --at "2024-02-28 10:30" -f "$1" clock "$kind" ;;
+        append) exec $user "$program" append "$1" "$2" ;;
+        add) exec $user "$program" --no-config --at "2024-02-28 10:30" -f "$1" add -t DONE "$2" ;;
+        done) exec $user "$program" --no-config --at "2024-02-28 10:30" done "$1:$2" ;;
+        in) exec $user "$program" --no-config --at "2024-02-28 10:30" clock in "$1:$2" ;;
+        *) exec $user "$program" --no-config --at "2024-02-28 10:30" -f "$1" clock "$kind" ;;
     esac
 }
 
@@ -159,6 +168,19 @@ new
 ln d/a.org d/b.org
 put d/a.org
 is_refused "a second name" "b.org "
+new
+chmod 711 "$work"
+chmod 666 d/a.org
+chmod 555 d
+if $other test -x "$program" -a -w d/a.org -a ! -w d 2> /dev/null; then
+    user=$other
+    put d/a.org
+    user=
+    is_refused "a read-only folder"
+else
+    echo "saves: a read-only folder is left out, no other user can be made here"
+fi
+chmod 755 d
 new
 mkdir e
 ln -s ../d/a.org e/l.org
@@ -281,6 +303,8 @@ for error in 5 28 13 4 none; do
                 if [ "$kind" = append ]; then wanted=done; else wanted=$kind; fi
                 is "error $error at call $call is one of an act" "$kind" "$wanted"
                 ;;
+            # An act on a clock reads first which files there are.
+            "2 old") is "error $error at call $call is one of the list of files" "$unread $(grep -c 'the list of files' err)" "3 1" ;;
             *)
                 failed=$((failed + 1))
                 echo "saves: error $error at call $call: status $status, $(held): $(cat "$work/err")"

@@ -32,6 +32,7 @@ KINDS = {
     "month": "a day that its month lacks becomes one of the next month",
     "first": "a delay of two minus signs goes where the stamp shifts",
     "plain": "repeated stamps of the text shift as well",
+    "each": "each of several stamps behind one keyword shifts",
 }
 KINDS_OF_ACTS = {"schedule", "deadline", "in", "out", "done"}
 STAMP = r"[<\[]\d{4}-\d\d-\d\d[^>\]\n]*[>\]]"
@@ -205,7 +206,11 @@ def differing_completions(org, own):
             org.pairs = [(word, stamp.removesuffix(second)) for word, stamp in org.pairs]
     if len(org.pairs) != len(own.pairs):
         return None
-    for (org_word, first), (own_word, second) in zip(org.pairs, own.pairs):
+    for k, ((org_word, first), (own_word, second)) in enumerate(zip(org.pairs, own.pairs)):
+        is_last = own_word not in {word for word, _ in own.pairs[k + 1 :]}
+        if not is_last and first != second and org_word == own_word and re.search(r"[.+]\+?\d+[hdwmy]", second):
+            kinds.append("each")
+            continue
         if re.search(r" --\d+[hdwmy]", second) and not re.search(r" --\d+[hdwmy]", first):
             kinds.append("first")
             second = re.sub(r" --\d+[hdwmy]", "", second)

@@ -15,7 +15,7 @@
 //!     let rows = step_rows(alloc, &period, spec.most(), files.as_slice())?;
 //! ```
 //!
-//! Lines of `orgq/src/table.rt`. Tests: streams `tests/rows/clock-*`.
+//! Lines of `org_answer/src/table.rt`. Tests: streams `tests/rows/clock-*`.
 #![tactic(auto)]
 
 mod counted;

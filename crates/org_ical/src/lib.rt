@@ -8,16 +8,11 @@
 //! name. A reader that unfolds the lines finds those of the properties, and takes each value for its text.
 //!
 //! ```
-//! let calendar = Calendar {
-//!     date: date_of(chosen.moment.day),
-//!     time: time_of(chosen.moment.minute),
-//!     components,
-//! };
-//! let has_component = !calendar.components.is_empty();
+//! let calendar = calendar_of(chosen.moment, components);
 //! let bytes = calendar.bytes(alloc)?;
 //! ```
 //!
-//! Lines of `orgq/src/ical.rt`. Tests: cases `tests/orgq/ical*`, and `tests/ical.sh`, which two other programs read back.
+//! Lines of `org_answer/src/ical.rt`. Tests: cases `tests/orgq/ical*`, and `tests/ical.sh`, which two other programs read back.
 #![tactic(auto)]
 
 mod calendar;

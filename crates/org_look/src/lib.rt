@@ -20,7 +20,7 @@
 //! }
 //! ```
 //!
-//! Lines of `orgq/src/picture.rt`. Tests: cases `tests/orgq/calendar-*`.
+//! Lines of `org_answer/src/picture.rt`. Tests: cases `tests/orgq/calendar-*`.
 #![tactic(auto)]
 
 mod bar;

@@ -1,14 +1,5 @@
-pub mod Ahead
 pub mod Amending
-pub mod Asked
-pub mod Chosen
 pub mod Examples
 pub mod Exit
 pub mod Keywords
-pub mod Ical
-pub mod Limits
-pub mod Shown
-pub mod Tables
-pub mod Views
 pub mod Settings
-pub mod Words

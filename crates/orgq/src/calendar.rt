@@ -2,46 +2,20 @@
 
 use crate::environment::{Variable, value_of};
 use crate::problem::Problem;
-use crate::view::Days;
 use clap::ArgMatches;
+use org_answer::{Calendar, Canvas, Days, View};
 use org_cal::{Day, Moment, Period, Unit};
 use org_look::Signs;
 use std::rt::Env;
 
-/// What is drawn on: so many columns, by these signs.
-#[derive(Clone, Copy, Debug)]
-pub struct Canvas {
-    pub columns: u16,
-    pub signs: Signs,
-}
-
-impl Canvas {
-    /// That of a command's words, in so many columns.
-    pub fn of(own: &ArgMatches<'_>, columns: u16) -> Canvas {
-        let signs = if own.get_flag("ascii") {
-            Signs::Ascii
-        } else {
-            Signs::Drawn
-        };
-        Canvas { columns, signs }
-    }
-}
-
-/// What a calendar shows.
-#[derive(Clone, Copy, Debug, PartialEq, Eq)]
-pub enum View {
-    Month,
-    Week,
-}
-
-/// A calendar that is asked for: what it shows, the day that is in it, its days in whole weeks, and how it is drawn.
-#[derive(Clone, Copy, Debug)]
-pub struct Calendar {
-    pub view: View,
-    pub day: Day,
-    pub days: Days,
-    pub lines: usize,
-    pub canvas: Canvas,
+/// What a command's words draw on, in so many columns.
+pub fn canvas_of(own: &ArgMatches<'_>, columns: u16) -> Canvas {
+    let signs = if own.get_flag("ascii") {
+        Signs::Ascii
+    } else {
+        Signs::Drawn
+    };
+    Canvas { columns, signs }
 }
 
 /// The calendar that words ask for at a moment, in so many columns.
@@ -66,7 +40,7 @@ pub fn asked_calendar(
         day,
         days: days_of(view, day)?,
         lines: lines as usize,
-        canvas: Canvas::of(own, columns),
+        canvas: canvas_of(own, columns),
     })
 }
 

@@ -1,25 +1,19 @@
 //! The command that lists clock lines.
-ghost use Rattle.std.specs.Prelude.{◌≡◌, IfOk};
-ghost use Rattle.orgq.specs.Shown.{AreCleanLines, IsSafe, KeepsClean, is_safe};
 
 use crate::ask::asked_period;
 use crate::exit::status_of;
 use crate::options::{property_names, texts};
 use crate::out::print_all;
 use crate::problem::Problem;
-use crate::show::{Form, PrintOptions, push_whole, row_line};
 use crate::sources::{Reading, load_all, paths};
 use clap::ArgMatches;
+use org_answer::{PrintOptions, clock_lines};
 use org_base::Fault;
 use org_cal::{Day, Period};
-use org_client::{
-    FileSet, LoadReport, ShownClock, ViewRow, clock_rows, push_clock_minute, shown_clocks,
-};
-use org_inherit::Heading;
-use org_text::{Text, Whole};
-use std::alloc::{AllocError, Global};
+use org_client::{FileSet, LoadReport, clock_rows, shown_clocks};
+use org_text::Whole;
+use std::alloc::Global;
 use std::rt::{Env, Files};
-use std::str;
 
 /// Prints the clock lines of the days that the command's own words name, and gives the exit status.
 pub fn print_clocks<R: AllocGlobal + Files + Env + Input + Print + Eprint + Clone + Drop>(
@@ -57,133 +51,5 @@ fn clock_bytes(
     let clocks = shown_clocks(alloc, file_set, rows.as_slice())?;
     let properties = property_names(alloc, look.properties)?;
     let files = LoadReport::new(alloc, file_set, &inherits, properties, false)?;
-    lines_of(alloc, &files, clocks.as_slice(), look)
-}
-
-#[tactic(auto, using(crate::proofs::ShownLemmas::no_lines))]
-fn lines_of<T: Text>(
-    alloc: Global,
-    files: &LoadReport<'_, '_, T>,
-    clocks: &[ShownClock],
-    look: &PrintOptions<'_, '_>,
-) -> Result<Vec<u8>, Fault>
-    ensures clean { IsSafe look.now → IfOk result (λ out. AreCleanLines out.items) }
-{
-    let mut out = Vec::new(alloc);
-    for clock in clocks {
-        push_clock(alloc, &mut out, files, clock, look)?;
-    }
-    Ok(out)
-}
-
-// Appends the line of a clock.
-fn push_clock<T: Text>(
-    alloc: Global,
-    out: &mut Vec<u8>,
-    files: &LoadReport<'_, '_, T>,
-    clock: &ShownClock,
-    look: &PrintOptions<'_, '_>,
-) -> Result<(), Fault>
-    ensures clean { IsSafe look.now → KeepsClean result out.old out.new }
-{
-    let text = clock_text(alloc, files, clock, look.form == Form::Places)?;
-    let shown = ClockText {
-        clock: *clock,
-        text: text.as_str(),
-    };
-    push_row(alloc, out, files, &shown, look)
-}
-
-/// A clock, and its line in words.
-#[derive(Clone, Copy, Debug)]
-pub struct ClockText<'a> {
-    pub clock: ShownClock,
-    pub text: &'a str,
-}
-
-/// Appends the line of a clock in its form.
-pub fn push_row<T: Text>(
-    alloc: Global,
-    out: &mut Vec<u8>,
-    files: &LoadReport<'_, '_, T>,
-    shown: &ClockText<'_>,
-    look: &PrintOptions<'_, '_>,
-) -> Result<(), Fault>
-    ensures clean { IsSafe look.now → KeepsClean result out.old out.new }
-{
-    let text = shown.text.as_bytes();
-    if !is_safe(look) {
-        out.extend_from_slice(text)?;
-        out.push(b'\n')?;
-        return Ok(());
-    }
-    let row = ViewRow::Clock(shown.clock);
-    let line = row_line(alloc, files, &row, text, look)?;
-    Ok(push_whole(out, &line)?)
-}
-
-// Whether no control character of a file may stand in what is printed.
-fn is_safe(look: &PrintOptions<'_, '_>) -> bool
-    ensures value { result ≡ is_safe look.now.form look.now.is_seen }
-{
-    match look.form {
-        Form::Plain | Form::Places => look.is_seen,
-        Form::Json | Form::Csv | Form::Template(_) => true,
-    }
-}
-
-// The line of a clock: its place, if that is wanted, when it begins, when it ends, its minutes as hours and minutes, and the
-// title of its heading.
-fn clock_text<T: Text>(
-    alloc: Global,
-    files: &LoadReport<'_, '_, T>,
-    clock: &ShownClock,
-    has_place: bool,
-) -> Result<String, AllocError> {
-    let row = &clock.row;
-    let mut text = String::new(alloc);
-    if has_place {
-        push_place(&mut text, files, clock)?;
-    }
-    push_clock_minute(&mut text, row.from)?;
-    text.push_str(" ")?;
-    push_end(&mut text, row.to)?;
-    let (hours, minutes) = (row.minutes / 60, row.minutes % 60);
-    write!(text, " {hours:>5}:{minutes:02} ")?;
-    push_title(&mut text, files, clock)?;
-    Ok(text)
-}
-
-/// Appends the title of a clock's heading.
-pub fn push_title<T: Text>(
-    text: &mut String,
-    files: &LoadReport<'_, '_, T>,
-    clock: &ShownClock,
-) -> Result<(), AllocError> {
-    match Heading::find(files.inherits, clock.row.file, clock.row.heading) {
-        Some(heading) => text.push_str(str::from_utf8(heading.title()).unwrap_or("")),
-        None => Ok(()),
-    }
-}
-
-/// Appends the file and the line of a clock, and a space, since its line begins with a number.
-pub fn push_place<T: Text>(
-    text: &mut String,
-    files: &LoadReport<'_, '_, T>,
-    clock: &ShownClock,
-) -> Result<(), AllocError> {
-    let file = clock.row.file;
-    if file < files.file_set.count() {
-        text.push_str(files.file_set.file(file).name())?;
-    }
-    let line = clock.place.line;
-    write!(text, ":{line}: ")
-}
-
-// Appends an end, or the room of one.
-fn push_end(text: &mut String, end: Option<u64>) -> Result<(), AllocError> {
-    match end {
-        Some(end) => push_clock_minute(text, end),
-        None => text.push_str("                "),
-    }
+    clock_lines(alloc, &files, clocks.as_slice(), look)
 }

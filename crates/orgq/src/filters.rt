@@ -1,15 +1,11 @@
 //! Which headings' rows agendas and what comes next show, and how many rows.
-ghost use Rattle.std.specs.Prelude.{chars, IfOk};
-ghost use Rattle.org_expression.specs.Grammar.{Reads};
 
 use crate::problem::Problem;
 use clap::ArgMatches;
-use org_base::{Code, Fault};
+use org_answer::read_expression;
+use org_base::Fault;
 use org_match::Match;
 use std::alloc::Global;
-
-// The most bytes of an expression or of options.
-const LONGEST: usize = 65_536;
 
 /// What rows are shown: those of headings that meet the expression, have the tags and are of the category, as many as the
 /// limit says; what isn't named leaves out none.
@@ -76,16 +72,6 @@ impl<'a, 'b> Filters<'a, 'b> {
 fn add(expressions: &mut Vec<Match>, expression: Match) -> Result<(), Fault> {
     expressions.push(expression)?;
     Ok(())
-}
-
-/// The expression that a text spells.
-pub fn read_expression(alloc: Global, expression: &str) -> Result<Match, Fault>
-    ensures value { IfOk result (λ found. Reads (chars expression.now) found) }
-{
-    if expression.len() > LONGEST {
-        return Err(Fault::Plain(Code::Long));
-    }
-    Match::read(alloc, expression)
 }
 
 // That a heading has a tag.

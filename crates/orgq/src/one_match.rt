@@ -1,17 +1,17 @@
 //! The one heading of which an expression holds.
 
 use crate::exit::{LEFT_OUT, NO_MATCH};
-use crate::filters::read_expression;
 use crate::options::texts;
 use crate::out::print_all;
 use crate::place::HeadingPlace;
 use crate::problem::{Problem, report_problem};
 use crate::say::say;
-use crate::show::{Form, PrintOptions, answer_bytes, heading_of};
 use crate::sources::{Reading, load_all, paths};
-use crate::view::{Answer, match_list};
 use crate::wish::{Look, Wish};
 use clap::ArgMatches;
+use org_answer::{
+    Answer, Form, PrintOptions, answer_bytes, heading_of, match_list, read_expression,
+};
 use org_base::{Fault, Texts};
 use org_client::{FileSet, LoadReport};
 use org_layout::Line;

@@ -1,8 +1,8 @@
 //! What the arguments ask for.
 
 use crate::problem::Problem;
-use crate::show::Form;
 use clap::ArgMatches;
+use org_answer::Form;
 use org_base::{Fault, Profile, Texts};
 use org_client::Template;
 use std::alloc::{AllocError, Global};

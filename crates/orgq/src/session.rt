@@ -2,7 +2,7 @@
 ghost use Rattle.org_client.specs.Files.{AreRead};
 
 use crate::act::act;
-use crate::ask::{Query, Question, answer, check, read_filters, read_question};
+use crate::ask::{read_filters, read_question};
 use crate::calendar::columns_for;
 use crate::check::check_files;
 use crate::clock::{now, typed_moment};
@@ -12,20 +12,19 @@ use crate::environment::{Variable, value_of};
 use crate::exit::status_of;
 use crate::filters::Filters;
 use crate::follow::follow;
-use crate::hours::day_picture;
-use crate::ical::ical_of;
 use crate::keywords::say_unknown;
-use crate::limits::lines_within;
 use crate::options::{
     form, is_colored, named_form, profile, property_names, property_words, texts, without_rows,
 };
 use crate::out::print_all;
-use crate::picture::{Picture, calendar_picture};
 use crate::problem::{Problem, report_problem};
-use crate::show::{Form, PrintOptions, answer_bytes, has_stamp, picture_bytes};
 use crate::sources::{Reading, load_all, paths};
-use crate::words::{WordKind, print_words};
+use crate::words::print_words;
 use clap::ArgMatches;
+use org_answer::{
+    Form, Picture, PrintOptions, Query, Question, WordKind, answer, answer_bytes, calendar_picture,
+    check, day_picture, has_stamp, ical_of, lines_within, picture_bytes,
+};
 use org_base::Fault;
 use org_cal::Moment;
 use org_client::{FileSet, LoadReport};

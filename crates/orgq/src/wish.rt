@@ -3,10 +3,10 @@
 use crate::adding::WishedHeading;
 use crate::options::form;
 use crate::problem::Problem;
-use crate::show::Form;
 use clap::ArgMatches;
 use org_act::{ClockStep, KeywordChoice};
 use org_amend::TypedDate;
+use org_answer::Form;
 use org_cal::Moment;
 use org_stamp::PlanningKeyword;
 use std::alloc::{AllocError, Global};

@@ -1,0 +1,6 @@
+pub mod AheadLemmas
+pub mod AskedLemmas
+pub mod IcalLemmas
+pub mod LimitLemmas
+pub mod ShownLemmas
+pub mod WordLemmas

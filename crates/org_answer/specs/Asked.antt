@@ -1,0 +1,67 @@
+-- What answers a question (profile).
+use Rattle.std.specs.Prelude.{ℕ, Bool, true, false, List, Option, Result, Ok, Err, chars, string_bytes}
+use Rattle.org_agenda.specs.Lists.{Matching, todo_listing}
+use Rattle.org_base.specs.declared.fault.Fault.{Fault}
+use Rattle.org_cal.specs.Periods.{days_of}
+use Rattle.org_cal.specs.declared.moment.Moment.{Moment}
+use Rattle.org_client.specs.Reminders.{rows_between}
+use Rattle.org_client.specs.declared.reminders.Window.{Window}
+use Rattle.org_clocktable.specs.Request.{AsksFor, TableRequest}
+use Rattle.org_expression.specs.Grammar.{Expr, Reads}
+use Rattle.org_inherit.specs.Scope.{Scope}
+use Rattle.org_answer.specs.Ahead.{ShowsNext, ShowsRows}
+use Rattle.org_answer.specs.Chosen.{ShowsDays, over_chosen}
+use Rattle.org_answer.specs.Tables.{ShowsTable}
+use Rattle.org_answer.specs.Views.{ShowsListing}
+use Rattle.org_answer.specs.declared.query.ClockQuery.{ClockQuery}
+use Rattle.org_answer.specs.declared.query.Query.{Query}
+use Rattle.org_answer.specs.declared.query.Query.TheVariants.{Agenda, Calendar, Clock, Hours, Ical, Match, Next, Since, Todo}
+use Rattle.org_answer.specs.declared.query.Question.{Question}
+use Rattle.org_answer.specs.declared.view.Answer.{Answer}
+use Rattle.org_answer.specs.declared.view.Chosen.{Chosen}
+use Rattle.org_answer.specs.declared.view.Days.{Days}
+
+-- which stamps the agendas of a question look at
+abbrev pub chosen_of : Question → Chosen
+chosen_of q = record { as_of = record { profile = q.profile; today = q.moment.day }; expressions = q.expressions; moment = q.moment }
+
+-- the headings at a moment of which the expression holds that a text spells
+abbrev pub AnswersMatch : Result Answer Fault → List Scope → List ℕ → Moment → Type 0
+AnswersMatch (Err fault) scopes text now = Unit {0}
+AnswersMatch (Ok answer) scopes text now =
+    (expression : Expr) × Reads (chars text) expression × ShowsListing {E = Fault} (Ok answer) scopes (Matching expression now)
+
+-- the tables that options ask for, over days; of bars no more is said than that they are answered
+abbrev pub AnswersTable : Bool → Result Answer Fault → List Scope → List ℕ → ℕ × ℕ → Moment → Type 0
+AnswersTable true result scopes options days now = Unit {0}
+AnswersTable false (Err fault) scopes options days now = Unit {0}
+AnswersTable false (Ok answer) scopes options days now =
+    (table : TableRequest Expr) × AsksFor options now.day table × ShowsTable {E = Fault} (Ok answer) table scopes days now
+
+abbrev pub AnswersClock : Result Answer Fault → List Scope → ClockQuery → Moment → Type 0
+AnswersClock result scopes query now = AnswersTable query.is_chart result scopes (string_bytes query.options) (days_of query.period) now
+
+-- what comes next in so many days, or begins within a window, of the stamps that are chosen
+
+abbrev pub AnswersNext : Result Answer Fault → List Scope → Chosen → Days → Option ℕ → Type 0
+AnswersNext result scopes chosen days within = ShowsNext result scopes (over_chosen chosen scopes days.first days.count) chosen.moment within
+
+abbrev pub AnswersSince : Result Answer Fault → List Scope → Chosen → Days → Window → Type 0
+AnswersSince result scopes chosen days window =
+    let agenda = over_chosen chosen scopes days.first days.count in ShowsRows result scopes agenda (rows_between window agenda)
+
+-- what a question asks for is what is shown, unless it is refused
+abbrev pub AnswersQuery : Result Answer Fault → List Scope → Question → Query → Type 0
+AnswersQuery result scopes q (Agenda days) = ShowsDays result scopes (chosen_of q) days.first days.count
+AnswersQuery result scopes q (Calendar calendar) = ShowsDays result scopes (chosen_of q) calendar.days.first calendar.days.count
+AnswersQuery result scopes q (Hours days canvas) = ShowsDays result scopes (chosen_of q) days.first days.count
+AnswersQuery result scopes q (Ical days) = ShowsDays result scopes (chosen_of q) days.first days.count
+AnswersQuery result scopes q (Todo words) = ShowsListing result scopes (todo_listing words)
+AnswersQuery result scopes q (Match expression) = AnswersMatch result scopes expression.now q.moment
+AnswersQuery result scopes q (Clock query) = AnswersClock result scopes query q.moment
+AnswersQuery result scopes q (Next days within) = AnswersNext result scopes (chosen_of q) days within
+AnswersQuery result scopes q (Since window days) = AnswersSince result scopes (chosen_of q) days window
+
+-- the same of the question itself
+abbrev pub AnswersQuestion : Result Answer Fault → List Scope → Question → Type 0
+AnswersQuestion result scopes q = AnswersQuery result scopes q q.asked.now

@@ -1,0 +1,9 @@
+pub mod Ahead
+pub mod Asked
+pub mod Chosen
+pub mod Ical
+pub mod Limits
+pub mod Shown
+pub mod Tables
+pub mod Views
+pub mod Words

@@ -1,0 +1,81 @@
+-- How lines are printed (profile): colours as terminals have them (ECMA-48, "SGR").
+use Rattle.std.specs.Prelude.{◌≡◌, ℕ, Bool, true, false, if◌then◌else◌, List, [], ◌∷◌, ◌++◌, codes, decimal, length, ◌==◌, ◌⊎◌, Result, OnOk, Vec}
+use Rattle.org_agenda.specs.declared.row.RowKind.{RowKind}
+use Rattle.org_agenda.specs.declared.row.RowKind.TheVariants.{LateSchedule, LateDeadline, Warning}
+use Rattle.org_client.specs.Clean.{IsClean}
+use Rattle.org_client.specs.Visible.{visible}
+use Rattle.org_client.specs.declared.visible.Escape.TheVariants.{Caret}
+use Rattle.org_answer.specs.declared.show.Form.{Form}
+use Rattle.org_answer.specs.declared.show.Form.TheVariants.{Plain, Places, Json, Csv, Template}
+use Rattle.org_answer.specs.declared.show.PrintOptions.{PrintOptions}
+use Rattle.org_layout.specs.declared.shown.Line.{Line}
+use Rattle.org_layout.specs.declared.shown.Line.TheVariants.{Day, Step, Row, Table}
+
+-- the colour of a kind of rows: late ones are red, warnings yellow
+abbrev pub kind_color : RowKind → List ℕ
+kind_color LateSchedule = 27 ∷ codes "[31m"
+kind_color LateDeadline = 27 ∷ codes "[31m"
+kind_color Warning = 27 ∷ codes "[33m"
+kind_color _ = []
+
+-- days are bold
+abbrev pub color_of : Line → List ℕ
+color_of (Day day) = 27 ∷ codes "[1m"
+color_of (Step first last) = 27 ∷ codes "[1m"
+color_of (Row shown) = kind_color shown.row.kind
+color_of (Table row) = []
+
+abbrev pub color : PrintOptions → Line → List ℕ
+color look line = if look.is_colored then color_of line else []
+
+-- a text, without control characters where they are to be seen
+abbrev pub shown_text : Bool → List ℕ → List ℕ
+shown_text is_seen text = if is_seen then visible Caret text else text
+
+-- a line in a colour
+abbrev pub shown_line : List ℕ → Bool → List ℕ → List ℕ
+shown_line color is_seen text = color ++ shown_text is_seen text ++ (if length color == 0 then [] else 27 ∷ codes "[0m") ++ 10 ∷ []
+
+-- no control character of a file may stand in what is printed in this form
+abbrev pub is_safe : Form → Bool → Bool
+is_safe Plain is_seen = is_seen
+is_safe Places is_seen = is_seen
+is_safe Json is_seen = true
+is_safe Csv is_seen = true
+is_safe (Template template) is_seen = true
+
+abbrev pub IsSafe : PrintOptions → Type 0
+IsSafe look = is_safe look.form look.is_seen ≡ true
+
+-- one of our colours, or none
+abbrev pub IsColor : List ℕ → Type 0
+IsColor color = (color ≡ []) ⊎ ((line : Line) × (color ≡ color_of line))
+
+-- what stands before a colour of ours, and a text after it: neither has a control character
+pub record IsCleanLine (bytes : List ℕ) : Type 0 where
+  pub front : List ℕ
+  pub color : List ℕ
+  pub text : List ℕ
+  pub clean_front : IsClean front
+  pub is_color : IsColor color
+  pub clean_text : IsClean text
+  pub made : bytes ≡ front ++ shown_line color false text
+
+-- nothing but such lines
+pub data AreCleanLines : List ℕ → Type 0 where
+  no_line : AreCleanLines []
+  one_more : (bytes line : List ℕ) → AreCleanLines bytes → IsCleanLine line → AreCleanLines (bytes ++ line)
+
+-- such lines stay such lines
+abbrev pub KeepsClean : {T E A : Type 0} → Result T E → Vec ℕ A → Vec ℕ A → Type 0
+KeepsClean result old new = AreCleanLines old.items → OnOk result (AreCleanLines new.items)
+
+-- a text without control characters after others
+pub record AddsClean (old new : List ℕ) : Type 0 where
+  pub text : List ℕ
+  pub clean : IsClean text
+  pub added : new ≡ old ++ text
+
+-- the number of a line after a file's name
+abbrev pub number_text : ℕ → Bool → List ℕ
+number_text number is_spaced = 58 ∷ decimal number ++ 58 ∷ (if is_spaced then 32 ∷ [] else [])

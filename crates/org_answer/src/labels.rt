@@ -1,0 +1,138 @@
+//! What a picture says of a row.
+
+use org_agenda::{Row, RowKind};
+use org_base::Fault;
+use org_cal::push_time;
+use org_inherit::{Heading, Inherits};
+use org_look::{Entry, Signs, Stand};
+use org_stamp::stamps_in;
+use std::alloc::{AllocError, Global};
+
+/// How rows are said: with their times and keywords or without, and by which signs.
+#[derive(Clone, Copy, Debug)]
+pub(crate) struct Wording {
+    pub has_time: bool,
+    pub has_keyword: bool,
+    pub signs: Signs,
+}
+
+/// The rows of a day as a picture has them.
+pub(crate) fn entries_of(
+    alloc: Global,
+    inherits: &Inherits<'_>,
+    rows: &[Row],
+    wording: &Wording,
+) -> Result<Vec<Entry>, Fault> {
+    let mut entries = Vec::new(alloc);
+    for row in rows {
+        let label = label_of(alloc, inherits, row, wording)?;
+        entries.push(Entry {
+            stand: stand_of(row),
+            label,
+        })?;
+    }
+    Ok(entries)
+}
+
+fn stand_of(row: &Row) -> Stand {
+    match row.kind {
+        RowKind::InRange => Stand::Range(row.number, row.of),
+        RowKind::LateSchedule | RowKind::LateDeadline => Stand::Late,
+        RowKind::Warning => Stand::Soon,
+        RowKind::Listed | RowKind::OnDay | RowKind::OnSchedule | RowKind::OnDeadline => Stand::Own,
+    }
+}
+
+/// The time of a row or its sign, then its keyword, its priority and its title.
+pub(crate) fn label_of(
+    alloc: Global,
+    inherits: &Inherits<'_>,
+    row: &Row,
+    wording: &Wording,
+) -> Result<String, Fault> {
+    let mut label = String::new(alloc);
+    let Some(heading) = Heading::find(inherits, row.file, row.heading) else {
+        return Ok(label);
+    };
+    if wording.has_time {
+        push_start(&mut label, row)?;
+    }
+    label.push_str(sign_of(row.kind, heading.is_done(), wording.signs))?;
+    if wording.has_keyword {
+        push_word(&mut label, heading.keyword())?;
+    }
+    if let Some(priority) = heading.priority() {
+        label.push_str("[#")?;
+        push_shown(&mut label, priority)?;
+        label.push_str("] ")?;
+    }
+    push_words(alloc, &mut label, heading.title())?;
+    Ok(label)
+}
+
+// Appends the time of a row, if it has one.
+fn push_start(label: &mut String, row: &Row) -> Result<(), AllocError> {
+    if let Some(start) = row.start {
+        push_time(label, start)?;
+        label.push(' ')?;
+    }
+    Ok(())
+}
+
+// What a planned row begins with, and one that is due.
+fn sign_of(kind: RowKind, is_done: bool, signs: Signs) -> &'static str {
+    match (kind, is_done, signs) {
+        (RowKind::OnDeadline | RowKind::OnSchedule, true, Signs::Drawn) => "✓ ",
+        (RowKind::OnDeadline | RowKind::OnSchedule, true, Signs::Ascii) => "x ",
+        (RowKind::OnDeadline, false, _) => "! ",
+        (RowKind::OnSchedule, false, Signs::Drawn) => "□ ",
+        (RowKind::OnSchedule, false, Signs::Ascii) => "o ",
+        _ => "",
+    }
+}
+
+fn push_word(label: &mut String, word: Option<&[u8]>) -> Result<(), AllocError> {
+    if let Some(word) = word {
+        push_shown(label, word)?;
+        label.push(' ')?;
+    }
+    Ok(())
+}
+
+// Appends the words of a title without its active stamps; a title that is nothing else whole.
+fn push_words(alloc: Global, label: &mut String, title: &[u8]) -> Result<(), AllocError> {
+    let kept = without_stamps(alloc, title)?;
+    if kept.iter().all(|byte| *byte == b' ') {
+        return push_shown(label, title);
+    }
+    push_shown(label, kept.as_slice())
+}
+
+// A title with a space in place of each active stamp.
+fn without_stamps(alloc: Global, title: &[u8]) -> Result<Vec<u8>, AllocError> {
+    let mut kept = Vec::new(alloc);
+    let mut from = 0;
+    for found in stamps_in(title) {
+        if found.stamp.active {
+            kept.extend_from_slice(title.get(from..found.at).unwrap_or(b""))?;
+            kept.push(b' ')?;
+            from = found.at.saturating_add(found.len);
+        }
+    }
+    kept.extend_from_slice(title.get(from..).unwrap_or(b""))?;
+    Ok(kept)
+}
+
+/// Appends a text of a file in words with one space between; a control character stands as U+FFFD.
+pub(crate) fn push_shown(label: &mut String, bytes: &[u8]) -> Result<(), AllocError> {
+    let text = str::from_utf8(bytes).unwrap_or("");
+    for (place, word) in text.split_ascii_whitespace().enumerate() {
+        if place > 0 {
+            label.push(' ')?;
+        }
+        for c in word.chars() {
+            label.push(if c.is_control() { '\u{fffd}' } else { c })?;
+        }
+    }
+    Ok(())
+}

@@ -1,0 +1,48 @@
+//! Answers to questions over files that were read, and the bytes that are printed of them.
+//!
+//! A [`Question`] is what is asked, in which profile, at which moment and of which headings; its [`Answer`] is the text of the
+//! view with what each of its lines stands for. Contracts say it by the definitions of agendas, lists and clock tables alone.
+//! Of an answer, [`answer_bytes`] makes what is printed in a [`Form`]: lines, lines with places, objects of JSON, fields between
+//! commas, or a template. Whatever stands in a file, no control character of it is printed where a terminal reads.
+//!
+//! Every call that allocates may be refused memory. Where it names no other refusal, that is its only one.
+//!
+//! ```
+//! let answer = answer(alloc, inherits, question)?;
+//! let lines = lines_within(answer.lines.as_slice(), look.limit);
+//! ```
+//!
+//! Lines of `orgq/src/session.rt`. Tests: worked cases `tests/orgq`.
+#![tactic(auto)]
+
+mod calendar;
+mod chart;
+mod clock_lines;
+mod expression;
+mod hours;
+mod ical;
+mod labels;
+mod limits;
+mod names;
+mod once_words;
+mod picture;
+mod query;
+mod rows_ahead;
+mod running_clocks;
+mod show;
+mod table;
+mod view;
+mod words;
+
+pub use calendar::{Calendar, Canvas, View};
+pub use clock_lines::clock_lines;
+pub use expression::read_expression;
+pub use hours::day_picture;
+pub use ical::{Ical, ical_of};
+pub use limits::lines_within;
+pub use picture::{Picture, calendar_picture};
+pub use query::{ClockQuery, Query, Question, answer, check};
+pub use running_clocks::{running_clocks, running_lines};
+pub use show::{Form, PrintOptions, answer_bytes, has_stamp, heading_of, picture_bytes, push_seen};
+pub use view::{Answer, Chosen, Days, match_list};
+pub use words::{WordKind, word_lines, words_of};

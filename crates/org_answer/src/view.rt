@@ -1,0 +1,148 @@
+//! The text of views, with what each of its lines stands for.
+ghost use Rattle.std.specs.Prelude.{◌+◌, ◌≤◌};
+ghost use Rattle.org_agenda.specs.Lists.{todo_listing, Matching};
+ghost use Rattle.org_base.specs.Results.{Gives, GivesItems};
+ghost use Rattle.org_cal.specs.declared.day.TheConstants.{LAST_DAY};
+ghost use Rattle.org_client.specs.Files.{AreRead};
+ghost use Rattle.org_answer.specs.Chosen.{ShowsDays, chosen_sources, over_chosen};
+ghost use Rattle.org_answer.specs.Views.{ShowsList, ShowsListing};
+
+use crate::limits::is_row;
+use org_agenda::{Agenda, AsOf, HeadingStamp, Row, match_rows, sources_of, todo_rows};
+use org_base::{Fault, Texts};
+use org_cal::{Day, LAST_DAY, Moment, Period};
+use org_client::matching_stamps;
+use org_inherit::Inherits;
+use org_layout::{Line, agenda_lines, agenda_text, list_lines, list_text};
+use org_match::Match;
+use std::alloc::Global;
+
+/// The text of a view, and what its lines stand for, one by one.
+#[derive(Debug, Drop)]
+pub struct Answer {
+    pub text: String,
+    pub lines: Vec<Line>,
+}
+
+impl Answer {
+    /// Whether a row has a line.
+    pub fn has_row(&self) -> bool {
+        self.lines.iter().any(is_row)
+    }
+}
+
+/// The list of the headings that have one of these keywords, or of none, one that isn't done.
+pub(crate) fn todo_list(
+    alloc: Global,
+    inherits: &Inherits<'_>,
+    words: &Texts,
+) -> Result<Answer, Fault>
+    requires read { AreRead inherits.now }
+    ensures value { ShowsListing result inherits.now (todo_listing words.now) }
+{
+    let rows = todo_rows(alloc, inherits, None, words)?;
+    list_answer(alloc, inherits, rows.as_slice())
+}
+
+/// The list of the headings of which an expression holds at a moment.
+pub fn match_list(
+    alloc: Global,
+    inherits: &Inherits<'_>,
+    expression: &Match,
+    moment: Moment,
+) -> Result<Answer, Fault>
+    requires read { AreRead inherits.now }
+    ensures value { ShowsListing result inherits.now (Matching expression.now moment) }
+{
+    let rows = match_rows(alloc, inherits, None, expression, moment)?;
+    list_answer(alloc, inherits, rows.as_slice())
+}
+
+fn list_answer(alloc: Global, inherits: &Inherits<'_>, rows: &[Row]) -> Result<Answer, Fault>
+    ensures { ShowsList result inherits.now rows.now }
+{
+    let mut text = String::new(alloc);
+    list_text(alloc, &mut text, rows, inherits)?;
+    let lines = list_lines(alloc, rows)?;
+    Ok(Answer { text, lines })
+}
+
+/// Days that are asked for, none of them past 9999-12-31.
+#[derive(Clone, Copy, Debug)]
+pub struct Days {
+    pub first: Day,
+    pub count: u32,
+    pub ghost within: { first + count ≤ LAST_DAY + 1 },
+}
+
+impl Days {
+    /// So many days from a first one on; none where they end past 9999-12-31.
+    pub fn new(first: Day, count: u32) -> Option<Days> {
+        if count > LAST_DAY || first.number() + count > LAST_DAY + 1 {
+            return None;
+        }
+        Some(Days { first, count })
+    }
+
+    /// The first and the last of them; the first where there are none.
+    pub fn period(&self) -> Period {
+        let last = u64::from(self.first.number()) + u64::from(self.count.saturating_sub(1));
+        Period {
+            first: self.first,
+            last: Day::of_number(last).unwrap_or(self.first),
+        }
+    }
+}
+
+/// Which stamps agendas look at: those of all headings that meet these expressions at a moment.
+#[derive(Clone, Copy, Debug)]
+pub struct Chosen<'a> {
+    pub as_of: AsOf,
+    pub expressions: &'a [Match],
+    pub moment: Moment,
+}
+
+/// The agenda of some days over the stamps that are chosen.
+pub(crate) fn agenda_days(
+    alloc: Global,
+    inherits: &Inherits<'_>,
+    chosen: &Chosen<'_>,
+    days: Days,
+) -> Result<Answer, Fault>
+    requires read { AreRead inherits.now }
+    ensures value { ShowsDays result inherits.now chosen.now days.first days.count }
+{
+    let agenda = agenda_over(alloc, inherits, chosen, days)?;
+    let mut text = String::new(alloc);
+    agenda_text(alloc, &mut text, inherits, &agenda)?;
+    let lines = agenda_lines(alloc, &agenda)?;
+    Ok(Answer { text, lines })
+}
+
+/// The agenda of some days over the stamps that are chosen, before it is shown.
+pub(crate) fn agenda_over(
+    alloc: Global,
+    inherits: &Inherits<'_>,
+    chosen: &Chosen<'_>,
+    days: Days,
+) -> Result<Agenda, Fault>
+    requires read { AreRead inherits.now }
+    ensures value { Gives result (over_chosen chosen.now inherits.now days.first days.count) }
+{
+    let as_of = &chosen.as_of;
+    let sources = chosen_sources(alloc, inherits, chosen)?;
+    Agenda::new(alloc, sources, as_of, days.first, days.count)
+}
+
+/// The stamps that are chosen, by file, by heading and by place.
+pub(crate) fn chosen_sources(
+    alloc: Global,
+    inherits: &Inherits<'_>,
+    chosen: &Chosen<'_>,
+) -> Result<Vec<HeadingStamp>, Fault>
+    requires read { AreRead inherits.now }
+    ensures value { GivesItems result (chosen_sources chosen.now inherits.now) }
+{
+    let sources = sources_of(alloc, inherits)?;
+    matching_stamps(alloc, inherits, sources, chosen.expressions, &chosen.moment)
+}

@@ -1,6 +1,0 @@
--- The lines so far are clean where they have to be.
-use Rattle.orgq.specs.Shown.{AreCleanLines, IsSafe}
-use Rattle.orgq.proofs.clocks.lines_of.Given as goal
-
-abbrev pub invariant-loop-clock : goal.invariant-loop-clock
-invariant-loop-clock g l = IsSafe l.look → AreCleanLines l.out.items

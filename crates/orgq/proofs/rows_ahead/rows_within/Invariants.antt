@@ -1,8 +1,0 @@
--- Those of the rows so far.
-use Rattle.std.proofs.Common.{◌≡◌, take}
-use Rattle.std.specs.Prelude.{filter}
-use Rattle.orgq.specs.Ahead.{begins_soon}
-use Rattle.orgq.proofs.rows_ahead.rows_within.Given as goal
-
-abbrev pub invariant-loop-upcoming : goal.invariant-loop-upcoming
-invariant-loop-upcoming l = l.rows.items ≡ filter (begins_soon l.now l.minutes) (take l.upcoming-index l.all)
