@@ -2,7 +2,8 @@
 # Runs the completions of bash, zsh and fish, each in its shell, and compares what they offer with what the program takes: behind
 # a minus the options that `--help` of the same command lists, and no others; as words its commands, days, keywords or tags;
 # behind an option the values that its line of `--help` names. Each day that is offered has to be taken by the program. What is
-# missing and what is too much fails. The man page has a section for each command, with each of its options. A shell that isn't installed is left out, and that is said. The last line counts.
+# missing and what is too much fails. The man page has a section for each command, with each of its options. A shell that isn't
+# installed is left out, and that is said. The last line counts.
 #     tests/completions.sh ORGQ [SHELL..]
 here=$(cd "$(dirname "$0")" && pwd)
 if [ ! -x "$1" ]; then
@@ -25,10 +26,10 @@ failed=0
 tab=$(printf '\t')
 
 # The options and the commands that the help of a command lists, and the values that it names behind an option.
-options_of() { orgq $1 --help | sed -n 's/^ *\(-[a-zA-Z]\), \(--[a-z-]*\).*/\1 \2/p; s/^ *\(--[a-z-]*\).*/\1/p' | tr '\n' ' '; }
-commands_of() { orgq $1 --help | awk '/^Commands:/ { on = 1; next } /^$/ { on = 0 } on && /^  [a-z]/ { print $1 }' | tr '\n' ' '; }
+options_of() { orgq $1 --help 2> /dev/null | sed -n 's/^ *\(-[a-zA-Z]\), \(--[a-z-]*\).*/\1 \2/p; s/^ *\(--[a-z-]*\).*/\1/p' | tr '\n' ' '; }
+commands_of() { orgq $1 --help 2> /dev/null | awk '/^Commands:/ { on = 1; next } /^$/ { on = 0 } on && /^  [a-z]/ { print $1 }' | tr '\n' ' '; }
 values_of() {
-    orgq $1 --help | sed -n "s/^ .*$2 <[^>]*> *//p" | sed -n 's/.*: \(.* or [a-z]*\)$/\1/p; s/.*, \([0-9]* or [0-9]*\)$/\1/p' | sed 's/,//g; s/ or / /'
+    orgq $1 --help 2> /dev/null | sed -n "s/^ .*$2 <[^>]*> *//p" | sed -n 's/.*: \(.* or [a-z]*\)$/\1/p; s/.*, \([0-9]* or [0-9]*\)$/\1/p' | sed 's/,//g; s/ or / /'
 }
 
 days="today tomorrow yesterday mon tue wed thu fri sat sun thisweek lastweek nextweek thismonth lastmonth nextmonth thisyear lastyear nextyear"
@@ -49,10 +50,10 @@ words_of() {
     echo "$below"
 }
 
-# Of the words for days those that a command takes.
+# Of the words for days those that a command takes. What is followed takes the same as once.
 taken_by() {
     for day in $days; do
-        orgq --at "2024-02-28 10:30" $1 "$day" > /dev/null 2>&1
+        orgq --at "2024-02-28 10:30" ${1#follow } "$day" > /dev/null 2>&1
         [ $? -eq 2 ] || printf '%s ' "$day"
     done
 }

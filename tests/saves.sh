@@ -4,9 +4,9 @@
 # cancel, which begins, ends or takes away the clock of that heading. Its status is to be 0 where the change stands there, and 5
 # where nothing was changed; of all but `append` also 3 where the file couldn't be read, and 4 where the change stands there and
 # output failed.
-# Modes, links, pipes, read-only and locked files, a read-only folder; each call on files failing with four errors, the program killed before each,
-# and another program writing in place before each (tests/save/shim.c); eight programs at once; a program killed at any time; a
-# device that is full, where one can be made. Nothing may be torn, and no line lost. The last line counts.
+# Modes, links, pipes, read-only and locked files, a read-only folder; each call on files failing with four errors, the program
+# killed before each, and another program writing in place before each (tests/save/shim.c); eight programs at once; a program
+# killed at any time; a device that is full, where one can be made. Nothing may be torn, and no line lost. The last line counts.
 # To see it bite, let `look_back` of org_save answer `Nothing` at once: then lines of the other program are lost and named.
 here=$(cd "$(dirname "$0")" && pwd)
 work=$(mktemp -d) || exit 2
