@@ -24,7 +24,7 @@ unset ORGQ_FILES NO_COLOR TZ TZDIR
 HOME=$work/home XDG_CONFIG_HOME=$work/home/config LC_ALL=C.UTF-8
 export HOME XDG_CONFIG_HOME LC_ALL
 mkdir -p "$HOME" "$work/orgq"
-python3 "$here/acts/make.py" "${2:-20240228}" "${3:-330}" "$work" || exit 2
+python3 "$here/acts/make.py" "${2:-7}" "${3:-330}" "$work" || exit 2
 if ! "$emacs" -Q --batch -l "$here/acts/acts.el" "$work" < /dev/null > "$work/said" 2>&1; then
     tail -5 "$work/said"
     echo "acts: Emacs ended with an error"

@@ -33,6 +33,7 @@ KINDS = {
     "first": "a delay of two minus signs goes where the stamp shifts",
     "plain": "repeated stamps of the text shift as well",
     "each": "each of several stamps behind one keyword shifts",
+    "comes": "a task comes again where any stamp of its entry repeats",
 }
 KINDS_OF_ACTS = {"schedule", "deadline", "in", "out", "done"}
 STAMP = r"[<\[]\d{4}-\d\d-\d\d[^>\]\n]*[>\]]"
@@ -228,6 +229,10 @@ def kinds_of_done(before, org, own):
     if org.lines == before.lines and re.match(r"\*+ DONE ", before.lines[0]):
         own.lines = org.lines
         return ["again"]
+    is_done_once = own.lines[0] != before.lines[0] and re.match(r"\*+ +DONE ", own.lines[0]) and own.lines[1:] == before.lines[1:]
+    if org.lines[0] == before.lines[0] and is_done_once and re.search(r"<[^>\n]* [.+]?\+\d+[hdwmy]", "\n".join(before.lines[1:])):
+        own.lines = org.lines
+        return ["comes"]
     if without_last_repeat(org.lines) != org.lines:
         kinds.append("last")
         org.lines = without_last_repeat(org.lines)
