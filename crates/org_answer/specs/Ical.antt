@@ -47,10 +47,11 @@ abbrev pub has_any : List ComponentText → Bool
 has_any [] = false
 has_any (component ∷ components) = true
 
--- components are written as a calendar that is made at a moment, unless it's refused
+-- components are written as a calendar that is made at a moment
 pub record IsIcal (moment : Moment) (components : List ComponentText) (ical : Ical) : Type 0 where
   pub bytes : ical.bytes.items ≡ written (calendar_at moment components)
   pub has : ical.has_component ≡ has_any components
 
-abbrev pub GivesIcal : {E : Type 0} → Result Ical E → Moment → List ComponentText → Type 0
-GivesIcal result moment components = IfOk result (IsIcal moment components)
+-- the first so many components of some days are, made at the moment that is asked
+abbrev pub GivesIcal : {E : Type 0} → Result Ical E → List Scope → Chosen → Days → Option ℕ → Type 0
+GivesIcal result scopes chosen days limit = IfOk result (IsIcal chosen.moment (shown_components scopes chosen days limit))

@@ -33,7 +33,7 @@ pub fn ical_of(
     limit: Option<u32>,
 ) -> Result<Ical, Fault>
     requires read { AreRead inherits.now }
-    ensures value { GivesIcal result chosen.now.moment (shown_components inherits.now chosen.now days limit) }
+    ensures value { GivesIcal result inherits.now chosen.now days limit }
 {
     let components = shown_components(alloc, inherits, chosen, days, limit)?;
     let has_component = has_any(components.as_slice());
