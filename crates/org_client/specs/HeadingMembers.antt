@@ -5,6 +5,7 @@ use Rattle.org_base.specs.Properties.{value_in}
 use Rattle.org_base.specs.Spans.{bytes_in}
 use Rattle.org_client.specs.Fields.{between}
 use Rattle.org_client.specs.Members.{flag_member_of, number_member_of, text_member_of, texts_member_of}
+use Rattle.org_client.specs.TitleWords.{title_words}
 use Rattle.org_drawer.specs.Effort.{effort_of}
 use Rattle.org_entry.specs.Keyword.{is_finished, keyword_in}
 use Rattle.org_entry.specs.Planning.{entry_planning}
@@ -33,11 +34,15 @@ abbrev pub priority_member : Option (List ℕ) → Option (List ℕ) → List �
 priority_member only None = []
 priority_member only (Some text) = text_member_of only (codes "priority") text
 
+-- a title, and its words
+abbrev pub title_members : Option (List ℕ) → List ℕ → List ℕ
+title_members only title = text_member_of only (codes "title") title ++ text_member_of only (codes "words") (title_words title)
+
 -- priority, title and tags
 abbrev pub head_members : Option (List ℕ) → Scope → ℕ → Entry → Head → List ℕ
 head_members only scope i e head =
     priority_member only (cookie_of e.text head)
-    ++ text_member_of only (codes "title") (bytes_in e.text head.title)
+    ++ title_members only (bytes_in e.text head.title)
     ++ texts_member_of only (codes "tags") (all_tags scope i)
 
 -- what a heading's line says

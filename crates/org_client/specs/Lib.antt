@@ -25,6 +25,7 @@ pub mod Reminders
 pub mod Report
 pub mod RowMembers
 pub mod TableFields
+pub mod TitleWords
 pub mod ViewRows
 pub mod Visible
 pub mod Components

@@ -2,10 +2,12 @@
 ghost use Rattle.std.specs.Prelude.{◌≡◌, ◌++◌, [], bytes_eq, decimal, option_copied, OnOk};
 ghost use Rattle.org_base.specs.Results.{Gives};
 ghost use Rattle.org_cal.specs.Texts.{date_text, time_text};
+ghost use Rattle.org_client.specs.HeadingMembers.{title_members};
 ghost use Rattle.org_client.specs.Json.{begun};
 ghost use Rattle.org_client.specs.Members.{MembersView, Puts, date_member, flag_member_of, is_asked, item_separator, number_member_of, text_member_of, texts_member_of, time_member};
 
 use crate::one_line::OneLine;
+use crate::title_words::title_words;
 use org_base::Texts;
 use org_cal::{Day, TimeOfDay, push_date, push_time};
 use std::alloc::{AllocError, Global};
@@ -84,6 +86,15 @@ impl<'a> Members<'a> {
             self.line.push_seen(text)?;
         }
         Ok(())
+    }
+
+    /// Puts a title, and its words.
+    pub fn title(&mut self, title: &[u8]) -> Result<(), AllocError>
+        ensures ok { Puts result self.old self.new (title_members self.old.only title.now) }
+    {
+        self.text("title", title)?;
+        let words = title_words(self.alloc, title)?;
+        self.text("words", words.as_slice())
     }
 
     /// Puts a member whose value is a number.

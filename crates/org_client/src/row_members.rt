@@ -241,7 +241,7 @@ fn put_head(to: &mut Members<'_>, heading: &Heading<'_, '_>) -> Result<(), Fault
     if let Some(priority) = heading.priority() {
         to.text("priority", priority)?;
     }
-    to.text("title", heading.title())?;
+    to.title(heading.title())?;
     let tags = heading.tags()?;
     to.texts("tags", &tags)?;
     Ok(())

@@ -12,7 +12,7 @@ use org_text::Text;
 use std::alloc::Global;
 
 /// The names of the members that rows have, but for `properties`.
-pub const MEMBERS: [&str; 30] = [
+pub const MEMBERS: [&str; 31] = [
     "kind",
     "day",
     "start",
@@ -32,6 +32,7 @@ pub const MEMBERS: [&str; 30] = [
     "done",
     "priority",
     "title",
+    "words",
     "tags",
     "scheduled",
     "deadline",

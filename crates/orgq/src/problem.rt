@@ -196,7 +196,7 @@ const NO_DATE: &str =
     "no such date; there are today, tomorrow, yesterday, mon to sun, such as +3d, -1w, +2m, 2024-02-28, and a time behind it, 9:30 or 9:30-10:15";
 
 const NO_FORMAT: &str =
-    "--format takes names of members in braces, and {{ and }} for braces; there are kind, day, start, end, days, day_of, days_in, file, line, byte, stamp, stamp_line, stamp_column, category, level, keyword, done, priority, title, tags, scheduled, deadline, closed, effort, path, from, to, clock, minutes, text";
+    "--format takes names of members in braces, and {{ and }} for braces; there are kind, day, start, end, days, day_of, days_in, file, line, byte, stamp, stamp_line, stamp_column, category, level, keyword, done, priority, title, words, tags, scheduled, deadline, closed, effort, path, from, to, clock, minutes, text";
 
 fn why_code(code: Code) -> &'static str {
     match code {
