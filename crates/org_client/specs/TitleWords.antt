@@ -23,10 +23,10 @@ gap true = 32 ∷ []
 gap false = []
 
 -- words with one space between any two: whether a word came before, and whether blanks did since
-abbrev pub spaced : Bool → Bool → List ℕ → List ℕ
-spaced has_word is_apart [] = []
-spaced has_word is_apart (byte ∷ bytes) =
-    if is_blank byte then spaced has_word true bytes else (gap (has_word && is_apart) ++ byte ∷ []) ++ spaced true false bytes
+abbrev pub words_text : Bool → Bool → List ℕ → List ℕ
+words_text has_word is_apart [] = []
+words_text has_word is_apart (byte ∷ bytes) =
+    if is_blank byte then words_text has_word true bytes else (gap (has_word && is_apart) ++ byte ∷ []) ++ words_text true false bytes
 
 -- a text that is nothing but stamps stands whole
 abbrev pub words_or : List ℕ → List ℕ → List ℕ
@@ -34,4 +34,4 @@ words_or text [] = text
 words_or text (byte ∷ bytes) = byte ∷ bytes
 
 abbrev pub title_words : List ℕ → List ℕ
-title_words title = words_or title (spaced false false (beside_stamps title 0 (stamps_of title)))
+title_words title = words_or title (words_text false false (beside_stamps title 0 (stamps_of title)))

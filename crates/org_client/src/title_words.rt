@@ -1,7 +1,7 @@
 //! The words of a title.
 ghost use Rattle.std.specs.Prelude.{◌≡◌, ◌+◌, ◌∷◌, [], ◌++◌, ◌≤◌, drop, length, IfOk, OnOk};
 ghost use Rattle.org_base.specs.Results.{Adds, GivesItems};
-ghost use Rattle.org_client.specs.TitleWords.{beside_stamps, gap, is_blank, part, spaced, title_words};
+ghost use Rattle.org_client.specs.TitleWords.{beside_stamps, gap, is_blank, part, words_text, title_words};
 ghost use Rattle.org_stamp.specs.Line.{stamps_of};
 
 use org_stamp::stamps_in;
@@ -12,7 +12,7 @@ pub fn title_words(alloc: Global, title: &[u8]) -> Result<Vec<u8>, AllocError>
     ensures value { GivesItems result (title_words title.now) }
 {
     let beside = beside_stamps(alloc, title)?;
-    let words = spaced(alloc, beside.as_slice())?;
+    let words = words_text(alloc, beside.as_slice())?;
     match words.as_slice() {
         [] => Vec::from_slice(alloc, title),
         _ => Ok(words),
@@ -66,8 +66,8 @@ fn behind(title: &[u8], from: usize) -> &[u8]
 }
 
 // Words with one space between any two.
-fn spaced(alloc: Global, bytes: &[u8]) -> Result<Vec<u8>, AllocError>
-    ensures value { GivesItems result (spaced false false bytes.now) }
+fn words_text(alloc: Global, bytes: &[u8]) -> Result<Vec<u8>, AllocError>
+    ensures value { GivesItems result (words_text false false bytes.now) }
 {
     let mut out = Vec::new(alloc);
     let mut has_word = false;
