@@ -3,9 +3,9 @@
 use org_agenda::{Row, RowKind};
 use org_base::Fault;
 use org_cal::push_time;
+use org_client::title_words;
 use org_inherit::{Heading, Inherits};
 use org_look::{Entry, Signs, Stand};
-use org_stamp::stamps_in;
 use std::alloc::{AllocError, Global};
 
 /// How rows are said: with their times and keywords or without, and by which signs.
@@ -66,7 +66,8 @@ pub(crate) fn label_of(
         push_shown(&mut label, priority)?;
         label.push_str("] ")?;
     }
-    push_words(alloc, &mut label, heading.title())?;
+    let words = title_words(alloc, heading.title())?;
+    push_shown(&mut label, words.as_slice())?;
     Ok(label)
 }
 
@@ -97,30 +98,6 @@ fn push_word(label: &mut String, word: Option<&[u8]>) -> Result<(), AllocError> 
         label.push(' ')?;
     }
     Ok(())
-}
-
-// Appends the words of a title without its active stamps; a title that is nothing else whole.
-fn push_words(alloc: Global, label: &mut String, title: &[u8]) -> Result<(), AllocError> {
-    let kept = without_stamps(alloc, title)?;
-    if kept.iter().all(|byte| *byte == b' ') {
-        return push_shown(label, title);
-    }
-    push_shown(label, kept.as_slice())
-}
-
-// A title with a space in place of each active stamp.
-fn without_stamps(alloc: Global, title: &[u8]) -> Result<Vec<u8>, AllocError> {
-    let mut kept = Vec::new(alloc);
-    let mut from = 0;
-    for found in stamps_in(title) {
-        if found.stamp.active {
-            kept.extend_from_slice(title.get(from..found.at).unwrap_or(b""))?;
-            kept.push(b' ')?;
-            from = found.at.saturating_add(found.len);
-        }
-    }
-    kept.extend_from_slice(title.get(from..).unwrap_or(b""))?;
-    Ok(kept)
 }
 
 /// Appends a text of a file in words with one space between; a control character stands as U+FFFD.
