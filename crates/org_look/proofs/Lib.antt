@@ -5,4 +5,5 @@ pub mod LineLemmas
 pub mod EntryLemmas
 pub mod LaneLemmas
 pub mod BarLemmas
+pub mod RangeLemmas
 pub mod CellLemmas

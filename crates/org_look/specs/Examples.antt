@@ -5,6 +5,7 @@ use Rattle.org_look.specs.Cells.{content_of}
 use Rattle.org_look.specs.Cuts.{cut_text, filled_text}
 use Rattle.org_look.specs.Entries.{left_count, shown_count}
 use Rattle.org_look.specs.Hours.{last_half}
+use Rattle.org_look.specs.Ranges.{bar_if, range_bar}
 use Rattle.org_look.specs.declared.cell.Content.TheVariants.{Blank, Note, Others, Row}
 use Rattle.org_look.specs.declared.sign.Signs.TheVariants.{Ascii}
 
@@ -31,6 +32,9 @@ pub record ExamplesHold : Type 0 where
   pub second : content_of (record { lanes = 1; shown = 2; left = 5; notes = 2; height = 6 }) 2 ≡ Row 1
   pub count : content_of (record { lanes = 1; shown = 2; left = 5; notes = 2; height = 6 }) 3 ≡ Others
   pub foot : content_of (record { lanes = 1; shown = 2; left = 5; notes = 2; height = 6 }) 5 ≡ Note 1
+  -- a range of seven days that begins on a Friday has three of them in its first week; its later days there have no bar
+  pub range_goes_on : range_bar 4 1 7 (codes "Trip") ≡ record { first = 4; last = 6; is_begun = false; goes_on = true; label = codes "Trip" }
+  pub seen_before : bar_if 4 2 3 5 (codes "Trip") ≡ []
   -- from 9 to 11 o'clock, to half past 9, without an end, and with one that isn't later
   pub two_hours : last_half 540 (Some 660) ≡ 21
   pub half_an_hour : last_half 540 (Some 570) ≡ 18

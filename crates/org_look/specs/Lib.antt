@@ -9,6 +9,7 @@ pub mod Bars
 pub mod Cells
 pub mod Grids
 pub mod Weeks
+pub mod Ranges
 pub mod Examples
 pub mod Gives
 pub mod Drawn

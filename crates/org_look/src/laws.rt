@@ -4,6 +4,7 @@ ghost use Rattle.org_look.specs.Cells.{OthersHaveALine, RowsHaveLines};
 ghost use Rattle.org_look.specs.Cuts.{FilledIsWide, WholeStands};
 ghost use Rattle.org_look.specs.Entries.{AllAreCounted, CellsFit, CellsHoldRows};
 ghost use Rattle.org_look.specs.Examples.{ExamplesHold};
+ghost use Rattle.org_look.specs.Ranges.{RangesHaveOneBar, SeenHaveNoBar};
 ghost use Rattle.org_look.specs.Signs.{SignsAreColumns};
 ghost use Rattle.org_look.specs.Strips.{LinesAddUp};
 
@@ -54,6 +55,18 @@ pub fn cells_fit()
 #[tactic(auto, using(crate::proofs::BarLemmas::bars_are_wide))]
 pub fn bars_are_wide()
     ensures { BarsAreWide }
+{}
+
+/// A range has one bar in a week, from the first of its days that the week sees to the last one.
+#[tactic(auto, using(crate::proofs::RangeLemmas::ranges_have_one_bar))]
+pub fn ranges_have_one_bar()
+    ensures { RangesHaveOneBar }
+{}
+
+/// A range that a week saw on an earlier day has no second bar.
+#[tactic(auto, using(crate::proofs::RangeLemmas::seen_have_no_bar))]
+pub fn seen_have_no_bar()
+    ensures { SeenHaveNoBar }
 {}
 
 /// Each row that a cell shows has a line of its own, in order.

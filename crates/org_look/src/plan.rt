@@ -1,5 +1,7 @@
 //! Weeks of rows: which bars lie in which lanes, and what each cell shows.
-ghost use Rattle.std.specs.Prelude.{◌≡◌, ◌<◌, ◌-◌, IfOk, vec_len};
+ghost use Rattle.std.specs.Prelude.{◌≡◌, ◌<◌, ◌-◌, IfOk, map, vec_len};
+ghost use Rattle.std.specs.List.{flat_map};
+ghost use Rattle.org_look.specs.Ranges.{AddsBars, bar_of, bars_for, bars_from, day_bars, entry_bars};
 ghost use Rattle.org_look.specs.Weeks.{HoldsRows, LiesApart, spans_of};
 
 use crate::cell::{Cell, Shape};
@@ -57,28 +59,63 @@ fn spans_of(alloc: Global, bars: &[Bar]) -> Result<Vec<Span>, AllocError>
 }
 
 // The bars of a week: those that begin earlier first, of those that begin on one day the longer ones.
-fn bars_of(alloc: Global, days: &[GridDay]) -> Result<Vec<Bar>, AllocError> {
+fn bars_of(alloc: Global, days: &[GridDay]) -> Result<Vec<Bar>, AllocError>
+    ensures value { IfOk result (λ bars. map bar_of bars.items ≡ bars_from 0 days.now) }
+{
     let mut bars = Vec::new(alloc);
     for (column, day) in days.iter().enumerate() {
         if column < 7 {
-            push_day_bars(alloc, &mut bars, day, column)?;
+            push_day_bars(alloc, &mut bars, day.entries.as_slice(), column)?;
         }
     }
     Ok(bars)
 }
 
+// How many days a bar may take besides its first, the longest first.
+const LENGTHS: [usize; 7] = [6, 5, 4, 3, 2, 1, 0];
+
+// Appends the bars that begin on a day with these rows.
 fn push_day_bars(
     alloc: Global,
     bars: &mut Vec<Bar>,
-    day: &GridDay,
+    entries: &[Entry],
     column: usize,
 ) -> Result<(), AllocError>
     requires day { column < 7 }
+    ensures ok { AddsBars result bars.old bars.new (day_bars column entries.now) }
 {
-    for shorter in 0..7 {
-        for entry in &day.entries {
-            push_bar(alloc, bars, entry, column, 6 - shorter)?;
-        }
+    push_lengths(alloc, bars, entries, column, &LENGTHS)
+}
+
+// The same of those that take so many days besides it, one number after the other.
+fn push_lengths(
+    alloc: Global,
+    bars: &mut Vec<Bar>,
+    entries: &[Entry],
+    column: usize,
+    lengths: &[usize],
+) -> Result<(), AllocError>
+    requires day { column < 7 }
+    ensures ok { AddsBars result bars.old bars.new (flat_map (bars_for column entries.now) lengths.now) }
+{
+    for more in lengths {
+        push_bars(alloc, bars, entries, column, *more)?;
+    }
+    Ok(())
+}
+
+fn push_bars(
+    alloc: Global,
+    bars: &mut Vec<Bar>,
+    entries: &[Entry],
+    column: usize,
+    more: usize,
+) -> Result<(), AllocError>
+    requires day { column < 7 }
+    ensures ok { AddsBars result bars.old bars.new (bars_for column entries.now more) }
+{
+    for entry in entries {
+        push_bar(alloc, bars, entry, column, more)?;
     }
     Ok(())
 }
@@ -92,6 +129,7 @@ fn push_bar(
     more: usize,
 ) -> Result<(), AllocError>
     requires day { column < 7 }
+    ensures ok { AddsBars result bars.old bars.new (entry_bars column more entry.now) }
 {
     let Stand::Range(day, of) = entry.stand else {
         return Ok(());
