@@ -1,7 +1,7 @@
 -- Bars of ranges.
-use Rattle.std.proofs.Common.{◌≡◌, ℕ, zero, suc, ◌+◌, ◌-◌, ◌≤◌, ◌==◌, Bool, true, false, cond, List, [], ◌∷◌, refl, sym, subst, min, arith}
+use Rattle.std.proofs.Common.{◌≡◌, ℕ, zero, suc, ◌-◌, ◌≤◌, ◌==◌, cond, [], ◌∷◌, refl, sym, subst, arith}
 use Rattle.std.specs.List.{flat_map}
-use Rattle.org_look.specs.Ranges.{BarText, RangesHaveOneBar, SeenHaveNoBar, bar_if, is_seen, last_day, lengths, range_bar}
+use Rattle.org_look.specs.Ranges.{BarText, RangesHaveOneBar, SeenHaveNoBar, last_day, lengths, range_bar}
 
 -- of the lengths up to six just one is a number up to six
 one_length : (bar : BarText) (d : ℕ) → d ≤ 6 → flat_map (λ more. cond (d == more) (bar ∷ []) []) lengths ≡ bar ∷ []
@@ -12,7 +12,7 @@ one_length bar (suc (suc (suc zero))) le = refl
 one_length bar (suc (suc (suc (suc zero)))) le = refl
 one_length bar (suc (suc (suc (suc (suc zero))))) le = refl
 one_length bar (suc (suc (suc (suc (suc (suc zero)))))) le = refl
-one_length bar (suc (suc (suc (suc (suc (suc (suc d))))))) le = omega (arith, le)
+one_length bar (suc (suc (suc (suc (suc (suc (suc d))))))) le = absurd (omega (arith, le))
 
 few : (column ahead : ℕ) → last_day column ahead - column ≤ 6
 few column ahead = omega (arith)

@@ -1,5 +1,5 @@
 -- Which bars the ranges of a week have: one for each range, from the first day of it that the week sees.
-use Rattle.std.specs.Prelude.{◌≡◌, ◌≢◌, ℕ, ◌+◌, ◌-◌, ◌≤◌, ◌==◌, ◌&&◌, Bool, true, false, nat_lt, if◌then◌else◌, min, List, [], ◌∷◌, ◌++◌, Result, OnOk, Vec, map}
+use Rattle.std.specs.Prelude.{◌≡◌, ℕ, ◌+◌, ◌-◌, ◌≤◌, ◌==◌, ◌&&◌, Bool, true, false, nat_lt, if◌then◌else◌, min, List, [], ◌∷◌, ◌++◌, Result, OnOk, Vec, map}
 use Rattle.std.specs.List.{flat_map}
 use Rattle.std.specs.String.{string_bytes}
 use Rattle.org_look.specs.declared.day.GridDay.{GridDay}
@@ -50,13 +50,17 @@ entry_bars column more entry = elim entry.stand as (λ _. List BarText) [ Own �
 abbrev pub bars_for : ℕ → List Entry → ℕ → List BarText
 bars_for column entries more = flat_map (λ entry. entry_bars column more entry) entries
 
+-- the same of each of some numbers, in their order
+abbrev pub bars_of_lengths : ℕ → List Entry → List ℕ → List BarText
+bars_of_lengths column entries numbers = flat_map (bars_for column entries) numbers
+
 -- the days that a bar may take besides its first, the longest first
 abbrev pub lengths : List ℕ
 lengths = 6 ∷ 5 ∷ 4 ∷ 3 ∷ 2 ∷ 1 ∷ 0 ∷ []
 
 -- the bars that begin on a day of the week: longer ones first
 abbrev pub day_bars : ℕ → List Entry → List BarText
-day_bars column entries = flat_map (bars_for column entries) lengths
+day_bars column entries = bars_of_lengths column entries lengths
 
 -- those of a week from a day on
 abbrev pub bars_from : ℕ → List GridDay → List BarText

@@ -1,7 +1,6 @@
 //! Weeks of rows: which bars lie in which lanes, and what each cell shows.
 ghost use Rattle.std.specs.Prelude.{◌≡◌, ◌<◌, ◌-◌, IfOk, map, vec_len};
-ghost use Rattle.std.specs.List.{flat_map};
-ghost use Rattle.org_look.specs.Ranges.{AddsBars, bar_of, bars_for, bars_from, day_bars, entry_bars};
+ghost use Rattle.org_look.specs.Ranges.{AddsBars, bar_of, bars_for, bars_from, bars_of_lengths, day_bars, entry_bars};
 ghost use Rattle.org_look.specs.Weeks.{HoldsRows, LiesApart, spans_of};
 
 use crate::cell::{Cell, Shape};
@@ -96,7 +95,7 @@ fn push_lengths(
     lengths: &[usize],
 ) -> Result<(), AllocError>
     requires day { column < 7 }
-    ensures ok { AddsBars result bars.old bars.new (flat_map (bars_for column entries.now) lengths.now) }
+    ensures ok { AddsBars result bars.old bars.new (bars_of_lengths column entries.now lengths.now) }
 {
     for more in lengths {
         push_bars(alloc, bars, entries, column, *more)?;
