@@ -5,7 +5,7 @@ use Rattle.std.specs.List.{concat, list_all}
 use Rattle.std.specs.Option.{option_and_then, option_map}
 use Rattle.std.proofs.lemmas.Bool.{and_parts, cases_Bool, eqb-true}
 use Rattle.std.proofs.lemmas.Slice.Eq.{bytes_eq-Decides}
-use Rattle.org_amend.specs.Entries.{are_below, are_of_entry, entry_text, is_body_class, is_entry, is_planned, joined, planning_line, with_body, with_date, with_dates, with_head, with_planning}
+use Rattle.org_amend.specs.Entries.{are_below, are_of_entry, entry_text, has_drawer, is_body_class, is_entry, is_planned, joined, planning_line, with_body, with_date, with_dates, with_head, with_planning}
 use Rattle.org_amend.specs.EntryLaws.{EntriesAreReadBack, HeadsAreReadBack, IsDateOrNone, IsOfDate, SaysDates, SaysHead}
 use Rattle.org_amend.specs.Heads.{HeadWords, head_line, head_text, if_none_lost, is_line_of, lost_of, lost_part, read_back, same_cookie, same_part, same_parts, same_title, words_of}
 use Rattle.org_amend.specs.Planning.{has_feed}
@@ -228,6 +228,7 @@ record IsEntry (b : Bool) (text : List ℕ) : Type 0 where
   pub ends : has_feed text ≡ true
   pub one : sections text ≡ text ∷ []
   pub classes_are : are_of_entry b (section_classes text) ≡ true
+  pub no_drawer : has_drawer text (section_classes text) ≡ false
 
 tested : (b : Bool) (text : List ℕ) → is_entry b text ≡ true → IsEntry b text
 unfolding is_entry
@@ -235,8 +236,15 @@ tested b text h =
     let one = and_parts (nat_le (length text) max_bytes) _ h in
     let two = and_parts (begins_heading text) _ one.1 in
     let three = and_parts (has_feed text) _ two.1 in
-    let four = and_parts (length (sections text) == 1) (are_of_entry b (section_classes text)) three.1 in
-    record { begins = two.0; ends = three.0; one = only text (sections text) (concat-sections text) (eqb-true (length (sections text)) 1 four.0); classes_are = four.1 }
+    let four = and_parts (length (sections text) == 1) _ three.1 in
+    let five = and_parts (are_of_entry b (section_classes text)) (not (has_drawer text (section_classes text))) four.1 in
+    record {
+      begins = two.0;
+      ends = three.0;
+      one = only text (sections text) (concat-sections text) (eqb-true (length (sections text)) 1 four.0);
+      classes_are = five.0;
+      no_drawer = not_is (has_drawer text (section_classes text)) five.1;
+    }
 
 record Joined (line planning body text : List ℕ) : Type 0 where
   pub is : text ≡ joined line planning body
@@ -295,4 +303,5 @@ entries_are_read_back settings entry end text s d e =
       one = j.entry.one;
       classes_are = j.entry.classes_are;
       no_settings = no_settings (is_planned h.dated.planning) (lines text) (section_classes text) j.entry.classes_are;
+      no_drawer = j.entry.no_drawer;
     }

@@ -1,16 +1,18 @@
 -- What is found of a section lies in it.
-use Rattle.std.proofs.Common.{◌≡◌, ◌≤◌, ◌<◌, ℕ, ◌+◌, ◌&&◌, List, [], ◌∷◌, ◌++◌, length, sym, ap, subst, ◌∙◌, arith, length-append}
-use Rattle.std.specs.Prelude.{Option, Some, None, IfSome, Result, Ok, Err, IfOk, if◌then◌else◌, is_some, slice_get}
+use Rattle.std.proofs.Common.{◌≡◌, ◌≤◌, ◌<◌, ℕ, ◌+◌, List, [], ◌∷◌, ◌++◌, length, refl, sym, ap, subst, ◌∙◌, arith, length-append}
+use Rattle.std.specs.Prelude.{Option, Some, None, IfSome, Result, Ok, Err, IfOk, slice_get}
 use Rattle.std.specs.List.{concat}
 use Rattle.std.proofs.lemmas.Bool.{cond_both}
 use Rattle.std.proofs.lemmas.List.Folds.{concat-append}
 use Rattle.org_amend.specs.Cancelled.{closing_len}
-use Rattle.org_amend.specs.Clocks.{first_running, running_in, stamp_end}
+use Rattle.org_amend.specs.Clocks.{running_in, stamp_end}
 use Rattle.org_amend.specs.Laws.{IsFirst}
-use Rattle.org_amend.specs.Places.{clock_place, front_end, front_in, is_front, is_logbook, logbook_from, logbook_in, opened, or_opened, place_at, place_of}
-use Rattle.org_amend.specs.Within.{EndsIn, IsWithin}
+use Rattle.org_amend.specs.Places.{clock_place, front_end, front_in, is_front, logbook_in, place_at, place_of}
+use Rattle.org_amend.specs.Within.{IsWithin, LiesInside}
 use Rattle.org_amend.specs.declared.place.ClockPlace.{ClockPlace}
+use Rattle.org_amend.specs.declared.place.DrawerName.TheVariants.{Logbook}
 use Rattle.org_amend.specs.declared.running.RunningClock.{RunningClock}
+use Rattle.org_amend.proofs.DrawerLemmas.{found_within}
 use Rattle.org_amend.proofs.EndLemmas.{stamp_end_within}
 use Rattle.org_amend.proofs.RunningLemmas.{found_clocks_run}
 use Rattle.org_base.specs.Results.{Gives}
@@ -18,7 +20,6 @@ use Rattle.org_base.specs.Spans.{bytes_in}
 use Rattle.org_base.specs.declared.span.Span.{Span}
 use Rattle.org_class.specs.Drawers.{is_drawer_end}
 use Rattle.org_class.specs.declared.class.Class.{Class}
-use Rattle.org_class.specs.declared.class.Class.TheVariants.{Heading, Planning, DrawerOpen, Node, DrawerEnd, Clock, Setting, Comment, BlockOpen, Verbatim, BlockEnd, Plain}
 use Rattle.org_lines.specs.Cuts.{lines_in}
 use Rattle.org_lines.proofs.LineLemmas.{concat-lines, length_range}
 
@@ -36,61 +37,22 @@ front_ends cs place at end (l ∷ ls) h =
     (λ _. front_ends cs (place + 1) (at + length l) end ls (omega (arith, length-append l (concat ls))))
     (λ _. omega arith)
 
--- a drawer's opening line ends at a place, if there is one
-abbrev EndsBy : Option Span → ℕ → Type 0
-EndsBy found end = IfSome found (λ line. line.at + line.len ≤ end)
-
-later_ends : (found : Option Span) (at more : ℕ) → EndsBy found at → EndsBy found (at + more)
-later_ends None at more h = tt
-later_ends (Some line) at more h = omega arith
-
-opened_by : (class : Option Class) (at : ℕ) (l : List ℕ) → EndsBy (opened class at l) (at + length l)
-opened_by None at l = tt
-opened_by (Some Plain) at l = cond_both (is_logbook l) (Some (record { at = at; len = length l })) None (λ found. EndsBy found (at + length l)) (λ _. omega arith) (λ _. tt)
-opened_by (Some Heading) at l = tt
-opened_by (Some Planning) at l = tt
-opened_by (Some DrawerOpen) at l = tt
-opened_by (Some Node) at l = tt
-opened_by (Some DrawerEnd) at l = tt
-opened_by (Some Clock) at l = tt
-opened_by (Some Setting) at l = tt
-opened_by (Some Comment) at l = tt
-opened_by (Some BlockOpen) at l = tt
-opened_by (Some Verbatim) at l = tt
-opened_by (Some BlockEnd) at l = tt
-
-or_opened_by : (found : Option Span) (class : Option Class) (at : ℕ) (l : List ℕ) → EndsBy found at → EndsBy (or_opened found class at l) (at + length l)
-or_opened_by None class at l h = opened_by class at l
-or_opened_by (Some line) class at l h = omega arith
-
-by_limit : (found : Option Span) (at end : ℕ) → EndsBy found at → at ≤ end → EndsBy found end
-by_limit None at end h le = tt
-by_limit (Some line) at end h le = omega arith
-
-logbook_ends : (found : Option Span) (cs : List Class) (place at end : ℕ) (ls : List (List ℕ)) → EndsBy found at → EndBy at ls end → EndsBy (logbook_from found cs place at ls) end
-unfolding logbook_from
-logbook_ends found cs place at end [] h e = tt
-logbook_ends found cs place at end (l ∷ ls) h e =
-    cond_both (is_some found && is_drawer_end l) found (logbook_from (or_opened found (slice_get cs place) at l) cs (place + 1) (at + length l) ls) (λ d. EndsBy d end)
-    (λ _. by_limit found at end h (omega arith))
-    (λ _. logbook_ends (or_opened found (slice_get cs place) at l) cs (place + 1) (at + length l) end ls (or_opened_by found (slice_get cs place) at l h) (omega (arith, length-append l (concat ls))))
-
 -- the lines of a section end where it does
 lines_end : (text : List ℕ) (section : Span) → section.at + section.len ≤ length text → EndBy section.at (lines_in text section) (section.at + section.len)
 lines_end text section h =
     let long : length (concat (lines_in text section)) ≡ section.len = ap length (concat-lines (bytes_in text section)) ∙ length_range text section.at section.len h in
     omega (arith, long)
 
-pub logbook_within : (text : List ℕ) (section : Span) (cs : List Class) → section.at + section.len ≤ length text → EndsIn section (logbook_in text section cs)
-logbook_within text section cs h = logbook_ends None cs 0 section.at (section.at + section.len) (lines_in text section) tt (lines_end text section h)
+pub logbook_within : (text : List ℕ) (section : Span) (cs : List Class) → section.at + section.len ≤ length text → LiesInside section (logbook_in text section cs)
+logbook_within text section cs h = found_within Logbook cs 0 section (lines_in text section) (logbook_in text section cs) (lines_end text section h) refl
 
-place_within : (found : Option Span) (front end : ℕ) → EndsBy found end → front ≤ end → place_at (place_of found front) ≤ end
-place_within None front end h le = le
-place_within (Some line) front end h le = h
+place_within : (section : Span) (found : Option Span) (front : ℕ) → LiesInside section found → front ≤ section.at + section.len → place_at (place_of found front) ≤ section.at + section.len
+place_within section None front h le = le
+place_within section (Some line) front h le = h.1
 
 pub clock_place_within : (text : List ℕ) (section : Span) (cs : List Class) → section.at + section.len ≤ length text → place_at (clock_place text section cs) ≤ section.at + section.len
 clock_place_within text section cs h =
-    place_within (logbook_in text section cs) (front_in text section cs) (section.at + section.len) (logbook_within text section cs h)
+    place_within section (logbook_in text section cs) (front_in text section cs) (logbook_within text section cs h)
     (front_ends cs 0 section.at (section.at + section.len) (lines_in text section) (lines_end text section h))
 
 -- the first running clock
@@ -126,9 +88,9 @@ clock_found section clock (Ok (Some r)) h e = h r (sym e)
 clock_found section clock (Err why) h e = tt
 
 -- a drawer that is found ends before a limit
-pub drawer_found : (section : Span) (wanted found : Option Span) (limit : ℕ) → EndsIn section wanted → section.at + section.len < limit → found ≡ wanted → IfSome found (λ line. line.at + line.len < limit)
-drawer_found section wanted None limit h le e = tt
-drawer_found section wanted (Some line) limit h le e = let ends : EndsIn section (Some line) = subst (EndsIn section) (sym e) h in omega arith
+pub drawer_ends : (section : Span) (wanted found : Option Span) (limit : ℕ) → LiesInside section wanted → section.at + section.len < limit → found ≡ wanted → IfSome found (λ line. line.at + line.len < limit)
+drawer_ends section wanted None limit h le e = tt
+drawer_ends section wanted (Some line) limit h le e = let inside : LiesInside section (Some line) = subst (LiesInside section) (sym e) h in omega (arith, inside.1)
 
 -- the end of a drawer is no longer than what stands there
 closing_short : (ls : List (List ℕ)) → closing_len ls ≤ length (concat ls)

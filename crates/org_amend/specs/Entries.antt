@@ -1,19 +1,23 @@
 -- The lines of a new heading: its own, its planning line and its body (Org Syntax, "Sections"). What is written is read back:
 -- lines that would be read as something else are none.
-use Rattle.std.specs.Prelude.{ℕ, Bool, true, false, ◌&&◌, not, ◌==◌, nat_le, if◌then◌else◌, List, [], ◌∷◌, ◌++◌, length, Option, Some, None, Result, Ok, Err, codes}
+use Rattle.std.specs.Prelude.{ℕ, Bool, true, false, ◌&&◌, not, ◌==◌, nat_le, if◌then◌else◌, List, [], ◌∷◌, ◌++◌, length, Option, Some, None, is_some, Result, Ok, Err, codes}
 use Rattle.std.specs.List.{list_all}
 use Rattle.std.specs.Option.{option_and_then}
 use Rattle.org_amend.specs.Heads.{head_line, words_of}
+use Rattle.org_amend.specs.Places.{drawer_from}
 use Rattle.org_amend.specs.Planning.{dated_line, has_feed}
 use Rattle.org_amend.specs.declared.entry.NewEntry.{NewEntry}
 use Rattle.org_amend.specs.declared.head.Unreadable.{Unreadable}
 use Rattle.org_amend.specs.declared.head.Unreadable.TheVariants.{Body, Dates}
+use Rattle.org_amend.specs.declared.place.DrawerName.TheVariants.{Any}
 use Rattle.org_amend.specs.declared.typed.TypedDate.{TypedDate}
+use Rattle.org_base.specs.declared.span.Span.{Span}
 use Rattle.org_class.specs.Classes.{section_classes}
 use Rattle.org_class.specs.Heading.{begins_heading}
 use Rattle.org_class.specs.Sections.{sections}
 use Rattle.org_class.specs.declared.class.Class.{Class}
 use Rattle.org_class.specs.declared.class.Class.TheVariants.{Heading, Planning, Comment, BlockOpen, Verbatim, BlockEnd, Plain}
+use Rattle.org_lines.specs.Cuts.{lines}
 use Rattle.org_settings.specs.Settings.{FileSettings}
 use Rattle.org_stamp.specs.declared.pair.PlanningKeyword.{PlanningKeyword}
 use Rattle.org_stamp.specs.declared.pair.PlanningKeyword.TheVariants.{Deadline, Scheduled}
@@ -52,9 +56,21 @@ abbrev pub are_of_entry : Bool → List Class → Bool
 are_of_entry is_planned (Heading ∷ cs) = are_below is_planned cs
 are_of_entry is_planned cs = false
 
+-- the part that is all of a text
+abbrev pub whole_of : List ℕ → Span
+whole_of text = record { at = 0; len = length text }
+
+-- a drawer stands among the lines
+abbrev pub has_drawer : List ℕ → List Class → Bool
+has_drawer entry cs = is_some (drawer_from Any None cs 0 0 (lines entry))
+
+-- the lines have the classes of an entry's, and no drawer stands among them
+abbrev pub says_no_more : Bool → List ℕ → List Class → Bool
+says_no_more has_planning entry cs = are_of_entry has_planning cs && not (has_drawer entry cs)
+
 -- the lines are one section, and say no more than a heading, its planning and text
 abbrev pub is_section : Bool → List ℕ → Bool
-is_section has_planning entry = (length (sections entry) == 1) && are_of_entry has_planning (section_classes entry)
+is_section has_planning entry = (length (sections entry) == 1) && says_no_more has_planning entry (section_classes entry)
 
 -- the lines begin with a heading and end with a line feed, and are such a section and not too long
 unfoldable pub is_entry : Bool → List ℕ → Bool

@@ -1,7 +1,7 @@
 -- Laws of the lines of a new heading (Org Syntax, "Headings"; "Planning").
 use Rattle.std.specs.Prelude.{◌≡◌, ℕ, true, false, List, [], ◌∷◌, ◌++◌, map, Option, Some, None, Ok}
 use Rattle.std.specs.Option.{option_map}
-use Rattle.org_amend.specs.Entries.{are_of_entry, entry_text, is_planned, whole_body}
+use Rattle.org_amend.specs.Entries.{are_of_entry, entry_text, has_drawer, is_planned, whole_body}
 use Rattle.org_amend.specs.Heads.{HeadWords, head_line, head_text, words_of}
 use Rattle.org_amend.specs.Planning.{has_feed}
 use Rattle.org_amend.specs.PlanningLaws.{IsDate, IsStampOf, said}
@@ -49,7 +49,7 @@ IsDateOrNone None = Unit {0}
 IsDateOrNone (Some date) = IsDate date
 
 -- lines are read, in a file with these settings, as one heading with these words, these dates and this body, whose lines are
--- text, comments and blocks; none of them is a setting
+-- text, comments and blocks; none of them is a setting, and no drawer stands among them
 pub record IsReadAs (settings : FileSettings) (entry : NewEntry) (text : List ℕ) : Type 0 where
   pub line : List ℕ
   pub planning : List ℕ
@@ -61,6 +61,7 @@ pub record IsReadAs (settings : FileSettings) (entry : NewEntry) (text : List �
   pub one : sections text ≡ text ∷ []
   pub classes_are : are_of_entry (is_planned planning) (section_classes text) ≡ true
   pub no_settings : section_settings text ≡ []
+  pub no_drawer : has_drawer text (section_classes text) ≡ false
 
 -- the lines of a new heading are read as what was asked for
 abbrev pub EntriesAreReadBack : Type 0

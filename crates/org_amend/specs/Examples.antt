@@ -1,13 +1,21 @@
 -- Worked examples: what the definitions say of ordinary inputs, and of those at which a wrong rule says something else.
-use Rattle.std.specs.Prelude.{◌≡◌, ℕ, false, [], ◌∷◌, codes, Some, None}
+use Rattle.std.specs.Prelude.{◌≡◌, ℕ, true, false, List, [], ◌∷◌, codes, Some, None}
 use Rattle.org_amend.specs.Begun.{indent_of, line_break}
-use Rattle.org_amend.specs.Cancelled.{closing_len, emptied_part}
-use Rattle.org_amend.specs.Places.{front_end, logbook_from}
+use Rattle.org_amend.specs.Cancelled.{closing_len, emptied_part, guarded_part}
+use Rattle.org_amend.specs.Entries.{has_drawer, whole_of}
+use Rattle.org_amend.specs.Places.{drawer_from, front_end}
 use Rattle.org_amend.specs.Planning.{dated_draft, is_said, undated_line}
 use Rattle.org_amend.specs.Typed.{typed_date}
+use Rattle.org_amend.specs.declared.place.DrawerName.TheVariants.{Logbook}
+use Rattle.org_base.specs.declared.span.Span.{Span}
 use Rattle.org_cal.specs.Days.{day_number}
+use Rattle.org_class.specs.Classes.{section_classes}
 use Rattle.org_class.specs.declared.class.Class.TheVariants.{Heading, Planning, Plain, Verbatim}
 use Rattle.org_stamp.specs.declared.pair.PlanningKeyword.TheVariants.{Deadline, Scheduled}
+
+-- what goes of a section where a part of it goes
+abbrev pub goes_of : List ℕ → ℕ → ℕ → Span
+goes_of section at len = guarded_part section (whole_of section) (section_classes section) (record { at = at; len = len })
 
 -- the front ends before the first other line; a drawer of small letters is one, a line of a block and a drawer that doesn't
 -- end are none. Tabs count as indentation; lines end as the first of the section does, and where that isn't ended by a line
@@ -16,9 +24,9 @@ use Rattle.org_stamp.specs.declared.pair.PlanningKeyword.TheVariants.{Deadline, 
 pub record ExamplesHold : Type 0 where
   pub front : front_end (Heading ∷ Planning ∷ Plain ∷ []) 0 10 (codes "* a\n" ∷ codes "CLOSED: b\n" ∷ codes "c\n" ∷ []) ≡ 24
   pub all_front : front_end (Heading ∷ []) 0 10 (codes "* a\n" ∷ []) ≡ 14
-  pub drawer : logbook_from None (Heading ∷ Plain ∷ Plain ∷ Plain ∷ []) 0 0 (codes "* a\n" ∷ codes ":logbook:\n" ∷ codes "b\n" ∷ codes ":END:\n" ∷ []) ≡ Some (record { at = 4; len = 10 })
-  pub unended : logbook_from None (Heading ∷ Plain ∷ Plain ∷ []) 0 0 (codes "* a\n" ∷ codes ":LOGBOOK:\n" ∷ codes "b\n" ∷ []) ≡ None
-  pub in_block : logbook_from None (Heading ∷ Verbatim ∷ Plain ∷ []) 0 0 (codes "* a\n" ∷ codes ":LOGBOOK:\n" ∷ codes ":END:\n" ∷ []) ≡ None
+  pub drawer : drawer_from Logbook None (Heading ∷ Plain ∷ Plain ∷ Plain ∷ []) 0 0 (codes "* a\n" ∷ codes ":logbook:\n" ∷ codes "b\n" ∷ codes ":END:\n" ∷ []) ≡ Some (record { at = 4; len = 10 })
+  pub unended : drawer_from Logbook None (Heading ∷ Plain ∷ Plain ∷ []) 0 0 (codes "* a\n" ∷ codes ":LOGBOOK:\n" ∷ codes "b\n" ∷ []) ≡ None
+  pub in_block : drawer_from Logbook None (Heading ∷ Verbatim ∷ Plain ∷ []) 0 0 (codes "* a\n" ∷ codes ":LOGBOOK:\n" ∷ codes ":END:\n" ∷ []) ≡ None
   pub indented : indent_of (codes " \t:LOGBOOK:\n") ≡ codes " \t"
   pub line_feed : line_break (codes "* a\nb\r\n") ≡ codes "\n"
   pub carriage_return : line_break (codes "* a\r\nb\n") ≡ codes "\r\n"
@@ -26,6 +34,19 @@ pub record ExamplesHold : Type 0 where
   pub emptied : (from : ℕ) → emptied_part (Some (record { at = 4; len = 10 })) (record { at = 14; len = 30; end = 43; from = from }) (closing_len (codes " :end:\n" ∷ [])) ≡ record { at = 4; len = 47 }
   pub more_follows : (from : ℕ) → emptied_part (Some (record { at = 4; len = 10 })) (record { at = 14; len = 30; end = 43; from = from }) (closing_len (codes "b\n" ∷ codes ":END:\n" ∷ [])) ≡ record { at = 14; len = 30 }
   pub behind_more : (from : ℕ) → emptied_part (Some (record { at = 4; len = 10 })) (record { at = 16; len = 30; end = 45; from = from }) (closing_len (codes ":END:\n" ∷ [])) ≡ record { at = 16; len = 30 }
+
+-- a clock's line goes whole, but an empty line stays that ends as it does, where planning or properties behind it would be
+-- read as the heading's, or where the clock is all that keeps lines from being its properties. A drawer in a body is one where
+-- it ends; a name has no colon
+pub record CancelExamplesHold : Type 0 where
+  pub goes_whole : goes_of (codes "* a\nCLOCK: [2024-02-28 Wed 09:00]\nb\n") 4 30 ≡ record { at = 4; len = 30 }
+  pub planning_behind : goes_of (codes "* a\nCLOCK: [2024-02-28 Wed 09:00]\nDEADLINE: <2024-02-29 Thu>\n") 4 30 ≡ record { at = 4; len = 29 }
+  pub planning_before : goes_of (codes "* a\nDEADLINE: <2024-02-29 Thu>\nCLOCK: [2024-02-28 Wed 09:00]\nDEADLINE: <2024-02-28 Wed>\n") 31 30 ≡ record { at = 31; len = 30 }
+  pub properties_behind : goes_of (codes "* a\r\nCLOCK: [2024-02-28 Wed 09:00]\r\n:PROPERTIES:\r\n:b: c\r\n:END:\r\n") 5 31 ≡ record { at = 5; len = 29 }
+  pub properties_around : goes_of (codes "* a\n:PROPERTIES:\nCLOCK: [2024-02-28 Wed 09:00]\n:END:\n") 17 30 ≡ record { at = 17; len = 29 }
+  pub drawer_of_body : has_drawer (codes "* a\n:Note:\nb\n :end:\n") (Heading ∷ Plain ∷ Plain ∷ Plain ∷ []) ≡ true
+  pub unended_of_body : has_drawer (codes "* a\n:Note:\nb\n") (Heading ∷ Plain ∷ Plain ∷ []) ≡ false
+  pub colon_in_name : has_drawer (codes "* a\n:b:c:\n:END:\n") (Heading ∷ Plain ∷ Plain ∷ []) ≡ false
 
 -- a stamp takes the place of the last one of its keyword, a range whole, or comes before all others, or on a line of its own;
 -- not where others would be read then. Stamps go with the white space before them, and what is left of the line stays, or

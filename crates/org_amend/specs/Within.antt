@@ -1,5 +1,6 @@
 -- What is found of a section lies in it (profile).
-use Rattle.std.specs.Prelude.{ℕ, ◌+◌, ◌≤◌, Option, IfSome}
+use Rattle.std.specs.Prelude.{◌+◌, ◌≤◌, Option, IfSome}
+use Rattle.org_amend.specs.Cancelled.{LiesIn}
 use Rattle.org_amend.specs.declared.running.RunningClock.{RunningClock}
 use Rattle.org_base.specs.declared.span.Span.{Span}
 
@@ -10,6 +11,6 @@ pub record IsWithin (section : Span) (clock : RunningClock) : Type 0 where
   pub stamp_low : clock.at ≤ clock.end
   pub stamp_high : clock.end ≤ clock.at + clock.len
 
--- a line, if there is one, ends in a section
-abbrev pub EndsIn : Span → Option Span → Type 0
-EndsIn section found = IfSome found (λ line. line.at + line.len ≤ section.at + section.len)
+-- a line, if there is one, lies in a section
+abbrev pub LiesInside : Span → Option Span → Type 0
+LiesInside section found = IfSome found (LiesIn section)

@@ -1,15 +1,17 @@
 //! The lines of a new heading: its own, its planning line and its body.
-ghost use Rattle.std.specs.Prelude.{◌≡◌, ◌==◌, ◌≤◌, IsOkUnless, length};
+ghost use Rattle.std.specs.Prelude.{◌≡◌, ◌==◌, ◌+◌, ◌≤◌, IsOkUnless, length};
 ghost use Rattle.std.specs.List.{list_all};
-ghost use Rattle.org_amend.specs.Entries.{are_below, are_of_entry, entry_text, is_body_class, is_entry, is_section, joined, planning_line, whole_body, with_body, with_date, with_dates};
+ghost use Rattle.org_amend.specs.Entries.{are_below, are_of_entry, entry_text, has_drawer, is_body_class, is_entry, is_section, joined, planning_line, says_no_more, whole_body, whole_of, with_body, with_date, with_dates};
 ghost use Rattle.org_amend.specs.Heads.{GivesHead};
 ghost use Rattle.org_amend.specs.Planning.{GivesLine, has_feed};
 ghost use Rattle.org_base.specs.Codes.{memory_fault};
 ghost use Rattle.org_base.specs.Results.{Gives, GivesText, Writes};
+ghost use Rattle.org_base.specs.Spans.{bytes_in};
 ghost use Rattle.org_class.specs.Classes.{section_classes};
 ghost use Rattle.org_class.specs.Sections.{sections};
 
 use crate::head::{NewHead, Unreadable, head_line};
+use crate::place::{DrawerName, drawer_of};
 use crate::planning::{dated_line, has_feed};
 use crate::typed::TypedDate;
 use org_base::{Fault, Meter, Span};
@@ -34,7 +36,7 @@ pub struct NewEntry<'a> {
 
 /// The lines of a new heading, where `end` ends its own: the heading line of `head_line`, a planning line where a date is given,
 /// and the body, whose last line ends. In a file with these settings they are read as one heading, and its body as text,
-/// comments and blocks alone; else the answer is what would be read otherwise. Out of memory is the only refusal.
+/// comments and blocks alone, with no drawer; else the answer is what would be read otherwise. Out of memory is the only refusal.
 #[tactic(auto, unfolding(crate::specs::Entries::entry_text))]
 pub fn entry_text(
     alloc: Global,
@@ -170,7 +172,7 @@ fn is_section(alloc: Global, is_planned: bool, text: &Whole) -> Result<bool, Fau
     ensures value { Gives result (is_section is_planned text.now) }
     ensures memory { IsOkUnless result memory_fault }
 {
-    Ok(is_one_section(alloc, text)? && has_classes(alloc, is_planned, text)?)
+    Ok(is_one_section(alloc, text)? && says_no_more(alloc, is_planned, text)?)
 }
 
 fn is_one_section(alloc: Global, text: &Whole) -> Result<bool, Fault>
@@ -180,17 +182,35 @@ fn is_one_section(alloc: Global, text: &Whole) -> Result<bool, Fault>
     Ok(sections(alloc, text)?.count() == 1)
 }
 
-// Whether the lines of a text have the classes of an entry's.
-fn has_classes(alloc: Global, is_planned: bool, text: &Whole) -> Result<bool, Fault>
-    ensures value { Gives result (are_of_entry is_planned (section_classes text.now)) }
+// Whether the lines of a text have the classes of an entry's, and no drawer stands among them.
+fn says_no_more(alloc: Global, is_planned: bool, text: &Whole) -> Result<bool, Fault>
+    ensures value { Gives result (says_no_more is_planned text.now (section_classes text.now)) }
     ensures memory { IsOkUnless result memory_fault }
 {
-    let whole = Span {
+    let classes = classify(alloc, &mut Meter::new(), text, whole_of(text))?;
+    let classes = classes.as_slice();
+    Ok(are_of_entry(is_planned, classes) && !has_drawer(alloc, text, classes)?)
+}
+
+// The part that is all of a text.
+pub(crate) fn whole_of(text: &Whole) -> Span
+    ensures value { result ≡ whole_of text.now }
+    ensures all { bytes_in text.now result ≡ text.now }
+    ensures within { result.at + result.len ≤ length text.now }
+{
+    Span {
         at: 0,
         len: text.len() as u32,
-    };
-    let classes = classify(alloc, &mut Meter::new(), text, whole)?;
-    Ok(are_of_entry(is_planned, classes.as_slice()))
+    }
+}
+
+// Whether a drawer stands among the lines of a text.
+fn has_drawer(alloc: Global, text: &Whole, classes: &[Class]) -> Result<bool, Fault>
+    ensures value { Gives result (has_drawer text.now classes.now) }
+    ensures memory { IsOkUnless result memory_fault }
+{
+    let drawer = drawer_of(alloc, text, whole_of(text), classes, DrawerName::Any)?;
+    Ok(drawer.is_some())
 }
 
 fn are_of_entry(is_planned: bool, classes: &[Class]) -> bool

@@ -1,6 +1,6 @@
 //! Laws of the definitions. Each is a function without parameters whose contract is the law.
 ghost use Rattle.org_amend.specs.EntryLaws.{EntriesAreReadBack, HeadsAreReadBack};
-ghost use Rattle.org_amend.specs.Examples.{ExamplesHold, PlanningExamplesHold};
+ghost use Rattle.org_amend.specs.Examples.{CancelExamplesHold, ExamplesHold, PlanningExamplesHold};
 ghost use Rattle.org_amend.specs.Laws.{BegunClocksRun, EndedClocksAreRead, FoundClocksRun};
 ghost use Rattle.org_amend.specs.PlanningLaws.{DatedLinesArePlanning, DatesAreSaid, LostStampsAreUnsaid, OtherLinesStay};
 
@@ -22,6 +22,12 @@ pub fn found_clocks_run()
 /// The front ends before the first other line, and a drawer of small letters is one where it ends.
 pub fn examples_hold()
     ensures { ExamplesHold }
+{}
+
+/// An empty line stays for a clock's where lines behind it would be read as planning or as properties without it; a body's drawer
+/// is one where it ends.
+pub fn cancel_examples_hold()
+    ensures { CancelExamplesHold }
 {}
 
 /// A line that gets a date under a planning keyword says it, with the repeater and the delay that stood there, and all else

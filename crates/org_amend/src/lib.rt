@@ -22,6 +22,7 @@ mod cancelled;
 mod clock;
 mod entry;
 mod head;
+mod keyword_pairs;
 pub mod laws;
 mod place;
 mod planning;

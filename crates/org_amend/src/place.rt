@@ -1,6 +1,7 @@
 //! Where a clock that begins is written.
 ghost use Rattle.std.specs.Prelude.{◌≡◌, ◌&&◌, ◌+◌, ◌≤◌, ◌<◌, ◌^◌, IfOk, IsOkUnless, None, is_some, length};
-ghost use Rattle.org_amend.specs.Places.{clock_place, front_in, is_front, is_logbook, logbook_in, or_opened, place_at};
+ghost use Rattle.std.specs.List.{list_all};
+ghost use Rattle.org_amend.specs.Places.{clock_place, drawer_in, front_in, is_front, is_name_byte, is_named, opens, or_opened, place_at};
 ghost use Rattle.org_class.specs.Drawers.{is_drawer_end};
 ghost use Rattle.org_base.specs.Codes.{memory_fault};
 ghost use Rattle.org_base.specs.Results.{Gives};
@@ -20,6 +21,15 @@ pub enum ClockPlace {
     InDrawer(Span),
     /// Into a drawer that is made there, under the heading, its planning line and its properties.
     UnderFront(u32),
+}
+
+// Which drawers are looked for.
+#[derive(Clone, Copy)]
+pub(crate) enum DrawerName {
+    // Those of clocks, `LOGBOOK`.
+    Logbook,
+    // Any.
+    Any,
 }
 
 /// Where the line of a clock that begins goes in a section of a text; the classes are those of the section's lines.
@@ -47,21 +57,22 @@ fn find_place<T: Text>(
     ensures value { Gives result (clock_place (T.content text.now) section classes.now) }
     ensures memory { IsOkUnless result memory_fault }
 {
-    match logbook(alloc, text, section, classes)? {
+    match drawer_of(alloc, text, section, classes, DrawerName::Logbook)? {
         Some(drawer) => Ok(ClockPlace::InDrawer(drawer)),
         None => Ok(ClockPlace::UnderFront(front_end(alloc, text, section, classes)?)),
     }
 }
 
-// The opening line of the first `LOGBOOK` drawer that ends.
-pub(crate) fn logbook<T: Text>(
+// The opening line of the first drawer of such a name that ends.
+pub(crate) fn drawer_of<T: Text>(
     alloc: Global,
     text: &T,
     section: Span,
     classes: &[Class],
+    name: DrawerName,
 ) -> Result<Option<Span>, Fault>
     requires within { section.at + section.len ≤ length (T.content text.now) }
-    ensures value { Gives result (logbook_in (T.content text.now) section classes.now) }
+    ensures value { Gives result (drawer_in name (T.content text.now) section classes.now) }
     ensures memory { IsOkUnless result memory_fault }
 {
     // For the proof alone: its contract says that the text is not too long.
@@ -75,7 +86,7 @@ pub(crate) fn logbook<T: Text>(
         if ends(drawer, line) {
             return Ok(drawer);
         }
-        drawer = or_opened(drawer, class_at(classes, place), at, line);
+        drawer = or_opened(name, drawer, class_at(classes, place), at, line);
         at += line.len() as u32;
         place += 1;
     }
@@ -90,14 +101,20 @@ fn ends(drawer: Option<Span>, line: &[u8]) -> bool
 }
 
 // The opening line of the drawer that is open, or this line, if it opens one.
-fn or_opened(drawer: Option<Span>, class: Option<Class>, at: u32, line: &[u8]) -> Option<Span>
+fn or_opened(
+    name: DrawerName,
+    drawer: Option<Span>,
+    class: Option<Class>,
+    at: u32,
+    line: &[u8],
+) -> Option<Span>
     requires fits { at + length line.now < 2 ^ 32 }
-    ensures value { result ≡ or_opened drawer class at line.now }
+    ensures value { result ≡ or_opened name drawer class at line.now }
 {
     if drawer.is_some() {
         return drawer;
     }
-    if class == Some(Class::Plain) && same_word(trim(line), b":LOGBOOK:") {
+    if class == Some(Class::Plain) && opens(name, line) {
         Some(Span {
             at,
             len: line.len() as u32,
@@ -105,6 +122,37 @@ fn or_opened(drawer: Option<Span>, class: Option<Class>, at: u32, line: &[u8]) -
     } else {
         None
     }
+}
+
+// Whether a line opens a drawer of such a name.
+fn opens(name: DrawerName, line: &[u8]) -> bool
+    ensures value { result ≡ opens name line.now }
+{
+    let word = trim(line);
+    match name {
+        DrawerName::Logbook => same_word(word, b":LOGBOOK:"),
+        DrawerName::Any => is_named(word),
+    }
+}
+
+// Whether a word is `:NAME:`, with a name that isn't empty.
+fn is_named(word: &[u8]) -> bool
+    ensures value { result ≡ is_named word.now }
+{
+    let len = word.len();
+    len >= 3 && word[0] == b':' && word[len - 1] == b':' && are_name_bytes(&word[1..len - 1])
+}
+
+fn are_name_bytes(name: &[u8]) -> bool
+    ensures value { result ≡ list_all is_name_byte name.now }
+{
+    name.iter().all(|byte| is_name_byte(*byte))
+}
+
+fn is_name_byte(byte: u8) -> bool
+    ensures value { result ≡ is_name_byte byte }
+{
+    !matches!(byte, b':' | b' ' | b'\t' | b'\r' | b'\n')
 }
 
 // Where the heading, its planning line and its property drawer end.
@@ -135,7 +183,7 @@ fn front_end<T: Text>(
     Ok(at)
 }
 
-fn is_front(class: Option<Class>) -> bool
+pub(crate) fn is_front(class: Option<Class>) -> bool
     ensures value { result ≡ is_front class }
 {
     matches!(

@@ -1,20 +1,16 @@
 //! The line under a heading, with a stamp of a planning keyword or without it.
-ghost use Rattle.std.specs.Prelude.{◌≡◌, ◌==◌, ◌+◌, ◌≤◌, [], IfSome, IsOkUnless, length, position, Some, None};
-ghost use Rattle.org_amend.specs.Planning.{GivesLine, blank_line, bytes_under, date_text, dated_draft, dated_line, dated_stamp, empty_line, ending, ends_like, has_feed, is_left, is_plain, is_said, kept_from, last_pair, left_line, pair_text, says, says_under, stays, text_if, undated_line, with_pair, with_part, with_stamp, without_pairs};
+ghost use Rattle.std.specs.Prelude.{◌≡◌, ◌==◌, [], IsOkUnless, position, Some, None};
+ghost use Rattle.org_amend.specs.Planning.{GivesLine, blank_line, date_text, dated_draft, dated_line, dated_stamp, empty_line, ending, ends_like, has_feed, is_left, is_plain, is_said, left_line, says, says_under, stays, text_if, undated_line};
 ghost use Rattle.org_base.specs.Codes.{memory_fault};
 ghost use Rattle.org_base.specs.Results.{GivesItems, GivesText};
 ghost use Rattle.org_class.specs.LineClass.{has_hash};
-ghost use Rattle.org_drawer.specs.Planning.{is_same};
-ghost use Rattle.org_stamp.specs.Pair.{pairs};
-ghost use Rattle.org_stamp.specs.Paired.{keyword_text};
 
+use crate::keyword_pairs::{bytes_under, is_same, last_pair, pair_text, with_stamp, without_pairs};
 use crate::typed::TypedDate;
 use org_base::Fault;
 use org_base::words::{is_blank, trim_start};
 use org_class::{begins_heading, is_drawer_open};
-use org_stamp::{
-    Pair, PlanningKeyword, Stamp, is_clock, is_planning, leading_spaces, next_pair, print_stamp,
-};
+use org_stamp::{Pair, PlanningKeyword, Stamp, is_clock, is_planning, print_stamp};
 use std::alloc::{AllocError, Global};
 use std::str;
 
@@ -90,33 +86,6 @@ fn is_left(keyword: PlanningKeyword, line: &[u8], next: &[u8], left: &[u8]) -> b
     says(keyword, &[], line, left) && stays(line, next, left)
 }
 
-fn is_same(one: PlanningKeyword, other: PlanningKeyword) -> bool
-    ensures value { result ≡ is_same one other }
-{
-    match one {
-        PlanningKeyword::Scheduled => matches!(other, PlanningKeyword::Scheduled),
-        PlanningKeyword::Deadline => matches!(other, PlanningKeyword::Deadline),
-        PlanningKeyword::Closed => matches!(other, PlanningKeyword::Closed),
-    }
-}
-
-// The last pair of a keyword in a line.
-fn last_pair(line: &[u8], keyword: PlanningKeyword) -> Option<Pair>
-    ensures value { result ≡ last_pair keyword (pairs line.now) }
-    ensures end { IfSome result (λ p. p.end ≤ length line.now) }
-    ensures within { IfSome result (λ p. p.at + p.len ≤ length line.now) }
-{
-    let mut last = None;
-    let mut at = 0;
-    while let Some(pair) = next_pair(line, at) {
-        at = pair.end;
-        if is_same(keyword, pair.word) {
-            last = Some(pair);
-        }
-    }
-    last
-}
-
 // The stamp of a date, with the repeater and the delay of the pair whose place it takes.
 fn dated_stamp(date: TypedDate, old: Option<Pair>) -> Stamp
     ensures value { result ≡ dated_stamp date old }
@@ -150,26 +119,6 @@ fn date_text(
     print_stamp(alloc, &dated_stamp(date, last_pair(line, keyword)))
 }
 
-fn keyword_text(keyword: PlanningKeyword) -> &'static str
-    ensures value { result.now ≡ keyword_text keyword }
-{
-    match keyword {
-        PlanningKeyword::Scheduled => "SCHEDULED:",
-        PlanningKeyword::Deadline => "DEADLINE:",
-        PlanningKeyword::Closed => "CLOSED:",
-    }
-}
-
-// A keyword, its colon, a space and the text of a stamp.
-fn pair_text(alloc: Global, keyword: PlanningKeyword, stamp: &str) -> Result<Vec<u8>, AllocError>
-    ensures value { GivesItems result (pair_text keyword stamp.now) }
-{
-    let mut pair = Vec::from_slice(alloc, keyword_text(keyword).as_bytes())?;
-    pair.extend_from_slice(b" ")?;
-    pair.extend_from_slice(stamp.as_bytes())?;
-    Ok(pair)
-}
-
 // The line with the text of a stamp under a keyword, before it is read back.
 #[tactic(auto, unfolding(crate::specs::Planning::dated_draft))]
 fn dated_draft(
@@ -187,55 +136,6 @@ fn dated_draft(
     let mut draft = pair_text(alloc, keyword, stamp)?;
     draft.extend_from_slice(end.as_bytes())?;
     Ok(draft)
-}
-
-// A planning line with the text of a stamp under a keyword.
-#[tactic(auto, unfolding(crate::specs::Planning::with_stamp))]
-fn with_stamp(
-    alloc: Global,
-    keyword: PlanningKeyword,
-    stamp: &str,
-    line: &[u8],
-) -> Result<Vec<u8>, AllocError>
-    ensures value { GivesItems result (with_stamp keyword stamp.now line.now) }
-{
-    match last_pair(line, keyword) {
-        Some(pair) => with_part(alloc, line, pair.at, stamp.as_bytes(), pair.end),
-        None => with_pair(alloc, keyword, stamp, line),
-    }
-}
-
-// A line with a text from one place up to another.
-fn with_part(
-    alloc: Global,
-    line: &[u8],
-    at: usize,
-    text: &[u8],
-    end: usize,
-) -> Result<Vec<u8>, AllocError>
-    requires at { at ≤ length line.now }
-    requires end { end ≤ length line.now }
-    ensures value { GivesItems result (with_part line.now at text.now end) }
-{
-    let mut new = Vec::from_slice(alloc, &line[..at])?;
-    new.extend_from_slice(text)?;
-    new.extend_from_slice(&line[end..])?;
-    Ok(new)
-}
-
-// A line with a pair before all others, behind its indentation.
-fn with_pair(
-    alloc: Global,
-    keyword: PlanningKeyword,
-    stamp: &str,
-    line: &[u8],
-) -> Result<Vec<u8>, AllocError>
-    ensures value { GivesItems result (with_pair keyword stamp.now line.now) }
-{
-    let mut pair = pair_text(alloc, keyword, stamp)?;
-    pair.extend_from_slice(b" ")?;
-    let indent = leading_spaces(line);
-    with_part(alloc, line, indent, &pair, indent)
 }
 
 // What is left of a planning line without the pairs of a keyword, before it is read back.
@@ -275,47 +175,6 @@ fn empty_line(line: &[u8]) -> &'static [u8]
         b"\r\n"
     } else {
         b"\n"
-    }
-}
-
-// A planning line without the pairs of a keyword.
-#[tactic(auto, unfolding(crate::specs::Planning::without_pairs))]
-fn without_pairs(
-    alloc: Global,
-    keyword: PlanningKeyword,
-    line: &[u8],
-) -> Result<Vec<u8>, AllocError>
-    ensures value { GivesItems result (without_pairs keyword line.now) }
-{
-    let kept = kept_pairs(alloc, keyword, line)?;
-    let mut new = Vec::from_slice(alloc, &line[..leading_spaces(line)])?;
-    new.extend_from_slice(&kept[leading_spaces(&kept)..])?;
-    Ok(new)
-}
-
-// What a line has without the pairs of a keyword and the white space before them.
-fn kept_pairs(alloc: Global, keyword: PlanningKeyword, line: &[u8]) -> Result<Vec<u8>, AllocError>
-    ensures value { GivesItems result (kept_from keyword line.now 0 (pairs line.now)) }
-{
-    let mut kept = Vec::new(alloc);
-    let mut at = 0;
-    while let Some(pair) = next_pair(line, at) {
-        if !is_same(keyword, pair.word) {
-            kept.extend_from_slice(&line[at..pair.end])?;
-        }
-        at = pair.end;
-    }
-    kept.extend_from_slice(&line[at..])?;
-    Ok(kept)
-}
-
-// The bytes of the stamp that a line has under a keyword.
-fn bytes_under(keyword: PlanningKeyword, line: &[u8]) -> &[u8]
-    ensures value { result.now ≡ bytes_under keyword line.now }
-{
-    match last_pair(line, keyword) {
-        Some(pair) => &line[pair.at..pair.at + pair.len],
-        None => &[],
     }
 }
 

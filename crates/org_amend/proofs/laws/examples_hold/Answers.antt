@@ -1,9 +1,9 @@
 use Rattle.std.proofs.Common.{refl}
-use Rattle.org_amend.specs.Places.{front_end, logbook_from}
+use Rattle.org_amend.specs.Places.{drawer_from, front_end}
 use Rattle.org_amend.proofs.laws.examples_hold.Goals as goal
 
 pub returns : goal.returns
-unfolding front_end logbook_from
+unfolding drawer_from front_end
 returns c = record {
   front = refl;
   all_front = refl;

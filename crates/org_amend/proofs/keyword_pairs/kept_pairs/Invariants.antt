@@ -2,7 +2,7 @@
 use Rattle.std.proofs.Common.{◌≡◌, ◌++◌, ◌≤◌, ◌-◌, length, drop}
 use Rattle.org_amend.specs.Planning.{kept_from}
 use Rattle.org_stamp.specs.Pair.{pairs, pairs_from}
-use Rattle.org_amend.proofs.planning.kept_pairs.Given as goal
+use Rattle.org_amend.proofs.keyword_pairs.kept_pairs.Given as goal
 
 abbrev pub invariant-loop-pair : goal.invariant-loop-pair
 invariant-loop-pair l = record {
