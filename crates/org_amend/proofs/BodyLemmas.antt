@@ -154,7 +154,7 @@ line_front l = elim (cases_Bool (is_comment l)) [
   ]
 ]
 
-body_front : (ls : List (List ℕ)) → front_lines (body_classes None ls) ≡ 0
+pub body_front : (ls : List (List ℕ)) → front_lines (body_classes None ls) ≡ 0
 body_front [] = refl
 body_front (l ∷ ls) = elim (cases_Bool (opens_block l ls)) [
   | inl o ↦ rw o refl

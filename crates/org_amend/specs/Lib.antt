@@ -1,4 +1,5 @@
 pub mod Begun
+pub mod CancelLaws
 pub mod Cancelled
 pub mod Clocks
 pub mod Entries

@@ -1,4 +1,5 @@
 //! Laws of the definitions. Each is a function without parameters whose contract is the law.
+ghost use Rattle.org_amend.specs.CancelLaws.{OthersStay};
 ghost use Rattle.org_amend.specs.EntryLaws.{EntriesAreReadBack, HeadsAreReadBack};
 ghost use Rattle.org_amend.specs.Examples.{CancelExamplesHold, ExamplesHold, PlanningExamplesHold};
 ghost use Rattle.org_amend.specs.Laws.{BegunClocksRun, EndedClocksAreRead, FoundClocksRun};
@@ -65,4 +66,10 @@ pub fn heads_are_read_back()
 /// The lines of a new heading are read as one heading with just its words, its dates and its body, and none of them is a setting.
 pub fn entries_are_read_back()
     ensures { EntriesAreReadBack }
+{}
+
+/// Where a running clock is cancelled, all other lines of its section stay and are read as they were: its line goes, or the drawer
+/// that holds no other, and an empty line stays at most.
+pub fn others_stay()
+    ensures { OthersStay }
 {}
