@@ -1,6 +1,6 @@
 -- A clock that is cancelled: which lines go, and what stays.
-use Rattle.std.proofs.Common.{◌≡◌, ◌⊎◌, ◌∙◌, inl, inr, ℕ, zero, suc, ◌+◌, ◌-◌, ◌<◌, ◌≤◌, ◌==◌, ◌&&◌, Bool, true, false, List, [], ◌∷◌, ◌++◌, length, map, refl, sym, ap, subst, arith, append_assoc, append-nil, length-append}
-use Rattle.std.specs.Prelude.{Option, Some, None, if◌then◌else◌, nat_lt, slice_get}
+use Rattle.std.proofs.Common.{◌≡◌, ◌∙◌, inl, inr, ℕ, suc, ◌+◌, ◌-◌, ◌≤◌, ◌==◌, ◌&&◌, Bool, true, false, List, [], ◌∷◌, ◌++◌, length, map, refl, sym, ap, subst, arith, append_assoc, append-nil, length-append}
+use Rattle.std.specs.Prelude.{Option, Some, None, nat_lt, slice_get}
 use Rattle.std.specs.List.{AllByRecursion, concat, list_any, slice_range}
 use Rattle.std.specs.Str.{IsUtf8, is_utf8}
 use Rattle.std.proofs.lemmas.Bool.{and_parts, cases_Bool, eq-eqb, eqb-true}
@@ -10,27 +10,25 @@ use Rattle.std.proofs.lemmas.Str.{is_utf8-from_IsUtf8}
 use Rattle.org_amend.specs.CancelLaws.{AreGone, AreKept, HasLost, OthersStay, alone, drawer}
 use Rattle.org_amend.specs.Cancelled.{behind_clock, but_end, cancelled_part, closing_len, emptied_in, emptied_part, end_len, front_lines, guarded_part, has_front, line_part, section_without}
 use Rattle.org_amend.specs.Clocks.{since}
-use Rattle.org_amend.specs.Laws.{IsFirst}
 use Rattle.org_amend.specs.Places.{logbook_in}
 use Rattle.org_amend.specs.declared.place.DrawerName.TheVariants.{Logbook}
 use Rattle.org_amend.specs.declared.running.RunningClock.{RunningClock}
 use Rattle.org_amend.proofs.BodyLemmas.{AreReplaced, IsQuiet, IsTail, body_front, is_alone, quiet_front, replaced}
-use Rattle.org_amend.proofs.ClockLineLemmas.{body_line, clock_class, clock_no_hash, clock_read_is, end_class, end_no_hash, ends_no_block}
+use Rattle.org_amend.proofs.ClockLineLemmas.{body_line, clock_class, clock_no_hash, clock_read_is, end_class, end_no_hash}
 use Rattle.org_amend.proofs.CutLemmas.{AreSome, HasEnd, IsCut, IsEnd, back_lines, cut_back, cut_front, cut_middle, end_line, end_of, first_ended, front_lines_are, front_text, lines_some, same_place}
 use Rattle.org_amend.proofs.DrawerLemmas.{IsDrawer, drawer_found}
 use Rattle.org_amend.proofs.EndLemmas.{since_is}
+use Rattle.org_amend.proofs.LocatedLemmas.{IsLocated, first_class, located}
 use Rattle.org_amend.proofs.RunningLemmas.{found_clocks_run}
 use Rattle.org_base.specs.Spans.{bytes_in}
 use Rattle.org_base.specs.Words.{is_blank}
 use Rattle.org_base.specs.declared.span.Span.{Span}
 use Rattle.org_class.specs.Blocks.{body_classes, ends_block}
-use Rattle.org_class.specs.Classes.{classes, classes_in, section_classes}
+use Rattle.org_class.specs.Classes.{classes, section_classes}
 use Rattle.org_class.specs.Drawers.{is_drawer_end}
 use Rattle.org_class.specs.Heading.{begins_heading}
-use Rattle.org_class.specs.Sections.{is_headed}
 use Rattle.org_class.specs.declared.class.Class.{Class}
 use Rattle.org_class.specs.declared.class.Class.TheVariants.{Clock, Heading, Plain}
-use Rattle.org_class.proofs.Runs.{first_line_headed}
 use Rattle.org_lines.specs.Cuts.{lines, lines_in}
 use Rattle.org_lines.proofs.LineLemmas.{concat-lines, length_range, utf8_lines}
 use Rattle.org_stamp.specs.Pair.{is_clock, pairs_from}
@@ -299,9 +297,6 @@ behind_drawer line e after from runs ends =
     ∙ (ap (λ c. c ∷ body_classes None (e ∷ after)) (clock_class line is)
     ∙ (ap (λ cs. Clock ∷ cs) (body_line e after (end_no_hash e ends)) ∙ ap (λ c. Clock ∷ c ∷ body_classes None after) (end_class e ends)))
 
-first_class : (h : List ℕ) (ls : List (List ℕ)) → begins_heading h ≡ true → slice_get (classes (h ∷ ls)) 0 ≡ Some Heading
-first_class h ls begins = rw begins refl
-
 with_drawer : (text : List ℕ) (section : Span) (r : RunningClock) (h : List ℕ) (bs : List (List ℕ)) (line : List ℕ) (after : List (List ℕ)) (d : Span) → InLines text section r h bs line after →
     IsDrawer Logbook (section_classes (bytes_in text section)) 0 section.at (lines (bytes_in text section)) d → d.at + d.len ≡ r.at → (n : ℕ) → n ≡ closing_len after → nat_lt 0 n ≡ true →
     Goes text section r.from (record { at = d.at; len = d.len + r.len + n })
@@ -380,40 +375,16 @@ behind_is text section r h bs line after within i =
     ap (slice_range text (r.at + r.len)) end ∙ (ap (λ k. slice_range text k (section.at + section.len)) from ∙ cut_back text section a (concat (line ∷ [])) (concat after) cut) in
     ap lines bytes ∙ back_lines (bytes_in text section) ((h ∷ bs) ++ line ∷ []) after (i.lines_are ∙ sym (append_assoc (h ∷ bs) (line ∷ []) after))
 
-found_goes : (text : List ℕ) (section : Span) (r : RunningClock) → section.at + section.len ≤ length text → begins_heading (bytes_in text section) ≡ true →
-    IsFirst (section_classes (bytes_in text section)) 0 section.at (lines (bytes_in text section)) r → Goes text section r.from (emptied_in text section (section_classes (bytes_in text section)) r)
-found_goes text section r within begins f = by f.before refl
-  where
-    headed : (l : List ℕ) (ls : List (List ℕ)) → lines (bytes_in text section) ≡ l ∷ ls → begins_heading l ≡ true
-    headed l ls is = sym (ap is_headed is) ∙ (first_line_headed (bytes_in text section) ∙ begins)
-
-    by : (before : List (List ℕ)) → f.before ≡ before → Goes text section r.from (emptied_in text section (section_classes (bytes_in text section)) r)
-    by [] none =
-        let s = bytes_in text section in
-        let is : lines s ≡ f.line ∷ f.after = f.lines_are ∙ ap (λ ls. ls ++ f.line ∷ f.after) none in
-        let zero' : 0 + length f.before ≡ 0 = ap (λ ls. 0 + length ls) none in
-        let clock : slice_get (section_classes s) 0 ≡ Some Clock = ap (slice_get (section_classes s)) (sym zero') ∙ f.class_is in
-        let first : slice_get (section_classes s) 0 ≡ Some Heading = ap (λ ls. slice_get (classes ls) 0) is ∙ first_class f.line f.after (headed f.line f.after is) in
-        absurd (let wrong : ◌≡◌ {A = Option Class} (Some Clock) (Some Heading) = sym clock ∙ first in cc)
-    by (h ∷ bs) before =
-        let s = bytes_in text section in
-        let is : lines s ≡ (h ∷ bs) ++ f.line ∷ f.after = f.lines_are ∙ ap (λ ls. ls ++ f.line ∷ f.after) before in
-        let len : length f.before ≡ length (h ∷ bs) = ap length before in
-        let count : 0 + length f.before ≡ length (h ∷ bs) = omega (arith, len) in
-        let i : InLines text section r h bs f.line f.after = record {
-          begins = headed h (bs ++ f.line ∷ f.after) is;
-          lines_are = is;
-          class_is = ap (slice_get (section_classes s)) (sym count) ∙ f.class_is;
-          runs = f.runs;
-          at_is = f.at_is ∙ ap (λ ls. section.at + length (concat ls)) before;
-          len_is = f.len_is;
-        } in
-        emptied_goes text section r h bs f.line f.after i (logbook_in text section (section_classes s)) refl (closing_len (lines_in text (behind_clock section r)))
-        (ap closing_len (behind_is text section r h bs f.line f.after within i))
+found_goes : (text : List ℕ) (section : Span) (r : RunningClock) → section.at + section.len ≤ length text → IsLocated text section r →
+    Goes text section r.from (emptied_in text section (section_classes (bytes_in text section)) r)
+found_goes text section r within l =
+    let i : InLines text section r l.h l.bs l.line l.after = record { begins = l.begins; lines_are = l.lines_are; class_is = l.class_is; runs = l.runs; at_is = l.at_is; len_is = l.len_is } in
+    emptied_goes text section r l.h l.bs l.line l.after i (logbook_in text section (section_classes (bytes_in text section))) refl (closing_len (lines_in text (behind_clock section r)))
+    (ap closing_len (behind_is text section r l.h l.bs l.line l.after within i))
 
 pub others_stay : OthersStay
 unfolding cancelled_part
 others_stay text section clock within utf8 begins found =
     let cs = section_classes (bytes_in text section) in
     let f = found_clocks_run cs 0 section.at (lines (bytes_in text section)) clock found in
-    part_goes text section clock.from (emptied_in text section cs clock) within utf8 (found_goes text section clock within begins f)
+    part_goes text section clock.from (emptied_in text section cs clock) within utf8 (found_goes text section clock within (located text section clock begins f))

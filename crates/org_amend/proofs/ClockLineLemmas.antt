@@ -1,8 +1,7 @@
 -- Lines that are read by themselves: those of clocks, the ends of drawers and empty ones.
-use Rattle.std.proofs.Common.{◌≡◌, ◌∙◌, inl, inr, ℕ, zero, suc, ◌+◌, ◌-◌, ◌==◌, not, ◌&&◌, Bool, true, false, List, [], ◌∷◌, ◌++◌, length, take, drop, refl, sym, ap, arith}
+use Rattle.std.proofs.Common.{◌≡◌, ◌∙◌, inl, inr, ℕ, zero, suc, ◌+◌, ◌-◌, ◌==◌, not, true, false, List, [], ◌∷◌, ◌++◌, length, take, drop, refl, sym, ap, arith}
 use Rattle.std.specs.Prelude.{Option, Some, None, codes, nat_eq, nat_le, slice_index}
-use Rattle.std.specs.List.{list_any, prefix_len, starts_with, suffix_len}
-use Rattle.std.specs.Option.{option_map}
+use Rattle.std.specs.List.{prefix_len, starts_with, suffix_len}
 use Rattle.std.proofs.lemmas.Bool.{cases_Bool, eqb-true}
 use Rattle.std.proofs.lemmas.Bool.Decides.{Decides-eqb}
 use Rattle.std.proofs.lemmas.List.{take-append-drop}

@@ -117,7 +117,7 @@ inactive_is s t e = by s.active refl e
     by false is e = (is, some_same s t e)
 
 -- how long the parts are together
-size_of : (gap between rest : List ℕ) → length (gap ++ (codes "CLOCK:" ++ (between ++ rest))) ≡ length gap + (6 + (length between + length rest))
+pub size_of : (gap between rest : List ℕ) → length (gap ++ (codes "CLOCK:" ++ (between ++ rest))) ≡ length gap + (6 + (length between + length rest))
 size_of gap between rest =
     let word : length (codes "CLOCK:") ≡ 6 = refl in
     omega (arith, length-append gap (codes "CLOCK:" ++ (between ++ rest)), length-append (codes "CLOCK:") (between ++ rest), length-append between rest, word)

@@ -2,6 +2,7 @@ pub mod Begun
 pub mod CancelLaws
 pub mod Cancelled
 pub mod Clocks
+pub mod EndLaws
 pub mod Entries
 pub mod EntryLaws
 pub mod Examples

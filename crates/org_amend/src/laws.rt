@@ -1,5 +1,6 @@
 //! Laws of the definitions. Each is a function without parameters whose contract is the law.
 ghost use Rattle.org_amend.specs.CancelLaws.{OthersStay};
+ghost use Rattle.org_amend.specs.EndLaws.{OneClockEnds};
 ghost use Rattle.org_amend.specs.EntryLaws.{EntriesAreReadBack, HeadsAreReadBack};
 ghost use Rattle.org_amend.specs.Examples.{CancelExamplesHold, ExamplesHold, PlanningExamplesHold};
 ghost use Rattle.org_amend.specs.Laws.{BegunClocksRun, EndedClocksAreRead, FoundClocksRun};
@@ -72,4 +73,9 @@ pub fn entries_are_read_back()
 /// that holds no other, and an empty line stays at most.
 pub fn others_stay()
     ensures { OthersStay }
+{}
+
+/// Where a running clock gets its end, its line alone changes and says that, and all lines of the section keep their classes.
+pub fn one_clock_ends()
+    ensures { OneClockEnds }
 {}
