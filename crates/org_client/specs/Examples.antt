@@ -11,7 +11,7 @@ use Rattle.org_client.specs.Json.{field_text, quoted, texts_member}
 use Rattle.org_client.specs.Members.{text_member_of, texts_member_of}
 use Rattle.org_client.specs.Objects.{day_object}
 use Rattle.org_client.specs.Reminders.{starts_between}
-use Rattle.org_client.specs.TitleWords.{title_words}
+use Rattle.org_client.specs.TitleWords.{words_or, words_text}
 use Rattle.org_client.specs.Visible.{visible}
 use Rattle.org_client.specs.declared.visible.Escape.TheVariants.{Caret}
 
@@ -44,10 +44,9 @@ pub record ExamplesHold : Type 0 where
   -- an object's list, and the one value that is asked for
   pub list : texts_member (codes "tags") (codes "a" ∷ codes "b" ∷ []) ≡ codes ",\"tags\":[\"a\",\"b\"]"
   pub no_items : texts_member (codes "tags") [] ≡ codes ",\"tags\":[]"
-  -- a title's words stand beside its active stamps; where there are none it stands whole
-  pub words : title_words (codes "Trip  <2024-03-01>--<2024-03-03> to Rome") ≡ codes "Trip to Rome"
-  pub stamps_alone : title_words (codes "<2024-03-01>") ≡ codes "<2024-03-01>"
-  pub inactive_stays : title_words (codes "a [2024-03-01]") ≡ codes "a [2024-03-01]"
+  -- one space stands between any two words, and none beside them; of nothing but stamps a title stands whole
+  pub words : words_text false false (codes " Trip   to Rome ") ≡ codes "Trip to Rome"
+  pub stamps_alone : words_or (codes "<2024-03-01>") [] ≡ codes "<2024-03-01>"
   pub only_the_asked : texts_member_of (Some (codes "path")) (codes "path") (codes "a" ∷ codes "b" ∷ []) ++ text_member_of (Some (codes "path")) (codes "title") (codes "c") ≡ codes "a/b"
   pub day_in_json : (day : ℕ) → day_object day (codes "x") ≡ codes "{\"kind\":\"day\",\"day\":" ++ quoted (date_text day) ++ codes ",\"text\":\"x\"}"
   -- what becomes a component of a calendar

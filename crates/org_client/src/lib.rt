@@ -39,7 +39,7 @@ mod reminders;
 mod row_members;
 mod rows;
 mod template;
-mod title_words;
+mod titles;
 mod visible;
 mod when;
 
@@ -58,6 +58,6 @@ pub use read_file::ReadFile;
 pub use reminders::{Window, rows_between};
 pub use rows::{LoadReport, ShownClock, ShownSum, ViewRow};
 pub use template::{MEMBERS, Template, template_line};
-pub use title_words::title_words;
+pub use titles::title_words;
 pub use visible::{Escape, push_visible};
 pub use when::{date_of, time_of};

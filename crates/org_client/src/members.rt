@@ -7,7 +7,7 @@ ghost use Rattle.org_client.specs.Json.{begun};
 ghost use Rattle.org_client.specs.Members.{MembersView, Puts, date_member, flag_member_of, is_asked, item_separator, number_member_of, text_member_of, texts_member_of, time_member};
 
 use crate::one_line::OneLine;
-use crate::title_words::title_words;
+use crate::titles::title_words;
 use org_base::Texts;
 use org_cal::{Day, TimeOfDay, push_date, push_time};
 use std::alloc::{AllocError, Global};

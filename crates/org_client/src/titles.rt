@@ -1,5 +1,5 @@
 //! The words of a title.
-ghost use Rattle.std.specs.Prelude.{◌≡◌, ◌+◌, ◌∷◌, [], ◌++◌, ◌≤◌, drop, length, IfOk, OnOk};
+ghost use Rattle.std.specs.Prelude.{◌≡◌, ◌∷◌, [], ◌++◌, drop, false};
 ghost use Rattle.org_base.specs.Results.{Adds, GivesItems};
 ghost use Rattle.org_client.specs.TitleWords.{beside_stamps, gap, is_blank, part, words_text, title_words};
 ghost use Rattle.org_stamp.specs.Line.{stamps_of};

@@ -3,7 +3,7 @@ use Rattle.std.proofs.Common.{◌≡◌, ◌++◌}
 use Rattle.std.specs.List.{AllByRecursion}
 use Rattle.org_client.specs.TitleWords.{beside_stamps}
 use Rattle.org_stamp.specs.Line.{IsLongestAt, stamps_of}
-use Rattle.org_client.proofs.title_words.beside_stamps.Given as goal
+use Rattle.org_client.proofs.titles.beside_stamps.Given as goal
 
 abbrev pub invariant-loop-found : goal.invariant-loop-found
 invariant-loop-found l =
