@@ -27,6 +27,8 @@ use Rattle.org_class.specs.Blocks.{body_classes, ends_block}
 use Rattle.org_class.specs.Classes.{classes, section_classes}
 use Rattle.org_class.specs.Drawers.{is_drawer_end}
 use Rattle.org_class.specs.Heading.{begins_heading}
+use Rattle.org_class.specs.Sections.{ends_line}
+use Rattle.org_class.proofs.Boundaries.{ends_line-append}
 use Rattle.org_class.specs.declared.class.Class.{Class}
 use Rattle.org_class.specs.declared.class.Class.TheVariants.{Clock, Heading, Plain}
 use Rattle.org_lines.specs.Cuts.{lines, lines_in}
@@ -110,9 +112,9 @@ blank_end end (inl is) = ap is_blank is
 blank_end end (inr is) = ap is_blank is
 
 -- the section that is left, with these lines in the place of those that go
-lost : (text : List ℕ) (section : Span) (from : ℕ) (part : Span) (left : List ℕ) (kept : List (List ℕ)) (o : Goes text section from part) → AreKept kept → lines left ≡ (o.h ∷ o.bs) ++ (kept ++ o.after) →
+lost : (text : List ℕ) (section : Span) (from : ℕ) (part : Span) (left : List ℕ) (kept : List (List ℕ)) (o : Goes text section from part) → AreKept kept → (ends_line (bytes_in text section) ≡ true → ends_line left ≡ true) → lines left ≡ (o.h ∷ o.bs) ++ (kept ++ o.after) →
     AreReplaced o.h o.bs o.g (o.gs ++ o.after) (kept ++ o.after) o.c (map (λ (l : List ℕ). Plain) kept ++ body_classes None o.after) → HasLost from (bytes_in text section) left
-lost text section from part left kept o are lines_are r =
+lost text section from part left kept o are ends lines_are r =
     let was : section_classes (bytes_in text section) ≡ Heading ∷ (r.before ++ o.c ∷ body_classes None (o.gs ++ o.after)) = ap classes o.lines_are ∙ r.old in
     let rest : o.c ∷ body_classes None (o.gs ++ o.after) ≡ (o.c ∷ o.gcs) ++ body_classes None o.after = ap (λ cs. o.c ∷ cs) o.behind in
     record {
@@ -128,6 +130,7 @@ lost text section from part left kept o are lines_are r =
       classes_were = was ∙ ap (λ cs. Heading ∷ (r.before ++ cs)) rest;
       classes_are = ap classes lines_are ∙ r.new;
       before_size = ap suc r.size;
+      last_ends = ends;
       are_gone = o.gone;
       are_kept = are;
     }
@@ -158,6 +161,25 @@ gone_end text section from part o a as' is =
     let fed = ends_fed (concat ((o.g ∷ o.gs) ++ o.after)) a o.g o.gs as' (behind ∙ ap (λ ls. (o.g ∷ o.gs) ++ ls) is) in
     end_of (concat (o.g ∷ o.gs)) fed.front fed.is
 
+-- so the section ends with a line where it did
+
+front_ends : (text : List ℕ) (section : Span) (from : ℕ) (part : Span) (o : Goes text section from part) → ends_line (concat (o.h ∷ o.bs)) ≡ true
+front_ends text section from part o =
+    let fed = ends_fed (bytes_in text section) o.g o.h o.bs (o.gs ++ o.after) o.lines_are in
+    ap ends_line fed.is ∙ ends_line-append fed.front [] 10
+
+end_behind : (s a b c : List ℕ) → s ≡ a ++ (b ++ c) → ends_line a ≡ true → ends_line s ≡ true → ends_line (a ++ c) ≡ true
+end_behind s a b [] is front ends = ap ends_line (append-nil a) ∙ front
+end_behind s a b (z ∷ c) is front ends = ends_line-append a c z ∙ (sym (ends_line-append (a ++ b) c z) ∙ (ap ends_line (append_assoc a b (z ∷ c) ∙ sym is) ∙ ends))
+
+end_last : (s a b end c : List ℕ) → s ≡ a ++ (b ++ c) → ends_line (a ++ end) ≡ true → ends_line s ≡ true → ends_line ((a ++ end) ++ c) ≡ true
+end_last s a b end [] is front ends = ap ends_line (append-nil (a ++ end)) ∙ front
+end_last s a b end (z ∷ c) is front ends = ends_line-append (a ++ end) c z ∙ (sym (ends_line-append (a ++ b) c z) ∙ (ap ends_line (append_assoc a b (z ∷ c) ∙ sym is) ∙ ends))
+
+ends_with : (a end : List ℕ) → IsEnd end → ends_line (a ++ end) ≡ true
+ends_with a end (inl is) = ap (λ e. ends_line (a ++ e)) is ∙ ends_line-append a [] 10
+ends_with a end (inr is) = ap (λ e. ends_line (a ++ e)) is ∙ ends_line-append a (10 ∷ []) 13
+
 -- nothing stays in their place, or an empty line
 
 there : (text : List ℕ) (section : Span) (from : ℕ) (part : Span) (o : Goes text section from part) → slice_get (classes (o.h ∷ (o.bs ++ o.g ∷ (o.gs ++ o.after)))) (length (o.h ∷ o.bs)) ≡ Some o.c
@@ -183,7 +205,10 @@ whole_goes text section from part within o same =
     let stays : front_lines (classes (o.h ∷ (o.bs ++ o.after))) ≡ front_lines (classes (o.h ∷ (o.bs ++ o.g ∷ (o.gs ++ o.after)))) =
     ap (λ ls. front_lines (classes ls)) (sym is) ∙ (fronts ∙ ap (λ ls. front_lines (classes ls)) o.lines_are) in
     let r = replaced o.h o.bs o.g (o.gs ++ o.after) o.after o.c (body_classes None o.after) o.begins o.alone_is (record { classed = refl; ends = o.ends }) (inl stays) (there text section from part o) in
-    lost text section from part left [] o (inl refl) is r
+    let ends : ends_line (bytes_in text section) ≡ true → ends_line left ≡ true = λ e.
+    ap ends_line (whole_left text section from part within o)
+    ∙ end_behind (bytes_in text section) (concat (o.h ∷ o.bs)) (concat (o.g ∷ o.gs)) (concat o.after) (cut_of text section (o.h ∷ o.bs) (o.g ∷ o.gs) o.after within o.lines_are).is (front_ends text section from part o) e in
+    lost text section from part left [] o (inl refl) ends is r
 
 end_stays : (text : List ℕ) (section : Span) (from : ℕ) (part : Span) → section.at + section.len ≤ length text → (o : Goes text section from part) → HasEnd (concat (o.g ∷ o.gs)) →
     HasLost from (bytes_in text section) (section_without text section (but_end text part))
@@ -198,7 +223,11 @@ end_stays text section from part within o e =
     let tail : IsTail o.g (o.gs ++ o.after) (e.end ∷ o.after) (Plain ∷ body_classes None o.after) =
     record { classed = plain_end e.end o.after e.end_is; ends = λ name h. let none = end_ends name e.end e.end_is in rw none (o.ends name h) } in
     let r = replaced o.h o.bs o.g (o.gs ++ o.after) (e.end ∷ o.after) o.c (Plain ∷ body_classes None o.after) o.begins o.alone_is tail (inr (quiet_end e.end o.after e.end_is)) (there text section from part o) in
-    lost text section from part left (e.end ∷ []) o (inr (e.end, refl, blank_end e.end e.end_is)) is r
+    let fed : ends_line (a ++ e.end) ≡ true = ends_with a e.end e.end_is in
+    let ends : ends_line (bytes_in text section) ≡ true → ends_line left ≡ true = λ was.
+    ap ends_line (end_left text section part a (concat (o.g ∷ o.gs)) (concat o.after) cut o.at_is o.len_is e ∙ sym (append_assoc a e.end (concat o.after)))
+    ∙ end_last (bytes_in text section) a (concat (o.g ∷ o.gs)) e.end (concat o.after) cut.is fed was in
+    lost text section from part left (e.end ∷ []) o (inr (e.end, refl, blank_end e.end e.end_is)) ends is r
 
 -- where no line follows, the front is what it was
 last_front : (text : List ℕ) (section : Span) (from : ℕ) (part : Span) → section.at + section.len ≤ length text → IsUtf8 (bytes_in text section) → (o : Goes text section from part) → o.after ≡ [] →

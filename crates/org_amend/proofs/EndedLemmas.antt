@@ -14,13 +14,15 @@ use Rattle.org_amend.proofs.BodyLemmas.{IsTail, replaced}
 use Rattle.org_amend.proofs.ClockLineLemmas.{body_line, clock_class, clock_no_hash, clock_quiet, clock_read_is, ends_no_block}
 use Rattle.org_amend.proofs.CutLemmas.{back_lines, first_ended, front_lines_are}
 use Rattle.org_amend.proofs.EndLemmas.{ended_clocks_are_read, since_is, size_of, split_line, stamp_end_within}
-use Rattle.org_amend.proofs.FeedLemmas.{end_has, feeds, line_feeds, none_in, none_taken, only_part, put_before_line, without_front}
+use Rattle.org_amend.proofs.FeedLemmas.{end_has, feeds, feeds_end, line_feeds, none_in, none_taken, only_part, put_before_line, without_front}
 use Rattle.org_amend.proofs.LocatedLemmas.{located}
 use Rattle.org_amend.proofs.RunningLemmas.{found_clocks_run}
 use Rattle.org_base.specs.Spans.{bytes_in}
 use Rattle.org_class.proofs.LineLemmas.{first_line}
 use Rattle.org_class.specs.Blocks.{body_classes, ends_block}
 use Rattle.org_class.specs.Classes.{classes, section_classes}
+use Rattle.org_class.specs.Sections.{ends_line}
+use Rattle.org_class.proofs.Boundaries.{ends_line-append}
 use Rattle.org_class.specs.declared.class.Class.{Class}
 use Rattle.org_class.specs.declared.class.Class.TheVariants.{Heading, Planning, DrawerOpen, Node, DrawerEnd, Clock, Setting, Comment, BlockOpen, Verbatim, BlockEnd, Plain}
 use Rattle.org_lines.specs.Cuts.{lines}
@@ -99,6 +101,34 @@ section_is a line text c s p e is place within =
     let back : drop p s ≡ y ++ c = ap (λ k. drop k s) at ∙ (ap (drop (length (a ++ x))) whole ∙ drop_front (a ++ x) (y ++ c)) in
     ap (λ f. f ++ (text ++ drop p s)) front ∙ (ap (λ b. (a ++ x) ++ (text ++ b)) back ∙ append_assoc a x (text ++ (y ++ c)))
 
+-- where the section ended with a line, it does so still
+
+ends_behind : (a x t : List ℕ) (back : List ℕ) → (back ≡ [] → ends_line (a ++ (x ++ [])) ≡ false) → ends_line (a ++ (x ++ back)) ≡ true → ends_line (a ++ (x ++ (t ++ back))) ≡ true
+ends_behind a x t [] none ends = absurd (let wrong : false ≡ true = sym (none refl) ∙ ends in cc)
+ends_behind a x t (z ∷ back) none ends =
+    ap ends_line (sym (append_assoc a x (t ++ z ∷ back)) ∙ sym (append_assoc (a ++ x) t (z ∷ back)))
+    ∙ (ends_line-append ((a ++ x) ++ t) back z ∙ (sym (ends_line-append (a ++ x) back z) ∙ (ap ends_line (append_assoc a x (z ∷ back)) ∙ ends)))
+
+no_end : (a x : List ℕ) → 0 < length x → feeds x ≡ false → ends_line (a ++ (x ++ [])) ≡ false
+no_end a [] some none = absurd (omega (arith, some))
+no_end a (w ∷ x) some none = ap (λ y. ends_line (a ++ y)) (append-nil (w ∷ x)) ∙ (ends_line-append a x w ∙ feeds_end (w ∷ x) some none)
+
+nothing_left : (y c : List ℕ) → y ++ c ≡ [] → y ≡ []
+nothing_left [] c e = refl
+nothing_left (b ∷ y) c e = absurd cc
+
+last_ends : (t s a line text c : List ℕ) (ls : List (List ℕ)) (from : ℕ) → lines t ≡ line ∷ ls → since line ≡ Some from → s ≡ a ++ (line ++ c) → ends_line s ≡ true →
+    ends_line (a ++ (take (stamp_end line) line ++ (text ++ (drop (stamp_end line) line ++ c)))) ≡ true
+last_ends t s a line text c ls from first runs is ends =
+    let x = take (stamp_end line) line in
+    let y = drop (stamp_end line) line in
+    let whole : line ≡ x ++ y = sym (take-append-drop (stamp_end line) line) in
+    let all : s ≡ a ++ (x ++ (y ++ c)) = is ∙ ap (λ l. a ++ l) (ap (λ l. l ++ c) whole ∙ append_assoc x y c) in
+    ends_behind a x text (y ++ c) (λ none.
+    let same : line ≡ x = whole ∙ (ap (λ r. x ++ r) (nothing_left y c none) ∙ append-nil x) in
+    let some = (first_line t line ls first).some in
+    no_end a x (omega (arith, some, ap length same)) (stamped_feeds t line ls from first runs)) (ap ends_line (sym all) ∙ ends)
+
 -- that none runs doesn't depend on where the lines stand
 
 none_line : (at to : ℕ) (l : List ℕ) (o : Option ℕ) → since l ≡ o → running_line at l ≡ None → running_line to l ≡ None
@@ -175,6 +205,7 @@ one_clock_ends text section clock now minutes within begins day time found =
       classes_were = ap classes l.lines_are ∙ r.old;
       classes_are = ap classes lines_are ∙ r.new;
       before_size = ap suc r.size;
+      last_ends = λ ends. ap ends_line made ∙ last_ends (concat (l.line ∷ l.after)) s (concat (l.h ∷ l.bs)) l.line put (concat l.after) l.after clock.from back l.runs whole ends;
       none_before = none_moved (section_classes s) 0 section.at 0 (l.h ∷ l.bs) l.none_before;
       ran = since_is l.line clock.from l.runs;
       ends = read;

@@ -8,6 +8,7 @@ use Rattle.org_amend.specs.Clocks.{end_text, hours_text, moment_stamp}
 use Rattle.org_cal.specs.Parts.{month_day_of, month_of, weekday_of, year_of}
 use Rattle.org_cal.specs.Texts.{date_text, day_name, four, time_text, two}
 use Rattle.org_cal.specs.declared.moment.Moment.{Moment}
+use Rattle.org_class.specs.Sections.{ends_line}
 use Rattle.org_lines.specs.Cuts.{lines}
 use Rattle.org_lines.proofs.LineLemmas.{concat-lines}
 use Rattle.org_stamp.specs.Print.{stamp_text}
@@ -145,6 +146,18 @@ only_part (b ∷ []) h some = elim (cases_Bool (b == 10)) [
 only_part (b ∷ c ∷ p) h some = elim (cases_Bool (b == 10)) [
   | inl feed ↦ absurd (let wrong : true ≡ false = rw feed at h in cc)
   | inr other ↦ rw other (ap (onto_first b) (only_part (c ∷ p) (rw other at h) (omega arith)))
+]
+
+-- bytes without one don't end a line
+pub feeds_end : (w : List ℕ) → 0 < length w → feeds w ≡ false → ends_line w ≡ false
+feeds_end [] some h = absurd (omega (arith, some))
+feeds_end (b ∷ []) some h = elim (cases_Bool (b == 10)) [
+  | inl feed ↦ absurd (let wrong : true ≡ false = rw feed at h in cc)
+  | inr other ↦ other
+]
+feeds_end (b ∷ c ∷ w) some h = elim (cases_Bool (b == 10)) [
+  | inl feed ↦ absurd (let wrong : true ≡ false = rw feed at h in cc)
+  | inr other ↦ feeds_end (c ∷ w) (omega arith) (rw other at h)
 ]
 
 -- and they can be taken from it

@@ -11,6 +11,7 @@ use Rattle.org_base.specs.declared.span.Span.{Span}
 use Rattle.org_class.specs.Classes.{classes_in, section_classes}
 use Rattle.org_class.specs.Drawers.{is_drawer_end}
 use Rattle.org_class.specs.Heading.{begins_heading}
+use Rattle.org_class.specs.Sections.{ends_line}
 use Rattle.org_class.specs.declared.class.Class.{Class}
 use Rattle.org_class.specs.declared.class.Class.TheVariants.{Clock, Plain}
 use Rattle.org_lines.specs.Cuts.{lines}
@@ -38,6 +39,7 @@ pub record HasLost (from : ℕ) (section left : List ℕ) : Type 0 where
   pub classes_were : section_classes section ≡ before_classes ++ (gone_classes ++ after_classes)
   pub classes_are : section_classes left ≡ before_classes ++ (map (λ _. Plain) kept ++ after_classes)
   pub before_size : length before_classes ≡ length before
+  pub last_ends : ends_line section ≡ true → ends_line left ≡ true
   pub are_gone : AreGone from gone gone_classes
   pub are_kept : AreKept kept
 

@@ -10,6 +10,7 @@ use Rattle.org_cal.specs.declared.moment.Moment.{Moment}
 use Rattle.org_cal.specs.declared.time_of_day.TheConstants.{MINUTES_PER_DAY}
 use Rattle.org_class.specs.Classes.{classes_in, section_classes}
 use Rattle.org_class.specs.Heading.{begins_heading}
+use Rattle.org_class.specs.Sections.{ends_line}
 use Rattle.org_class.specs.declared.class.Class.{Class}
 use Rattle.org_class.specs.declared.class.Class.TheVariants.{Clock}
 use Rattle.org_drawer.specs.Clock.{clock_of}
@@ -29,6 +30,7 @@ pub record HasEnded (from to : ℕ) (section new : List ℕ) : Type 0 where
   pub classes_were : section_classes section ≡ before_classes ++ Clock ∷ after_classes
   pub classes_are : section_classes new ≡ before_classes ++ Clock ∷ after_classes
   pub before_size : length before_classes ≡ length before
+  pub last_ends : ends_line section ≡ true → ends_line new ≡ true
   pub none_before : first_running (section_classes section) 0 0 before ≡ None
   pub ran : clock_of line ≡ Some (record { from = from; to = None })
   pub ends : clock_of ended ≡ Some (record { from = from; to = Some to })
