@@ -1,5 +1,5 @@
 -- What planning and adding make of a text, step by step.
-use Rattle.std.proofs.Common.{◌≡◌, ◌≢◌, ◌∙◌, ℕ, ◌+◌, List, ◌++◌, length, take, drop, sym, ap, subst}
+use Rattle.std.proofs.Common.{◌≡◌, ◌≢◌, ◌∙◌, ℕ, ◌+◌, List, ◌++◌, length, drop, sym, ap, subst}
 use Rattle.std.specs.Prelude.{Option, Some, None, Result, Ok, Err}
 use Rattle.org_act.specs.Adding.{added_at, added_in, added_text, added_whole, at_level, break_of, spot_of, with_entry}
 use Rattle.org_act.specs.Changes.{Makes, no_memory}

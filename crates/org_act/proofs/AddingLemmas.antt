@@ -1,22 +1,19 @@
 -- A heading that is added to a text, among its sections.
-use Rattle.std.proofs.Common.{◌≡◌, ◌⊎◌, ◌∙◌, ℕ, zero, suc, ◌+◌, ◌-◌, ◌<◌, ◌≤◌, Bool, true, false, ◌==◌, ◌&&◌, inl, inr, List, [], ◌∷◌, ◌++◌, length, take, drop, get_or, refl, sym, ap, subst, arith, length-drop, length-take, append_assoc, append-nil}
-use Rattle.std.specs.Prelude.{Option, Some, None, Result, Ok, Err, if◌then◌else◌, nat_le, nat_lt, codes, slice_index}
-use Rattle.std.specs.List.{concat, flat_map}
+use Rattle.std.proofs.Common.{◌≡◌, ◌⊎◌, ◌∙◌, ℕ, zero, suc, ◌+◌, ◌-◌, ◌<◌, ◌≤◌, true, false, ◌==◌, ◌&&◌, inl, inr, List, [], ◌∷◌, ◌++◌, length, take, drop, get_or, refl, sym, ap, subst, arith, length-drop, length-take, append_assoc, append-nil}
+use Rattle.std.specs.Prelude.{Option, Some, None, Result, Ok, Err, if◌then◌else◌, nat_le, slice_index}
+use Rattle.std.specs.List.{flat_map}
 use Rattle.std.proofs.lemmas.Bool.{and_parts, cases_Bool, eqb-true}
 use Rattle.std.proofs.lemmas.List.{drop-drop, take-append-drop}
-use Rattle.org_act.specs.Adding.{added_at, added_in, added_text, added_whole, at_level, break_of, end_below, gap_behind, last_spot, spot_at, spot_below, spot_of, with_entry}
+use Rattle.org_act.specs.Adding.{added_at, added_in, added_text, at_level, break_of, end_below, gap_behind, last_spot, spot_at, spot_below, spot_of, with_entry}
 use Rattle.org_act.specs.AddingLaws.{HeadingsAreAdded, IsAdded}
 use Rattle.org_act.specs.Lines.{first_line, has_feed, heading_at, subtree_end}
-use Rattle.org_act.specs.Planning.{if_sized}
-use Rattle.org_act.specs.declared.act.Refusal.{Refusal}
 use Rattle.org_act.specs.declared.addition.Addition.{Addition}
 use Rattle.org_act.specs.declared.addition.Spot.{Spot}
 use Rattle.org_act.proofs.LineLemmas.{parts}
 use Rattle.org_act.proofs.PlanLemmas.{sized_is}
 use Rattle.org_act.proofs.PlanningLemmas.{heading_there, if_sized_is, some_or_none}
 use Rattle.org_amend.specs.Entries.{entry_text}
-use Rattle.org_amend.specs.EntryLaws.{IsDateOrNone, IsReadAs}
-use Rattle.org_amend.specs.declared.entry.NewEntry.{NewEntry}
+use Rattle.org_amend.specs.EntryLaws.{IsDateOrNone}
 use Rattle.org_amend.specs.declared.head.Unreadable.{Unreadable}
 use Rattle.org_amend.proofs.EntryLemmas.{entries_are_read_back}
 use Rattle.org_base.specs.declared.fault.Fault.{Fault}
@@ -29,7 +26,6 @@ use Rattle.org_class.proofs.HeadingLemmas.{heading_front}
 use Rattle.org_class.proofs.Runs.{first_line_headed}
 use Rattle.org_complete.specs.Completion.{sized}
 use Rattle.org_lines.specs.Cuts.{lines}
-use Rattle.org_settings.specs.Settings.{FileSettings}
 use Rattle.org_store.specs.Outline.{file_settings}
 use Rattle.org_stamp.proofs.SpacedLemmas.{drop_front, take_front}
 use Rattle.org_text.specs.Replace.{replace}

@@ -1,12 +1,12 @@
 -- Lines of a text, one after the other.
 use Rattle.std.proofs.Common.{◌≡◌, ◌≢◌, ◌∙◌, ℕ, ◌+◌, ◌-◌, ◌<◌, ◌≤◌, Bool, true, false, ◌==◌, inl, inr, List, [], ◌∷◌, length, drop, get_or, refl, sym, ap, arith, length-drop, take, subst}
-use Rattle.std.specs.Prelude.{Option, Some, None, if◌then◌else◌, ◌&&◌, nat_le}
+use Rattle.std.specs.Prelude.{Option, None, if◌then◌else◌, ◌&&◌, nat_le}
 use Rattle.std.proofs.lemmas.List.{drop-drop, drop_all, take_all}
-use Rattle.std.proofs.lemmas.Bool.{cases_Bool, eq-eqb}
+use Rattle.std.proofs.lemmas.Bool.{cases_Bool}
 use Rattle.std.proofs.lemmas.Bool.Decides.{nat_tests}
 use Rattle.org_act.specs.Lines.{first_line, heading_from, if_heading, subtree_end}
 use Rattle.org_class.specs.Heading.{begins_heading, stars}
-use Rattle.org_class.proofs.LineLemmas.{FirstLine, first_line as split_line}
+use Rattle.org_class.proofs.LineLemmas.{first_line as split_line}
 use Rattle.org_lines.specs.Cuts.{lines}
 use Rattle.std.specs.List.{onto_first}
 

@@ -1,19 +1,18 @@
 -- A heading that is planned, in its text.
-use Rattle.std.proofs.Common.{◌≡◌, ◌≢◌, ◌⊎◌, ◌∙◌, ℕ, zero, suc, ◌+◌, ◌-◌, ◌<◌, ◌≤◌, Bool, true, false, ◌==◌, not, inl, inr, List, [], ◌∷◌, ◌++◌, length, take, drop, get_or, refl, sym, ap, subst, arith, length-drop, length-take, append_assoc, append-nil, length-append}
+use Rattle.std.proofs.Common.{◌≡◌, ◌⊎◌, ◌∙◌, ℕ, zero, suc, ◌+◌, ◌-◌, ◌<◌, ◌≤◌, true, false, ◌==◌, inl, inr, List, [], ◌∷◌, ◌++◌, length, take, drop, get_or, refl, sym, ap, subst, arith, length-drop, length-take, append_assoc, length-append}
 use Rattle.std.specs.Prelude.{Option, Some, None, Result, Ok, Err, if◌then◌else◌, nat_lt, codes}
 use Rattle.std.specs.Option.{option_map}
 use Rattle.std.specs.List.{concat}
-use Rattle.std.proofs.lemmas.Bool.{cases_Bool, eqb-true}
+use Rattle.std.proofs.lemmas.Bool.{cases_Bool}
 use Rattle.std.proofs.lemmas.List.{drop-drop, take-append-drop}
-use Rattle.org_act.specs.Completing.{no_heading}
 use Rattle.org_act.specs.Lines.{first_line, has_feed, heading_at, heading_from, if_heading, line_end}
-use Rattle.org_act.specs.Planning.{Put, act_put, dated_put, heading_line, if_sized, line_below, next_line, planned_at, planned_if, planned_text, planning_put, put_at, put_left, put_line, put_nothing, under_heading, undated_put, with_put}
+use Rattle.org_act.specs.Planning.{Put, heading_line, if_sized, line_below, next_line, planned_at, planned_if, planned_text, planning_put, put_at, put_left, put_line, put_nothing, under_heading, with_put}
 use Rattle.org_act.specs.PlanningLaws.{HeadingsArePlanned, IsDateIfAny, IsPlanned, SaysDate}
 use Rattle.org_act.specs.declared.act.Refusal.{Refusal}
 use Rattle.org_act.specs.declared.planning.Planning.{Planning}
 use Rattle.org_act.proofs.LineLemmas.{parts}
 use Rattle.org_amend.specs.Planning.{dated_line, undated_line}
-use Rattle.org_amend.specs.PlanningLaws.{IsDate, IsDated, IsStampOf, SaysElse, as_line, class_left, said, stamp_of_planning}
+use Rattle.org_amend.specs.PlanningLaws.{IsDate, IsStampOf, SaysElse, as_line, class_left, said}
 use Rattle.org_amend.specs.declared.typed.TypedDate.{TypedDate}
 use Rattle.org_amend.proofs.ClassLemmas.{dated_lines_are_planning, other_lines_stay, said_planning}
 use Rattle.org_amend.proofs.SaidLemmas.{dates_are_said, lost_stamps_are_unsaid}

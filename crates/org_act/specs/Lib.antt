@@ -2,8 +2,11 @@ pub mod Adding
 pub mod AddingLaws
 pub mod Amending
 pub mod Changes
+pub mod ClockEntries
 pub mod ClockParts
 pub mod ClockSections
+pub mod ClockSums
+pub mod ClockTexts
 pub mod Clocking
 pub mod Completing
 pub mod Examples

@@ -1,5 +1,5 @@
 -- Planning the heading on a line of a text: a date gets under a keyword, or the stamps there go (Org Syntax, "Planning").
-use Rattle.std.specs.Prelude.{ℕ, ◌+◌, ◌-◌, Bool, nat_lt, if◌then◌else◌, List, [], ◌++◌, length, drop, Option, Some, None, Result, Ok, Err, IfOk, IfSome, codes, string_bytes, ◌≡◌, ◌≤◌}
+use Rattle.std.specs.Prelude.{ℕ, ◌+◌, nat_lt, if◌then◌else◌, List, [], ◌++◌, length, drop, Option, Some, None, Result, Ok, Err, IfOk, IfSome, codes, string_bytes, ◌≡◌, ◌≤◌}
 use Rattle.std.specs.Option.{option_map}
 use Rattle.org_act.specs.Completing.{no_heading}
 use Rattle.org_act.specs.Lines.{first_line, has_feed, heading_at, line_end}

@@ -1,6 +1,5 @@
 -- Laws of planning a heading of a text (Org Syntax, "Planning").
 use Rattle.std.specs.Prelude.{◌≡◌, ℕ, true, List, ◌∷◌, ◌++◌, length, Option, Some, None, Ok}
-use Rattle.std.specs.Option.{option_and_then}
 use Rattle.org_act.specs.Lines.{heading_at}
 use Rattle.org_act.specs.Planning.{planned_text}
 use Rattle.org_act.specs.declared.planning.Planning.{Planning}

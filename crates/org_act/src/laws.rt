@@ -1,5 +1,8 @@
 //! Laws of the definitions. Each is a function without parameters whose contract is the law.
 ghost use Rattle.org_act.specs.AddingLaws.{HeadingsAreAdded};
+ghost use Rattle.org_act.specs.ClockEntries.{OneClockCloses, OneClockGoes};
+ghost use Rattle.org_act.specs.ClockSums.{OwnMinutesGrow, SumsGrowAbove};
+ghost use Rattle.org_act.specs.ClockTexts.{ActsAddMinutes, ActsCancelOneClock, ActsEndOneClock};
 ghost use Rattle.org_act.specs.Examples.{ActExamplesHold, ExamplesHold};
 ghost use Rattle.org_act.specs.Laws.{ActsComplete};
 ghost use Rattle.org_act.specs.PlanningLaws.{HeadingsArePlanned};
@@ -31,4 +34,41 @@ pub fn headings_are_added()
 /// Headings are found by their lines, lose a stamp, and go behind the last one below another.
 pub fn act_examples_hold()
     ensures { ActExamplesHold }
+{}
+
+/// Where lines went with a running clock, the entry says all that it said but for that clock, up to places.
+pub fn one_clock_goes()
+    ensures { OneClockGoes }
+{}
+
+/// Where the line of a running clock got its end, the entry says all that it said, and that this clock ended.
+pub fn one_clock_closes()
+    ensures { OneClockCloses }
+{}
+
+/// Where a clock of an entry ended, it has its minutes more in days that hold both ends.
+pub fn own_minutes_grow()
+    ensures { OwnMinutesGrow }
+{}
+
+/// Where the clock of one heading ended, its sum and those of its ancestors are the former ones and its minutes, and no other
+/// sum changes.
+pub fn sums_grow_above()
+    ensures { SumsGrowAbove }
+{}
+
+/// Where a clock ends in a text, only its heading's section changes, and of it only the clock's line.
+pub fn acts_end_one_clock()
+    ensures { ActsEndOneClock }
+{}
+
+/// Where a clock is cancelled in a text, only its heading's section changes, and loses the clock alone.
+pub fn acts_cancel_one_clock()
+    ensures { ActsCancelOneClock }
+{}
+
+/// Behind a clock that ends in a text the sums of its heading and of the ancestors are the former ones and its minutes, in days
+/// that hold both ends, and no other sum changes.
+pub fn acts_add_minutes()
+    ensures { ActsAddMinutes }
 {}

@@ -1,12 +1,15 @@
+use lib.Utf8.{encode}
 use Rattle.std.proofs.Common.{refl}
+use Rattle.std.specs.Str.{chars, is_utf8}
 use Rattle.org_complete.specs.Completion.{completed, completion_part}
 use Rattle.org_stamp.specs.Pair.{pairs_from}
+use Rattle.org_amend.specs.Cancelled.{cancelled_part}
 use Rattle.org_amend.specs.Clocks.{first_running}
-use Rattle.org_amend.specs.Places.{front_end, logbook_from}
+use Rattle.org_amend.specs.Places.{drawer_from, front_end}
 use Rattle.org_act.proofs.laws.examples_hold.Goals as goal
 
 pub returns : goal.returns
-unfolding completed completion_part pairs_from first_running front_end logbook_from
+unfolding cancelled_part chars completed completion_part drawer_from encode first_running front_end is_utf8 pairs_from
 returns c = record {
   plain = λ _. refl;
   beside = λ _. refl;

@@ -1,8 +1,8 @@
 -- The line is the first of those that are left, and where it isn't the one, the heading is among the later ones.
-use Rattle.std.proofs.Common.{◌≡◌, ◌∙◌, ℕ, ◌+◌, ◌-◌, ◌≤◌, ◌==◌, true, false, List, length, drop, sym, ap, arith, length-drop}
-use Rattle.std.specs.Prelude.{Option, Some, None}
+use Rattle.std.proofs.Common.{◌≡◌, ◌∙◌, ◌+◌, ◌-◌, ◌≤◌, ◌==◌, true, false, length, drop, sym, ap, arith, length-drop}
+use Rattle.std.specs.Prelude.{Some, None}
 use Rattle.org_act.proofs.LineLemmas.{heading_more, heading_none, if_false, if_true, is_one, is_other, rest_is, rest_within}
-use Rattle.org_act.specs.Lines.{first_line, heading_at, heading_from, if_heading}
+use Rattle.org_act.specs.Lines.{heading_at, heading_from, if_heading}
 use Rattle.org_class.specs.Heading.{begins_heading}
 use Rattle.org_lines.specs.Cuts.{lines}
 use Rattle.org_act.proofs.lines.heading_at.Goals as goal

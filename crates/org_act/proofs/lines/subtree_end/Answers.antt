@@ -1,8 +1,8 @@
 -- The subtree ends before the first heading line that isn't deeper.
-use Rattle.std.proofs.Common.{◌≡◌, ◌∙◌, ℕ, ◌+◌, ◌-◌, ◌≤◌, ◌<◌, ◌&&◌, Bool, true, false, List, length, drop, sym, ap, subst, arith, length-drop}
+use Rattle.std.proofs.Common.{◌≡◌, ◌∙◌, ℕ, ◌+◌, ◌-◌, ◌≤◌, ◌<◌, ◌&&◌, true, false, length, drop, sym, subst, arith, length-drop}
 use Rattle.std.specs.Prelude.{nat_le}
 use Rattle.org_act.proofs.LineLemmas.{above_level, if_false, if_true, no_heading_line, rest_is, rest_within, subtree_more, subtree_none, within_level}
-use Rattle.org_act.specs.Lines.{first_line, subtree_end}
+use Rattle.org_act.specs.Lines.{subtree_end}
 use Rattle.org_class.specs.Heading.{begins_heading, stars}
 use Rattle.org_lines.specs.Cuts.{lines}
 use Rattle.org_act.proofs.lines.subtree_end.Goals.{else-begins_heading-via-then-begins_heading+else-leading_stars-level, else-begins_heading-via-else-begins_heading}

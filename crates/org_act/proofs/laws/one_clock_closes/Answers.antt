@@ -1,0 +1,5 @@
+use Rattle.org_act.proofs.ClockEntryLemmas.{one_clock_closes}
+use Rattle.org_act.proofs.laws.one_clock_closes.Goals as goal
+
+pub returns : goal.returns
+returns c = one_clock_closes
