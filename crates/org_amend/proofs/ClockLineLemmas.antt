@@ -6,7 +6,7 @@ use Rattle.std.proofs.lemmas.Bool.{cases_Bool, eqb-true}
 use Rattle.std.proofs.lemmas.Bool.Decides.{Decides-eqb}
 use Rattle.std.proofs.lemmas.List.{take-append-drop}
 use Rattle.std.proofs.lemmas.Slice.Eq.{starts_is}
-use Rattle.org_amend.proofs.BodyLemmas.{IsQuiet}
+use Rattle.org_amend.proofs.ReplacedLemmas.{IsQuiet}
 use Rattle.org_base.specs.Words.{first_word, is_gap, is_letter, is_space, same_word, trim_end, trim_start}
 use Rattle.org_class.specs.Blocks.{begins_with, body_classes, ends_block}
 use Rattle.org_class.specs.Drawers.{is_drawer_end, is_drawer_open}

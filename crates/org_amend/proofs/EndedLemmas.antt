@@ -10,13 +10,14 @@ use Rattle.org_amend.specs.Clocks.{end_text, first_running, minute_at, or_later,
 use Rattle.org_amend.specs.EndLaws.{OneClockEnds}
 use Rattle.org_amend.specs.Laws.{with_text}
 use Rattle.org_amend.specs.declared.running.RunningClock.{RunningClock}
-use Rattle.org_amend.proofs.BodyLemmas.{IsTail, replaced}
+use Rattle.org_amend.proofs.BodyLemmas.{IsTail}
 use Rattle.org_amend.proofs.ClockLineLemmas.{body_line, clock_class, clock_no_hash, clock_quiet, clock_read_is, ends_no_block}
 use Rattle.org_amend.proofs.CutLemmas.{back_lines, first_ended, front_lines_are}
 use Rattle.org_amend.proofs.EndLemmas.{ended_clocks_are_read, since_is, size_of, split_line, stamp_end_within}
 use Rattle.org_amend.proofs.FeedLemmas.{end_has, feeds, feeds_end, line_feeds, none_in, none_taken, only_part, put_before_line, without_front}
 use Rattle.org_amend.proofs.LocatedLemmas.{located}
 use Rattle.org_amend.proofs.RunningLemmas.{found_clocks_run}
+use Rattle.org_amend.proofs.ReplacedLemmas.{replaced}
 use Rattle.org_base.specs.Spans.{bytes_in}
 use Rattle.org_class.proofs.LineLemmas.{first_line}
 use Rattle.org_class.specs.Blocks.{body_classes, ends_block}
