@@ -4,3 +4,4 @@ pub mod WrittenLemmas
 pub mod DraftLemmas
 pub mod SumLemmas
 pub mod LinkLemmas
+pub mod PlaceLemmas

@@ -4,6 +4,7 @@ pub mod Pieces
 pub mod Drafts
 pub mod Titles
 pub mod Rows
+pub mod Places
 pub mod Days
 pub mod Tasks
 pub mod Sums

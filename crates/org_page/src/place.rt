@@ -1,5 +1,6 @@
 //! Rows with hours in boxes beside one another.
 ghost use Rattle.std.specs.Prelude.{◌≡◌, vec_len};
+ghost use Rattle.org_page.specs.Places.{GivesDealt, GivesDealtUp, PutsRow};
 
 use crate::day::Boxed;
 use crate::row::{Hours, Row};
@@ -19,15 +20,29 @@ pub struct Placed {
     pub beside: Vec<Row>,
 }
 
-/// The rows of a day with hours, in their order, each in the first lane that is free where it begins.
-pub fn place_rows(alloc: Global, rows: Vec<Row>) -> Result<Placed, AllocError> {
+/// The rows of a day with hours, each once and in their order, each in the first lane that is free where it begins.
+pub fn place_rows(alloc: Global, rows: Vec<Row>) -> Result<Placed, AllocError>
+    ensures dealt { GivesDealt result rows.items }
+{
     let spots = spots_of(alloc, rows.as_slice())?;
+    let mut placed = placed_up(alloc, rows, spots.as_slice())?;
+    placed.boxes.reverse();
+    placed.beside.reverse();
+    Ok(placed)
+}
+
+// Rows in the places that they have, the last ones first.
+fn placed_up(alloc: Global, rows: Vec<Row>, spots: &[Spot]) -> Result<Placed, AllocError>
+    ensures dealt { GivesDealtUp result rows.items }
+{
+    let mut rows = rows;
     let mut placed = Placed {
         boxes: Vec::new(alloc),
         beside: Vec::new(alloc),
     };
-    for (place, row) in rows.into_iter().enumerate() {
-        placed.push(row, spots.get(place).copied())?;
+    while let Some(row) = rows.pop() {
+        let spot = spots.get(rows.len()).copied();
+        placed.push(row, spot)?;
     }
     Ok(placed)
 }
@@ -42,7 +57,9 @@ struct Spot {
 }
 
 impl Placed {
-    fn push(&mut self, row: Row, spot: Option<Spot>) -> Result<(), AllocError> {
+    fn push(&mut self, row: Row, spot: Option<Spot>) -> Result<(), AllocError>
+        ensures ok { PutsRow result row self.old self.new }
+    {
         match spot {
             Some(spot) if spot.lane < MOST_LANES => {
                 self.boxes.push(Boxed {
