@@ -1,0 +1,4 @@
+pub mod RangeLemmas
+pub mod HereLemmas
+pub mod SumLemmas
+pub mod PartLemmas

@@ -1,0 +1,15 @@
+pub mod Parts
+pub mod Marks
+pub mod Asked
+pub mod Days
+pub mod Cells
+pub mod Here
+pub mod Dated
+pub mod Tasks
+pub mod Groups
+pub mod Sums
+pub mod Charts
+pub mod Tables
+pub mod Whole
+pub mod Laws
+pub mod Examples

@@ -1,0 +1,107 @@
+//! What clocks have on days.
+ghost use Rattle.std.specs.Prelude.{◌≡◌};
+ghost use Rattle.org_base.specs.Results.{Adds, GivesItems};
+ghost use Rattle.org_cal.specs.Periods.{days_of};
+ghost use Rattle.org_cal.specs.Days.{IsDay};
+ghost use Rattle.org_overview.specs.Sums.{clocks_in, day_sum, day_sums, entry_clocks, sums_of, touching};
+ghost use Rattle.org_page.specs.Sums.{told};
+ghost use Rattle.org_sum.specs.Measures.{minutes_of};
+
+use org_cal::{Day, Period};
+use org_drawer::ClockLine;
+use org_entry::Entry;
+use org_outline::Outline;
+use std::alloc::{AllocError, Global};
+
+/// What the clocks of a file's headings have on each of so many days, in one pass over them and one over those that have minutes
+/// in these days for each day.
+pub(crate) fn file_sums(
+    alloc: Global,
+    outline: &Outline,
+    period: &Period,
+) -> Result<Vec<u64>, AllocError>
+    ensures value { GivesItems result (sums_of (days_of period.now) outline.now) }
+{
+    let clocks = clocks_in(alloc, outline, period)?;
+    day_sums(alloc, clocks.as_slice(), period)
+}
+
+// The clocks of headings that have minutes in some days.
+fn clocks_in(
+    alloc: Global,
+    outline: &Outline,
+    period: &Period,
+) -> Result<Vec<ClockLine>, AllocError>
+    ensures value { GivesItems result (clocks_in (days_of period.now) outline.now) }
+{
+    let mut clocks = Vec::new(alloc);
+    for place in 0..outline.count() {
+        push_entry(&mut clocks, outline.entry(place), period)?;
+    }
+    Ok(clocks)
+}
+
+fn push_entry(
+    clocks: &mut Vec<ClockLine>,
+    entry: &Entry,
+    period: &Period,
+) -> Result<(), AllocError>
+    ensures ok { Adds result clocks.old clocks.new (entry_clocks (days_of period.now) entry.now) }
+{
+    if entry.head.is_none() {
+        return Ok(());
+    }
+    push_touching(clocks, entry.details.clocks(), period)
+}
+
+fn push_touching(
+    clocks: &mut Vec<ClockLine>,
+    own: &[ClockLine],
+    period: &Period,
+) -> Result<(), AllocError>
+    ensures ok { Adds result clocks.old clocks.new (touching (days_of period.now) own.now) }
+{
+    for clock in own {
+        if clock.minutes_in(*period) > 0 {
+            clocks.push(*clock)?;
+        }
+    }
+    Ok(())
+}
+
+// What clocks have on each of the days of a period.
+fn day_sums(
+    alloc: Global,
+    clocks: &[ClockLine],
+    period: &Period,
+) -> Result<Vec<u64>, AllocError>
+    ensures value { GivesItems result (day_sums clocks.now (days_of period.now)) }
+{
+    let mut sums = Vec::new(alloc);
+    let first = period.first.number();
+    for ahead in 0..period.last.number() + 1 - first {
+        sums.push(sum_on(clocks, first + ahead))?;
+    }
+    Ok(sums)
+}
+
+fn sum_on(clocks: &[ClockLine], number: u32) -> u64
+    requires day { IsDay number }
+    ensures value { result ≡ day_sum clocks.now number }
+{
+    let Some(day) = Day::of_number(u64::from(number)) else {
+        return 0;
+    };
+    sum_of(clocks, Period { first: day, last: day })
+}
+
+// What clocks have in some days, at most 2^64 - 1.
+fn sum_of(clocks: &[ClockLine], days: Period) -> u64
+    ensures value { result ≡ told (minutes_of (days_of days) clocks.now) }
+{
+    let mut total: u64 = 0;
+    for clock in clocks {
+        total = total.saturating_add(clock.minutes_in(days));
+    }
+    total
+}
