@@ -2,5 +2,6 @@ pub mod AheadLemmas
 pub mod AskedLemmas
 pub mod IcalLemmas
 pub mod LimitLemmas
+pub mod PictureLemmas
 pub mod ShownLemmas
 pub mod WordLemmas

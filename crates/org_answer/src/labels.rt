@@ -1,4 +1,6 @@
 //! What a picture says of a row.
+ghost use Rattle.std.specs.Prelude.{◌≡◌};
+ghost use Rattle.org_answer.specs.Pictures.{GivesEntries, stand_of};
 
 use org_agenda::{Row, RowKind};
 use org_base::Fault;
@@ -16,13 +18,15 @@ pub(crate) struct Wording {
     pub signs: Signs,
 }
 
-/// The rows of a day as a picture has them.
+/// The rows of a day as a picture has them, an entry for each in their order.
 pub(crate) fn entries_of(
     alloc: Global,
     inherits: &Inherits<'_>,
     rows: &[Row],
     wording: &Wording,
-) -> Result<Vec<Entry>, Fault> {
+) -> Result<Vec<Entry>, Fault>
+    ensures value { GivesEntries result rows.now }
+{
     let mut entries = Vec::new(alloc);
     for row in rows {
         let label = label_of(alloc, inherits, row, wording)?;
@@ -34,7 +38,9 @@ pub(crate) fn entries_of(
     Ok(entries)
 }
 
-fn stand_of(row: &Row) -> Stand {
+fn stand_of(row: &Row) -> Stand
+    ensures value { result ≡ stand_of row.now }
+{
     match row.kind {
         RowKind::InRange => Stand::Range(row.number, row.of),
         RowKind::LateSchedule | RowKind::LateDeadline => Stand::Late,

@@ -17,7 +17,7 @@
 
 mod calendar;
 mod chart;
-mod clock_lines;
+mod clocks;
 mod expression;
 mod hours;
 mod ical;
@@ -28,21 +28,21 @@ mod once_words;
 mod picture;
 mod query;
 mod rows_ahead;
-mod running_clocks;
+mod running;
 mod show;
 mod table;
 mod view;
 mod words;
 
 pub use calendar::{Calendar, Canvas, View};
-pub use clock_lines::clock_lines;
+pub use clocks::clock_lines;
 pub use expression::read_expression;
 pub use hours::day_picture;
 pub use ical::{Ical, ical_of};
 pub use limits::lines_within;
 pub use picture::{Picture, calendar_picture};
 pub use query::{ClockQuery, Query, Question, answer, check};
-pub use running_clocks::{running_clocks, running_lines};
+pub use running::{running_clocks, running_lines};
 pub use show::{Form, PrintOptions, answer_bytes, has_stamp, heading_of, picture_bytes, push_seen};
 pub use view::{Answer, Chosen, Days, match_list};
 pub use words::{WordKind, word_lines, words_of};

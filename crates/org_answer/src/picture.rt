@@ -1,4 +1,6 @@
 //! Calendars as pictures.
+ghost use Rattle.std.specs.Prelude.{◌≡◌, ◌+◌, ◌/◌, ◌<◌, ◌≤◌, IfOk, map};
+ghost use Rattle.org_answer.specs.Pictures.{GivesDay, day_stands, stands_from, stands_of_weeks};
 ghost use Rattle.org_client.specs.Files.{AreRead};
 
 use crate::calendar::{Calendar, View};
@@ -70,12 +72,16 @@ fn has_row(week: &WeekDays) -> bool {
     week.days.iter().any(|day| !day.entries.is_empty())
 }
 
+// The whole weeks of an agenda.
+#[tactic(auto, using(crate::proofs::PictureLemmas::adds_one))]
 fn all_weeks(
     alloc: Global,
     inherits: &Inherits<'_>,
     agenda: &Agenda,
     drawing: &Drawing<'_>,
-) -> Result<Vec<WeekDays>, Fault> {
+) -> Result<Vec<WeekDays>, Fault>
+    ensures days { IfOk result (λ weeks. map (λ week. map day_stands week.days.items) weeks.items ≡ stands_of_weeks agenda.now (agenda.now.count / 7)) }
+{
     let mut weeks = Vec::new(alloc);
     for week in 0..agenda.count() / 7 {
         weeks.push(week_of(alloc, inherits, agenda, drawing, 7 * week)?)?;
@@ -84,32 +90,49 @@ fn all_weeks(
 }
 
 // The week whose first day is so many days after the first of an agenda.
+#[tactic(auto, using(crate::proofs::PictureLemmas::adds_one))]
 fn week_of(
     alloc: Global,
     inherits: &Inherits<'_>,
     agenda: &Agenda,
     drawing: &Drawing<'_>,
     first: u32,
-) -> Result<WeekDays, Fault> {
+) -> Result<WeekDays, Fault>
+    requires within { first + 7 ≤ agenda.now.count }
+    ensures days { IfOk result (λ week. map day_stands week.days.items ≡ stands_from agenda.now first 7) }
+{
+    let (_, week) = agenda.day(first).iso_week();
     let mut days = Vec::new(alloc);
-    let mut number = String::new(alloc);
-    for ahead in first..first.saturating_add(7) {
-        if ahead < agenda.count() {
-            let rows = agenda.rows(alloc, ahead)?;
-            let entries = entries_of(alloc, inherits, rows.as_slice(), &drawing.wording)?;
-            let day = agenda.day(ahead);
-            if ahead == first {
-                let (_, week) = day.iso_week();
-                write!(number, "{week:>2} ")?;
-            }
-            days.push(drawing.day(alloc, day, entries)?)?;
-        }
+    for place in 0..7 {
+        let day = day_of(alloc, inherits, agenda, drawing, first + place)?;
+        days.push(day)?;
     }
-    Ok(WeekDays { number, days })
+    Ok(WeekDays {
+        number: format!(in alloc; "{week:>2} ")?,
+        days,
+    })
+}
+
+// The day so many days after the first of an agenda.
+fn day_of(
+    alloc: Global,
+    inherits: &Inherits<'_>,
+    agenda: &Agenda,
+    drawing: &Drawing<'_>,
+    ahead: u32,
+) -> Result<GridDay, Fault>
+    requires within { ahead < agenda.now.count }
+    ensures value { GivesDay result agenda.now ahead }
+{
+    let rows = agenda.rows(alloc, ahead)?;
+    let entries = entries_of(alloc, inherits, rows.as_slice(), &drawing.wording)?;
+    Ok(drawing.day(alloc, agenda.day(ahead), entries)?)
 }
 
 impl Drawing<'_> {
-    fn day(&self, alloc: Global, day: Day, entries: Vec<Entry>) -> Result<GridDay, AllocError> {
+    fn day(&self, alloc: Global, day: Day, entries: Vec<Entry>) -> Result<GridDay, AllocError>
+        ensures value { IfOk result (λ made. made.entries.items ≡ entries.items) }
+    {
         let (_, month, of_month) = day.parts();
         let (_, shown, _) = self.calendar.day.parts();
         let is_today = day == self.today;

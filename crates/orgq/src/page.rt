@@ -18,7 +18,7 @@ use org_page::{LinkTemplate, PLAIN_LINK, is_page};
 use org_save::{Cause, Disk, Name, Store, Unfit, open, replace};
 use org_text::Whole;
 use std::alloc::Global;
-use std::fs::{self, File, OpenFile, OpenOptions};
+use std::fs::{File, OpenFile, OpenOptions};
 use std::io::ErrorKind;
 use std::rt::{Env, Files};
 use std::time::Clock;
@@ -117,7 +117,7 @@ fn write_new<R: AllocGlobal + Clock + Files<File = File> + Eprint>(
         Err(why) => report_unfit(rt, path, &why),
     };
     if written != status {
-        let _ = fs::remove_file(rt, path);
+        say_of(rt, path, EMPTY);
     }
     written
 }
@@ -162,3 +162,6 @@ fn replace_page<R: AllocGlobal + Files<File = File> + Eprint>(
 }
 
 const OTHER: &str = "it is no page of orgq; nothing was written";
+
+// What another program wrote there meanwhile would go with it, so it isn't removed.
+const EMPTY: &str = "a file was made there, and has no page";

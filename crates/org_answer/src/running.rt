@@ -2,7 +2,7 @@
 ghost use Rattle.std.specs.Prelude.{IfOk};
 ghost use Rattle.org_answer.specs.Shown.{AreCleanLines, IsSafe, KeepsClean};
 
-use crate::clock_lines::{ClockText, push_place, push_row, push_title};
+use crate::clocks::{ClockText, push_place, push_row, push_title};
 use crate::show::{Form, PrintOptions};
 use org_base::Fault;
 use org_cal::{Day, LAST_DAY, Moment, Period};

@@ -1,6 +1,6 @@
 -- The lines so far are clean where they have to be.
 use Rattle.org_answer.specs.Shown.{AreCleanLines, IsSafe}
-use Rattle.org_answer.proofs.clock_lines.running_lines.Given as goal
+use Rattle.org_answer.proofs.running.running_lines.Given as goal
 
 abbrev pub invariant-loop-clock : goal.invariant-loop-clock
 invariant-loop-clock g l = IsSafe l.look → AreCleanLines l.out.items
