@@ -8,7 +8,7 @@
 //! Every call that allocates may be refused memory, and that is its only refusal.
 //!
 //! ```
-//! match logbook(alloc, text, section, classes)? {
+//! match drawer_of(alloc, text, section, classes, DrawerName::Logbook)? {
 //!     Some(drawer) => Ok(ClockPlace::InDrawer(drawer)),
 //!     None => Ok(ClockPlace::UnderFront(front_end(alloc, text, section, classes)?)),
 //! }

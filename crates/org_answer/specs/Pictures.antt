@@ -1,10 +1,11 @@
 -- Which rows the days of a picture have, and how they stand there.
-use Rattle.std.specs.Prelude.{◌≡◌, ℕ, ◌*◌, List, Result, IfOk, Vec, map}
+use Rattle.std.specs.Prelude.{◌≡◌, ℕ, ◌*◌, ◌/◌, List, Result, IfOk, Vec, map}
 use Rattle.std.specs.List.{range_with_len}
 use Rattle.org_agenda.specs.Days.{AgendaView, rows_ahead}
 use Rattle.org_agenda.specs.declared.row.Row.{Row}
 use Rattle.org_agenda.specs.declared.row.RowKind.{RowKind}
 use Rattle.org_agenda.specs.declared.row.RowKind.TheVariants.{InRange, LateSchedule, Warning, LateDeadline}
+use Rattle.org_answer.specs.declared.picture.WeekDays.{WeekDays}
 use Rattle.org_look.specs.declared.day.GridDay.{GridDay}
 use Rattle.org_look.specs.declared.entry.Entry.{Entry}
 use Rattle.org_look.specs.declared.entry.Stand.{Stand}
@@ -43,6 +44,14 @@ GivesDay result agenda ahead = IfOk result (λ day. day_stands day ≡ row_stand
 abbrev pub stands_from : AgendaView → ℕ → ℕ → List (List Stand)
 stands_from agenda first count = map (λ ahead. row_stands (rows_ahead agenda ahead)) (range_with_len first count)
 
+-- the days of a week have these, unless memory is refused
+abbrev pub AreWeek : {A : Type 0} → Vec GridDay A → AgendaView → ℕ → Type 0
+AreWeek days agenda first = map day_stands days.items ≡ stands_from agenda first 7
+
 -- the same of so many weeks, each with its days
 abbrev pub stands_of_weeks : AgendaView → ℕ → List (List (List Stand))
 stands_of_weeks agenda count = map (λ week. stands_from agenda (7 * week) 7) (range_with_len 0 count)
+
+-- weeks have the days of all whole weeks of an agenda
+abbrev pub AreWeeks : List WeekDays → AgendaView → Type 0
+AreWeeks weeks agenda = map (λ week. map day_stands week.days.items) weeks ≡ stands_of_weeks agenda (agenda.count / 7)

@@ -1,6 +1,6 @@
 //! Calendars as pictures.
-ghost use Rattle.std.specs.Prelude.{◌≡◌, ◌+◌, ◌/◌, ◌<◌, ◌≤◌, IfOk, map};
-ghost use Rattle.org_answer.specs.Pictures.{GivesDay, day_stands, stands_from, stands_of_weeks};
+ghost use Rattle.std.specs.Prelude.{◌≡◌, ◌+◌, ◌<◌, ◌≤◌, IfOk};
+ghost use Rattle.org_answer.specs.Pictures.{AreWeek, AreWeeks, GivesDay};
 ghost use Rattle.org_client.specs.Files.{AreRead};
 
 use crate::calendar::{Calendar, View};
@@ -80,7 +80,7 @@ fn all_weeks(
     agenda: &Agenda,
     drawing: &Drawing<'_>,
 ) -> Result<Vec<WeekDays>, Fault>
-    ensures days { IfOk result (λ weeks. map (λ week. map day_stands week.days.items) weeks.items ≡ stands_of_weeks agenda.now (agenda.now.count / 7)) }
+    ensures days { IfOk result (λ weeks. AreWeeks weeks.items agenda.now) }
 {
     let mut weeks = Vec::new(alloc);
     for week in 0..agenda.count() / 7 {
@@ -99,7 +99,7 @@ fn week_of(
     first: u32,
 ) -> Result<WeekDays, Fault>
     requires within { first + 7 ≤ agenda.now.count }
-    ensures days { IfOk result (λ week. map day_stands week.days.items ≡ stands_from agenda.now first 7) }
+    ensures days { IfOk result (λ week. AreWeek week.days agenda.now first) }
 {
     let (_, week) = agenda.day(first).iso_week();
     let mut days = Vec::new(alloc);

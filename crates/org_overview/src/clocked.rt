@@ -24,10 +24,7 @@ pub(crate) struct Clocked {
 }
 
 /// What a page shows of clocks.
-pub(crate) fn clocked_of<T: Text>(
-    alloc: Global,
-    seen: &Linked<'_, '_, T>,
-) -> Result<Clocked, Fault>
+pub(crate) fn clocked_of<T: Text>(alloc: Global, seen: &Linked<'_, '_, T>) -> Result<Clocked, Fault>
     requires read { AreRead seen.now.scopes.now }
     ensures value { GivesClocked result seen.now.scopes.now seen.now.wish.now }
     ensures memory { IsOkUnless result memory_fault }
@@ -48,10 +45,7 @@ pub(crate) struct Charted {
     pub(crate) today: u64,
 }
 
-fn charted_of<T: Text>(
-    alloc: Global,
-    seen: &Linked<'_, '_, T>,
-) -> Result<Charted, AllocError>
+fn charted_of<T: Text>(alloc: Global, seen: &Linked<'_, '_, T>) -> Result<Charted, AllocError>
     ensures value { GivesCharted result seen.now.scopes.now seen.now.wish.now.moment.day }
 {
     let period = chart_period(seen.wish.moment.day);

@@ -35,11 +35,7 @@ pub(crate) fn here_of<T: Text>(
 }
 
 // Today: rows without hours, and those with hours in boxes.
-fn today_of<T: Text>(
-    alloc: Global,
-    seen: &Linked<'_, '_, T>,
-    rows: &[Row],
-) -> Result<Today, Fault>
+fn today_of<T: Text>(alloc: Global, seen: &Linked<'_, '_, T>, rows: &[Row]) -> Result<Today, Fault>
     ensures today { GivesToday result seen.now.files.now.files rows.now }
     ensures memory { IsOkUnless result memory_fault }
 {

@@ -110,11 +110,7 @@ pub struct Cell {
     rows: Vec<PageRow>,
 }
 
-fn cell_of<T: Text>(
-    alloc: Global,
-    seen: &Linked<'_, '_, T>,
-    rows: &[Row],
-) -> Result<Cell, Fault>
+fn cell_of<T: Text>(alloc: Global, seen: &Linked<'_, '_, T>, rows: &[Row]) -> Result<Cell, Fault>
     ensures value { ShowsParts result seen.now.files.now.files rows.now }
     ensures memory { IsOkUnless result memory_fault }
 {

@@ -159,7 +159,10 @@ fn put_place<T: Text>(
     push_name(&mut shown.place, file.name())?;
     write!(shown.place, ":{line}")?;
     let path = file.path();
-    shown.link = seen.wish.template.address(alloc, &LinkPlace { path, line })?;
+    shown.link = seen
+        .wish
+        .template
+        .address(alloc, &LinkPlace { path, line })?;
     Ok(())
 }
 
@@ -183,11 +186,7 @@ fn put_heading(
 }
 
 // Puts what a heading's own line says.
-fn put_line(
-    alloc: Global,
-    shown: &mut PageRow,
-    heading: &Heading<'_, '_>,
-) -> Result<(), AllocError>
+fn put_line(alloc: Global, shown: &mut PageRow, heading: &Heading<'_, '_>) -> Result<(), AllocError>
     ensures same { OnOk result (shown_mark shown.new ≡ shown_mark shown.old) }
 {
     shown.is_done = heading.is_done();

@@ -41,11 +41,7 @@ fn clocks_in(
     Ok(clocks)
 }
 
-fn push_entry(
-    clocks: &mut Vec<ClockLine>,
-    entry: &Entry,
-    period: &Period,
-) -> Result<(), AllocError>
+fn push_entry(clocks: &mut Vec<ClockLine>, entry: &Entry, period: &Period) -> Result<(), AllocError>
     ensures ok { Adds result clocks.old clocks.new (entry_clocks (days_of period.now) entry.now) }
 {
     if entry.head.is_none() {
@@ -70,11 +66,7 @@ fn push_touching(
 }
 
 // What clocks have on each of the days of a period.
-fn day_sums(
-    alloc: Global,
-    clocks: &[ClockLine],
-    period: &Period,
-) -> Result<Vec<u64>, AllocError>
+fn day_sums(alloc: Global, clocks: &[ClockLine], period: &Period) -> Result<Vec<u64>, AllocError>
     ensures value { GivesItems result (day_sums clocks.now (days_of period.now)) }
 {
     let mut sums = Vec::new(alloc);
@@ -92,7 +84,13 @@ fn sum_on(clocks: &[ClockLine], number: u32) -> u64
     let Some(day) = Day::of_number(u64::from(number)) else {
         return 0;
     };
-    sum_of(clocks, Period { first: day, last: day })
+    sum_of(
+        clocks,
+        Period {
+            first: day,
+            last: day,
+        },
+    )
 }
 
 // What clocks have in some days, at most 2^64 - 1.

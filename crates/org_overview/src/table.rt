@@ -9,8 +9,8 @@ use crate::rows::{Linked, page_row};
 use crate::words::{month_name, short_name};
 use org_agenda::{Row, RowKind};
 use org_base::Fault;
-use org_clocktable::{Of, TableRow, counted_files, step_rows};
 use org_client::hundredths;
+use org_clocktable::{Of, TableRow, counted_files, step_rows};
 use org_page::{Sum, SumOf, Sums};
 use org_text::Text;
 use std::alloc::{AllocError, Global};
@@ -19,10 +19,7 @@ use std::alloc::{AllocError, Global};
 pub const MOST_LEVEL: u32 = 2;
 
 /// The clock table of the month, as a page shows it.
-pub(crate) fn month_sums<T: Text>(
-    alloc: Global,
-    seen: &Linked<'_, '_, T>,
-) -> Result<Sums, Fault>
+pub(crate) fn month_sums<T: Text>(alloc: Global, seen: &Linked<'_, '_, T>) -> Result<Sums, Fault>
     requires read { AreRead seen.now.scopes.now }
     ensures value { GivesSums result (wish_rows seen.now.wish.now seen.now.scopes.now) }
     ensures memory { IsOkUnless result memory_fault }
@@ -39,10 +36,7 @@ fn table_title<T: Text>(alloc: Global, seen: &Linked<'_, '_, T>) -> Result<Strin
     format!(in alloc; "{month} by heading")
 }
 
-fn table_rows<T: Text>(
-    alloc: Global,
-    seen: &Linked<'_, '_, T>,
-) -> Result<Vec<TableRow>, Fault>
+fn table_rows<T: Text>(alloc: Global, seen: &Linked<'_, '_, T>) -> Result<Vec<TableRow>, Fault>
     requires read { AreRead seen.now.scopes.now }
     ensures value { GivesItems result (wish_rows seen.now.wish.now seen.now.scopes.now) }
     ensures memory { IsOkUnless result memory_fault }

@@ -195,11 +195,7 @@ fn tasks_of<T: Text>(
     Ok(tasks)
 }
 
-fn task_of<T: Text>(
-    alloc: Global,
-    seen: &Linked<'_, '_, T>,
-    row: &Row,
-) -> Result<Task, Fault>
+fn task_of<T: Text>(alloc: Global, seen: &Linked<'_, '_, T>, row: &Row) -> Result<Task, Fault>
     ensures value { ShowsTask result seen.now.files.now.files row.now }
     ensures memory { IsOkUnless result memory_fault }
 {

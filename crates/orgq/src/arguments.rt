@@ -314,7 +314,9 @@ fn ical<'a>(alloc: Global) -> Result<Command<'a>, AllocError> {
 }
 
 fn page<'a>(alloc: Global) -> Result<Command<'a>, AllocError> {
-    let page = Command::new(alloc, "page").about("Some days, the month, clocks and open tasks as a page of HTML");
+    let page = Command::new(alloc, "page").about(
+        "Some days, the month, clocks and open tasks as a page of HTML",
+    );
     with_options(alloc, page, OF_PAGE, false)
 }
 

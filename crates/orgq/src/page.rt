@@ -79,11 +79,7 @@ fn read_wish<'a>(
     }
 }
 
-fn page_text(
-    alloc: Global,
-    file_set: &FileSet<Whole>,
-    wish: &Wish<'_>,
-) -> Result<String, Fault> {
+fn page_text(alloc: Global, file_set: &FileSet<Whole>, wish: &Wish<'_>) -> Result<String, Fault> {
     let inherits = file_set.inherits()?;
     overview_text(alloc, file_set, &inherits, wish)
 }
