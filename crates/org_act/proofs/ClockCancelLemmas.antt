@@ -102,29 +102,34 @@ cancel_made text new place part t inside is =
     ∙ (replaced_in a s c [] part.at part.len p at within ∙ ap (λ x. a ++ (x ++ c)) (inner ∙ sym left)))
 
 pub acts_cancel_one_clock : ActsCancelOneClock
-acts_cancel_one_clock line place text new utf8 begun e = by (running_in text section (classes_in text section)) refl d.made
+acts_cancel_one_clock line text new utf8 e = by (running_in text section (classes_in text section)) refl d.made
   where
-    d : IsDone (record { line = line; step = Cancel }) text new place
-    d = is_done (record { line = line; step = Cancel }) text new place begun e
+    d : IsDone (record { line = line; step = Cancel }) text new
+    d = is_done (record { line = line; step = Cancel }) text new e
+
+    place : ℕ
+    place = d.place
 
     section : Span
     section = span_at text place
 
     t : IsThere text place
-    t = is_there text line place begun
+    t = is_there text line place d.begun
 
-    by : (o : Option RunningClock) → running_in text section (classes_in text section) ≡ o → with_part text (step_part Cancel text section o) ≡ Ok new → IsLostAt place text new
+    by : (o : Option RunningClock) → running_in text section (classes_in text section) ≡ o → with_part text (step_part Cancel text section o) ≡ Ok new → IsLostAt line text new
     by None found made = absurd cc
     by (Some clock) found made =
         let part = cancelled_part text section (classes_in text section) clock in
         let inside = cancelled_within text section (classes_in text section) clock t.within (running_within text section (classes_in text section) clock t.within found) in
-        let begins = its_heading text line place begun d.heading in
+        let begins = its_heading text line place d.begun d.heading in
         let bytes = t.bytes_are in
         let text_own : IsUtf8 (bytes_in text section) = subst IsUtf8 (sym bytes) (section_text text place utf8 t) in
         let raw = others_stay text section clock t.within text_own (ap begins_heading bytes ∙ begins) found in
         let own = section_without text section part in
         let lost : HasLost clock.from (section_of text place) own = subst (λ (s : List ℕ). HasLost clock.from s own) bytes raw in
         record {
+          place = place;
+          begun = d.begun;
           from = clock.from;
           old = section_of text place;
           own = own;

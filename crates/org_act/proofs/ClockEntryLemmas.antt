@@ -11,7 +11,9 @@ use Rattle.std.proofs.lemmas.Slice.Eq.{bytes_eq-Decides}
 use Rattle.std.proofs.Math.Seq.{drop-append_seam}
 use Rattle.org_act.specs.ClockEntries.{OneClockCloses, OneClockGoes, SaysElse, closed, running, unplaced}
 use Rattle.org_act.proofs.GivenLemmas.{gives, gives_is, gives_three, head_both, head_is, head_over, stamps_given, stamps_is}
+use Rattle.org_act.proofs.OverLemmas.{all_over}
 use Rattle.org_amend.specs.CancelLaws.{AreGone, AreKept, alone, drawer}
+use Rattle.org_amend.specs.Clocks.{first_running}
 use Rattle.org_amend.specs.Places.{is_logbook}
 use Rattle.org_amend.proofs.EndLemmas.{since_is}
 use Rattle.org_base.specs.Words.{is_gap, same_word, trim_start, trimmed}
@@ -269,4 +271,5 @@ one_clock_closes settings from to old new h =
           is.clocks
           ∙ (gives_three clocks_of h.before (h.ended ∷ []) h.after h.before_classes (Clock ∷ []) h.after_classes h.before_size refl
           ∙ ap (λ m. gives clocks_of h.before h.before_classes ++ (m ++ gives clocks_of h.after h.after_classes)) (one_gives h.ended (closed from to) h.ends));
+      first = all_over [] h.before_classes (Clock ∷ h.after_classes) 0 0 h.before refl h.before_size (ap (λ cs. first_running cs 0 0 h.before) (sym h.classes_were) ∙ h.none_before);
     }

@@ -71,8 +71,8 @@ entries_are : (settings : FileSettings) (text s : List ℕ) (before after : List
     entries_of settings text ≡ map (entry_of settings) before ++ entry_of settings s ∷ map (entry_of settings) after
 entries_are settings text s before after is = ap (map (entry_of settings)) is ∙ map-append (entry_of settings) before (s ∷ after)
 
-grow : (place : ℕ) (now : Moment) (text new : List ℕ) → EndsAt place now text new → SumsGrow place now text new
-grow place now text new h =
+grow : (line : ℕ) (now : Moment) (text new : List ℕ) → EndsAt line now text new → SumsGrow line now text new
+grow line now text new h =
     let settings = file_settings text in
     let c = h.changes in
     let before = map (entry_of settings) c.before in
@@ -82,9 +82,11 @@ grow place now text new h =
     let were : file_entries text ≡ before ++ old ∷ after = entries_are settings text h.old c.before c.after c.sections_were in
     let same : file_settings new ≡ settings = ap settings_of c.settings_are in
     let are : file_entries new ≡ before ++ own ∷ after = ap (λ s. entries_of s new) same ∙ entries_are settings new h.own c.before c.after c.sections_are in
-    let at : length before ≡ place = length-map c.before (entry_of settings) ∙ c.place_is in
+    let at : length before ≡ h.place = length-map c.before (entry_of settings) ∙ c.place_is in
     let closes = one_clock_closes settings h.from (minute_at now) h.old h.own h.ended in
     record {
+      place = h.place;
+      begun = h.begun;
       from = h.from;
       in_time = h.in_time;
       sums = λ days counted heading hold.
@@ -97,4 +99,4 @@ grow place now text new h =
     }
 
 pub acts_add_minutes : ActsAddMinutes
-acts_add_minutes line place now text new day time begun e = grow place now text new (acts_end_one_clock line place now text new day time begun e)
+acts_add_minutes line now text new day time e = grow line now text new (acts_end_one_clock line now text new day time e)

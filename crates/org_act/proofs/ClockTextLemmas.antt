@@ -14,6 +14,7 @@ use Rattle.org_act.specs.declared.clock_act.ClockAct.{ClockAct}
 use Rattle.org_act.specs.declared.clock_act.ClockStep.TheVariants.{Out}
 use Rattle.org_act.proofs.ClockSpanLemmas.{no_section, section_found}
 use Rattle.org_act.proofs.GivenLemmas.{gives}
+use Rattle.org_act.proofs.PlaceLemmas.{heading_begins}
 use Rattle.org_act.proofs.PlanLemmas.{sized_is}
 use Rattle.org_act.proofs.SectionLemmas.{at_place, blank_begins, clock_begins, inner_lines, one_section, put_text, same_settings, setting_given}
 use Rattle.org_amend.specs.CancelLaws.{AreGone, AreKept, HasLost, alone, drawer}
@@ -54,23 +55,27 @@ answered_is (Err fault) new e = absurd cc
 pub part_made : (text new : List ℕ) (p : Part) → with_part text (Ok p) ≡ Ok new → new ≡ replace text p.at p.del p.ins
 part_made text new p e = sized_is (replace text p.at p.del p.ins) new (answered_is (sized (replace text p.at p.del p.ins)) new e)
 
-pub record IsDone (act : ClockAct) (text new : List ℕ) (place : ℕ) : Type 0 where
+pub record IsDone (act : ClockAct) (text new : List ℕ) : Type 0 where
+  pub place : ℕ
+  pub begun : IsBegunBy text act.line place
   pub heading : has_heading text act.line ≡ true
   pub made : step_in act.step text (span_at text place) ≡ Ok new
 
-done_by : (act : ClockAct) (text new : List ℕ) (place : ℕ) → IsBegunBy text act.line place → clocked_by act text ≡ Ok new → IsDone act text new place
-done_by act text new place begun e = elim (cases_Bool (has_heading text act.line)) [
-  | inl h ↦ record { heading = h; made = ap (step_on act.step text) (sym (section_found text act.line place begun h)) ∙ e }
+done_by : (act : ClockAct) (text new : List ℕ) → clocked_by act text ≡ Ok new → IsDone act text new
+done_by act text new e = elim (cases_Bool (has_heading text act.line)) [
+  | inl h ↦
+      let b = heading_begins text act.line h in
+      record { place = b.place; begun = b.begun; heading = h; made = ap (step_on act.step text) (sym (section_found text act.line b.place b.begun h)) ∙ e }
   | inr h ↦ absurd (let wrong : ◌≡◌ {A = Result (List ℕ) Refusal} (Err _) (Ok new) = ap (step_on act.step text) (sym (no_section text act.line h)) ∙ e in cc)
 ]
 
-pub is_done : (act : ClockAct) (text new : List ℕ) (place : ℕ) → IsBegunBy text act.line place → clocked_text act text ≡ Ok new → IsDone act text new place
+pub is_done : (act : ClockAct) (text new : List ℕ) → clocked_text act text ≡ Ok new → IsDone act text new
 unfolding clocked_text
-is_done act text new place begun e = by (sized text) refl e
+is_done act text new e = by (sized text) refl e
   where
-    by : (r : Result (List ℕ) Fault) → sized text ≡ r → clocked_in act r ≡ Ok new → IsDone act text new place
+    by : (r : Result (List ℕ) Fault) → sized text ≡ r → clocked_in act r ≡ Ok new → IsDone act text new
     by (Err fault) was e = absurd cc
-    by (Ok whole) was e = done_by act text new place begun (ap (clocked_by act) (sym (sized_is text whole was)) ∙ e)
+    by (Ok whole) was e = done_by act text new (ap (clocked_by act) (sym (sized_is text whole was)) ∙ e)
 
 -- the section that begins with a line
 
@@ -271,18 +276,21 @@ end_made text new put place clock t within is =
     ∙ ap (λ x. concat t.before ++ (x ++ concat t.after)) inner))
 
 pub acts_end_one_clock : ActsEndOneClock
-acts_end_one_clock line place now text new day time begun e = by (running_in text section (classes_in text section)) refl d.made
+acts_end_one_clock line now text new day time e = by (running_in text section (classes_in text section)) refl d.made
   where
-    d : IsDone (record { line = line; step = Out now }) text new place
-    d = is_done (record { line = line; step = Out now }) text new place begun e
+    d : IsDone (record { line = line; step = Out now }) text new
+    d = is_done (record { line = line; step = Out now }) text new e
+
+    place : ℕ
+    place = d.place
 
     section : Span
     section = span_at text place
 
     t : IsThere text place
-    t = is_there text line place begun
+    t = is_there text line place d.begun
 
-    by : (o : Option RunningClock) → running_in text section (classes_in text section) ≡ o → with_part text (step_part (Out now) text section o) ≡ Ok new → EndsAt place now text new
+    by : (o : Option RunningClock) → running_in text section (classes_in text section) ≡ o → with_part text (step_part (Out now) text section o) ≡ Ok new → EndsAt line now text new
     by None found made = absurd cc
     by (Some clock) found made = elim (cases_Bool (nat_le clock.from (minute_at now))) [
       | inr late ↦ absurd (let wrong : ◌≡◌ {A = Result (List ℕ) Refusal} (Err _) (Ok new) = rw late at made in cc)
@@ -290,13 +298,15 @@ acts_end_one_clock line place now text new day time begun e = by (running_in tex
           let put = end_text now (minute_at now - clock.from) in
           let done : with_part text (Ok (inserted_at clock.end put)) ≡ Ok new = rw early at made in
           let within = running_within text section (classes_in text section) clock t.within found in
-          let begins = its_heading text line place begun d.heading in
+          let begins = its_heading text line place d.begun d.heading in
           let bytes = t.bytes_are in
           let raw = one_clock_ends text section clock now (minute_at now - clock.from) t.within (ap begins_heading bytes ∙ begins) day time found in
           let own = with_text (section_of text place) (clock.end - section.at) put in
           let ended : HasEnded clock.from (minute_at now) (section_of text place) own =
           subst (λ (s : List ℕ). HasEnded clock.from (minute_at now) s (with_text s (clock.end - section.at) put)) bytes raw in
           record {
+            place = place;
+            begun = d.begun;
             from = clock.from;
             old = section_of text place;
             own = own;

@@ -12,7 +12,9 @@ pub mod DoneLemmas
 pub mod GivenLemmas
 pub mod LawLemmas
 pub mod LineLemmas
+pub mod OverLemmas
 pub mod OwnLemmas
+pub mod PlaceLemmas
 pub mod PlanLemmas
 pub mod PlanningLemmas
 pub mod SectionLemmas

@@ -1,5 +1,6 @@
 -- What the entry of a heading says behind an act on its clock, beside what it said (Org manual 9.6, "Clocking Work Time").
-use Rattle.std.specs.Prelude.{◌≡◌, ℕ, List, ◌∷◌, ◌++◌, map, Some, None}
+use Rattle.std.specs.Prelude.{◌≡◌, ℕ, Bool, true, List, ◌∷◌, ◌++◌, map, Some, None, is_some}
+use Rattle.std.specs.List.{list_all}
 use Rattle.org_amend.specs.CancelLaws.{HasLost}
 use Rattle.org_amend.specs.EndLaws.{HasEnded}
 use Rattle.org_drawer.specs.declared.clock.ClockLine.{ClockLine}
@@ -35,13 +36,18 @@ pub record HasLostClock (from : ℕ) (old new : Entry) : Type 0 where
   pub clocks_were : old.details.clocks ≡ before ++ running from ∷ after
   pub clocks_are : new.details.clocks ≡ before ++ after
 
--- at its place the clock that runs since a minute ended; all else is said as before
+-- a clock that doesn't run
+abbrev pub is_over : ClockLine → Bool
+is_over clock = is_some clock.to
+
+-- at its place the first clock that ran, since a minute, ended; all else is said as before
 pub record HasEndedClock (from to : ℕ) (old new : Entry) : Type 0 where
   pub others : SaysElse old new
   pub before : List ClockLine
   pub after : List ClockLine
   pub clocks_were : old.details.clocks ≡ before ++ running from ∷ after
   pub clocks_are : new.details.clocks ≡ before ++ closed from to ∷ after
+  pub first : list_all is_over before ≡ true
 
 -- where lines went with a running clock, the entry says all that it said but for that clock
 abbrev pub OneClockGoes : Type 0

@@ -29,8 +29,10 @@ pub record ChangesSection (place : ℕ) (text new old own : List ℕ) : Type 0 w
   pub begins : begins_heading old ≡ true
   pub settings_are : setting_lines new ≡ setting_lines text
 
--- the running clock of the heading at a place ended at a moment, which is no earlier than it began
-pub record EndsAt (place : ℕ) (now : Moment) (text new : List ℕ) : Type 0 where
+-- the running clock of the heading on a line ended at a moment, which is no earlier than it began
+pub record EndsAt (line : ℕ) (now : Moment) (text new : List ℕ) : Type 0 where
+  pub place : ℕ
+  pub begun : IsBegunBy text line place
   pub from : ℕ
   pub old : List ℕ
   pub own : List ℕ
@@ -38,8 +40,10 @@ pub record EndsAt (place : ℕ) (now : Moment) (text new : List ℕ) : Type 0 wh
   pub in_time : from ≤ minute_at now
   pub ended : HasEnded from (minute_at now) old own
 
--- the running clock of the heading at a place is gone
-pub record IsLostAt (place : ℕ) (text new : List ℕ) : Type 0 where
+-- the running clock of the heading on a line is gone
+pub record IsLostAt (line : ℕ) (text new : List ℕ) : Type 0 where
+  pub place : ℕ
+  pub begun : IsBegunBy text line place
   pub from : ℕ
   pub old : List ℕ
   pub own : List ℕ
@@ -48,16 +52,17 @@ pub record IsLostAt (place : ℕ) (text new : List ℕ) : Type 0 where
 
 -- where a clock ends, only the section changes that begins with the line, and of it the clock's line
 abbrev pub ActsEndOneClock : Type 0
-ActsEndOneClock = (line place : ℕ) (now : Moment) (text new : List ℕ) → IsDay now.day → now.minute < MINUTES_PER_DAY → IsBegunBy text line place →
-    clocked_text (record { line = line; step = Out now }) text ≡ Ok new → EndsAt place now text new
+ActsEndOneClock = (line : ℕ) (now : Moment) (text new : List ℕ) → IsDay now.day → now.minute < MINUTES_PER_DAY → clocked_text (record { line = line; step = Out now }) text ≡ Ok new → EndsAt line now text new
 
 -- where a clock is cancelled, only the section changes that begins with the line, and loses the clock alone
 abbrev pub ActsCancelOneClock : Type 0
-ActsCancelOneClock = (line place : ℕ) (text new : List ℕ) → IsUtf8 text → IsBegunBy text line place → clocked_text (record { line = line; step = Cancel }) text ≡ Ok new → IsLostAt place text new
+ActsCancelOneClock = (line : ℕ) (text new : List ℕ) → IsUtf8 text → clocked_text (record { line = line; step = Cancel }) text ≡ Ok new → IsLostAt line text new
 
 -- the clock that ended began in a minute, no later than the moment. In days that hold both, the sums of its heading and of the
 -- ancestors are the former ones and its minutes, and no other sum changes
-pub record SumsGrow (place : ℕ) (now : Moment) (text new : List ℕ) : Type 0 where
+pub record SumsGrow (line : ℕ) (now : Moment) (text new : List ℕ) : Type 0 where
+  pub place : ℕ
+  pub begun : IsBegunBy text line place
   pub from : ℕ
   pub in_time : from ≤ minute_at now
   pub sums : (days : ℕ × ℕ) (counted : List Bool) (heading : ℕ) → Hold days from (minute_at now) →
@@ -66,5 +71,4 @@ pub record SumsGrow (place : ℕ) (now : Moment) (text new : List ℕ) : Type 0 
 
 -- behind `clock out` the sums are so
 abbrev pub ActsAddMinutes : Type 0
-ActsAddMinutes = (line place : ℕ) (now : Moment) (text new : List ℕ) → IsDay now.day → now.minute < MINUTES_PER_DAY → IsBegunBy text line place →
-    clocked_text (record { line = line; step = Out now }) text ≡ Ok new → SumsGrow place now text new
+ActsAddMinutes = (line : ℕ) (now : Moment) (text new : List ℕ) → IsDay now.day → now.minute < MINUTES_PER_DAY → clocked_text (record { line = line; step = Out now }) text ≡ Ok new → SumsGrow line now text new

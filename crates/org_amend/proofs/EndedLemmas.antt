@@ -151,7 +151,7 @@ none_of (Some Verbatim) at to l h = refl
 none_of (Some BlockEnd) at to l h = refl
 none_of (Some Plain) at to l h = refl
 
-none_later : (a b : Option RunningClock) → or_later a b ≡ None → (a ≡ None) × (b ≡ None)
+pub none_later : (a b : Option RunningClock) → or_later a b ≡ None → (a ≡ None) × (b ≡ None)
 none_later None b h = (refl, h)
 none_later (Some r) b h = absurd cc
 
