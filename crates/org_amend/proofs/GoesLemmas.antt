@@ -1,40 +1,32 @@
 -- A clock that is cancelled: which lines go.
-use Rattle.std.proofs.Common.{◌≡◌, ◌∙◌, inl, inr, ℕ, suc, ◌+◌, ◌-◌, ◌≤◌, ◌==◌, ◌&&◌, Bool, true, false, List, [], ◌∷◌, ◌++◌, length, map, refl, sym, ap, subst, arith, append_assoc, append-nil, length-append}
+use Rattle.std.proofs.Common.{◌≡◌, ◌∙◌, inl, inr, ℕ, ◌+◌, ◌-◌, ◌≤◌, ◌==◌, ◌&&◌, Bool, true, false, List, [], ◌∷◌, ◌++◌, length, refl, sym, ap, subst, arith, append_assoc, append-nil, length-append}
 use Rattle.std.specs.Prelude.{Option, Some, None, nat_lt, slice_get}
-use Rattle.std.specs.List.{AllByRecursion, concat, list_any, slice_range}
-use Rattle.std.specs.Str.{IsUtf8, is_utf8}
-use Rattle.std.proofs.lemmas.Bool.{and_parts, cases_Bool, eq-eqb, eqb-true}
-use Rattle.std.proofs.lemmas.List.Elements.{recursion_from_All}
+use Rattle.std.specs.List.{concat, list_any, slice_range}
+use Rattle.std.proofs.lemmas.Bool.{and_parts, cases_Bool, eqb-true}
 use Rattle.std.proofs.lemmas.List.Folds.{concat-append}
-use Rattle.std.proofs.lemmas.Str.{is_utf8-from_IsUtf8}
-use Rattle.org_amend.specs.CancelLaws.{AreGone, AreKept, HasLost, OthersStay, alone, drawer}
-use Rattle.org_amend.specs.Cancelled.{behind_clock, but_end, cancelled_part, closing_len, emptied_in, emptied_part, end_len, front_lines, guarded_part, has_front, line_part, section_without}
+use Rattle.org_amend.specs.CancelLaws.{AreGone, alone, drawer}
+use Rattle.org_amend.specs.Cancelled.{behind_clock, closing_len, emptied_in, emptied_part, line_part}
 use Rattle.org_amend.specs.Clocks.{since}
 use Rattle.org_amend.specs.Places.{logbook_in}
 use Rattle.org_amend.specs.declared.place.DrawerName.TheVariants.{Logbook}
 use Rattle.org_amend.specs.declared.running.RunningClock.{RunningClock}
-use Rattle.org_amend.proofs.BodyLemmas.{IsTail, body_front, is_alone}
+use Rattle.org_amend.proofs.BodyLemmas.{is_alone}
 use Rattle.org_amend.proofs.ClockLineLemmas.{body_line, clock_class, clock_no_hash, clock_read_is, end_class, end_no_hash}
-use Rattle.org_amend.proofs.CutLemmas.{AreSome, HasEnd, IsCut, IsEnd, back_lines, cut_back, cut_front, cut_middle, end_line, end_of, first_ended, front_lines_are, front_text, lines_some, same_place}
+use Rattle.org_amend.proofs.CutLemmas.{AreSome, IsCut, back_lines, cut_back, lines_some, same_place}
 use Rattle.org_amend.proofs.DrawerLemmas.{IsDrawer, drawer_found}
 use Rattle.org_amend.proofs.EndLemmas.{since_is}
-use Rattle.org_amend.proofs.LocatedLemmas.{IsLocated, first_class, located}
-use Rattle.org_amend.proofs.RunningLemmas.{found_clocks_run}
-use Rattle.org_amend.proofs.ReplacedLemmas.{AreReplaced, IsQuiet, quiet_front, replaced}
+use Rattle.org_amend.proofs.LocatedLemmas.{IsLocated, first_class}
 use Rattle.org_base.specs.Spans.{bytes_in}
-use Rattle.org_base.specs.Words.{is_blank}
 use Rattle.org_base.specs.declared.span.Span.{Span}
 use Rattle.org_class.specs.Blocks.{body_classes, ends_block}
 use Rattle.org_class.specs.Classes.{classes, section_classes}
 use Rattle.org_class.specs.Drawers.{is_drawer_end}
 use Rattle.org_class.specs.Heading.{begins_heading}
-use Rattle.org_class.specs.Sections.{ends_line}
-use Rattle.org_class.proofs.Boundaries.{ends_line-append}
 use Rattle.org_class.specs.declared.class.Class.{Class}
 use Rattle.org_class.specs.declared.class.Class.TheVariants.{Clock, Heading, Plain}
 use Rattle.org_lines.specs.Cuts.{lines, lines_in}
-use Rattle.org_lines.proofs.LineLemmas.{concat-lines, length_range, utf8_lines}
-use Rattle.org_stamp.specs.Pair.{is_clock, pairs_from}
+use Rattle.org_lines.proofs.LineLemmas.{concat-lines, length_range}
+use Rattle.org_stamp.specs.Pair.{is_clock}
 
 -- lines of a section that go: where they stand, and how the lines behind them are read
 pub record Goes (text : List ℕ) (section : Span) (from : ℕ) (part : Span) : Type 0 where

@@ -1,20 +1,18 @@
 -- The classes of a section's lines, where one that is read by itself is replaced with those behind it: drawers, planning and the heading.
-use Rattle.std.proofs.Common.{◌≡◌, ◌⊎◌, ◌∙◌, inl, inr, ℕ, suc, ◌+◌, ◌==◌, Bool, true, false, ◌&&◌, List, [], ◌∷◌, ◌++◌, length, get_or, refl, sym, ap, arith}
-use Rattle.std.specs.Prelude.{Option, Some, None, slice_get}
-use Rattle.std.specs.List.{list_any}
+use Rattle.std.proofs.Common.{◌≡◌, ◌⊎◌, ◌∙◌, inl, inr, ℕ, suc, ◌+◌, true, false, ◌&&◌, List, [], ◌∷◌, ◌++◌, length, get_or, refl, sym, ap, arith}
+use Rattle.std.specs.Prelude.{Some, None, slice_get}
 use Rattle.std.proofs.lemmas.Bool.{and_parts, cases_Bool}
 use Rattle.org_amend.specs.Cancelled.{front_lines}
 use Rattle.org_amend.specs.Places.{is_front}
 use Rattle.org_amend.proofs.BodyLemmas.{IsTail, alone_front, body_at, body_front, is_alone, not_alone}
-use Rattle.org_class.specs.Blocks.{block_name, body_classes, ends_block, opens_block}
+use Rattle.org_class.specs.Blocks.{body_classes}
 use Rattle.org_class.specs.Classes.{classes, classes_under_heading}
 use Rattle.org_class.specs.Drawers.{classes_below, closes_drawer, drawer_classes, is_drawer_end, is_drawer_open}
 use Rattle.org_class.specs.Heading.{begins_heading}
-use Rattle.org_class.specs.LineClass.{is_comment, is_setting, line_class}
 use Rattle.org_class.specs.declared.class.Class.{Class}
-use Rattle.org_class.specs.declared.class.Class.TheVariants.{Heading, Planning, DrawerOpen, Node, DrawerEnd, BlockOpen, Verbatim, BlockEnd, Clock, Plain}
+use Rattle.org_class.specs.declared.class.Class.TheVariants.{Heading, Planning, DrawerOpen, Node, DrawerEnd}
 use Rattle.org_drawer.specs.Node.{is_node}
-use Rattle.org_stamp.specs.Pair.{is_clock, is_planning}
+use Rattle.org_stamp.specs.Pair.{is_planning}
 
 -- drawers
 

@@ -13,28 +13,11 @@ use Rattle.org_lines.specs.Cuts.{Cut}
 abbrev pub bytes_of : List Cut → List (List ℕ)
 bytes_of cuts = map (λ (c : Cut). c.bytes) cuts
 
--- one line further
-pub first_more : (cs : List Class) (place at : ℕ) (cuts later : List Cut) (cut : Cut) (l : List ℕ) (whole : Option RunningClock) →
-    cuts ≡ cut ∷ later → l ≡ cut.bytes → first_running cs place at (bytes_of cuts) ≡ whole →
-    or_later (running_of (slice_get cs place) at l) (first_running cs (place + 1) (at + length l) (bytes_of later)) ≡ whole
-unfolding first_running
-first_more cs place at cuts later cut l whole steps is all = rw is (sym (ap (λ (c : List Cut). first_running cs place at (bytes_of c)) steps) ∙ all)
-
-pub found_here : (found later whole : Option RunningClock) (r : RunningClock) → found ≡ Some r → or_later found later ≡ whole → Some r ≡ whole
-found_here found later whole r is e = sym (ap (λ o. or_later o later) is) ∙ e
-
-pub found_later : (found later whole : Option RunningClock) → found ≡ None → or_later found later ≡ whole → later ≡ whole
-found_later found later whole is e = sym (ap (λ o. or_later o later) is) ∙ e
-
+-- one line fewer
 pub length_more : (cuts later : List Cut) (cut : Cut) (l : List ℕ) → cuts ≡ cut ∷ later → l ≡ cut.bytes →
     length (concat (bytes_of cuts)) ≡ length l + length (concat (bytes_of later))
 length_more cuts later cut l steps is =
     ap (λ (c : List Cut). length (concat (bytes_of c))) steps ∙ (length-append cut.bytes (concat (bytes_of later)) ∙ ap (λ (b : List ℕ). length b + length (concat (bytes_of later))) (sym is))
-
--- no line is left
-pub none_left : (cs : List Class) (place at : ℕ) (cuts : List Cut) (whole : Option RunningClock) → cuts ≡ [] → first_running cs place at (bytes_of cuts) ≡ whole → None ≡ whole
-unfolding first_running
-none_left cs place at cuts whole none all = sym (ap (λ (c : List Cut). first_running cs place at (bytes_of c)) none) ∙ all
 
 -- a line of class Clock whose clock runs
 

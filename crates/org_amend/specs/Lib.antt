@@ -11,5 +11,6 @@ pub mod Laws
 pub mod Places
 pub mod Planning
 pub mod PlanningLaws
+pub mod Searches
 pub mod Typed
 pub mod Within

@@ -27,6 +27,7 @@ pub mod laws;
 mod place;
 mod planning;
 mod running;
+mod search;
 mod typed;
 
 pub use begun::{clock_drawer, clock_line, line_break};

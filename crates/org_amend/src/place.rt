@@ -2,15 +2,15 @@
 ghost use Rattle.std.specs.Prelude.{◌≡◌, ◌&&◌, ◌+◌, ◌≤◌, ◌<◌, ◌^◌, IfOk, IsOkUnless, None, is_some, length};
 ghost use Rattle.std.specs.List.{list_all};
 ghost use Rattle.org_amend.specs.Places.{clock_place, drawer_in, front_in, is_front, is_name_byte, is_named, opens, or_opened, place_at};
+ghost use Rattle.org_amend.specs.Searches.{ended_drawer};
 ghost use Rattle.org_class.specs.Drawers.{is_drawer_end};
 ghost use Rattle.org_base.specs.Codes.{memory_fault};
 ghost use Rattle.org_base.specs.Results.{Gives};
 
-use crate::running::class_at;
+use crate::search::{Search, searched};
 use org_base::words::{same_word, trim};
 use org_base::{Fault, Span};
 use org_class::{Class, is_drawer_end};
-use org_lines::Lines;
 use org_text::Text;
 use std::alloc::Global;
 
@@ -75,22 +75,55 @@ pub(crate) fn drawer_of<T: Text>(
     ensures value { Gives result (drawer_in name (T.content text.now) section classes.now) }
     ensures memory { IsOkUnless result memory_fault }
 {
-    // For the proof alone: its contract says that the text is not too long.
-    let _len = text.len();
-    let mut at = section.at;
-    let mut place = 0;
-    let mut drawer = None;
-    for line in Lines::new(alloc, text, section) {
-        let line = line?;
-        let line = line.bytes.as_slice();
-        if ends(drawer, line) {
-            return Ok(drawer);
-        }
-        drawer = or_opened(name, drawer, class_at(classes, place), at, line);
-        at += line.len() as u32;
-        place += 1;
+    let start = DrawerSoFar {
+        name,
+        opening: None,
+        is_ended: false,
+    };
+    let known = searched(alloc, text, section, classes, start)?;
+    Ok(known.drawer())
+}
+
+// The drawer that is open among the lines so far, if one is, and whether it ended.
+#[derive(Clone, Copy)]
+struct DrawerSoFar {
+    name: DrawerName,
+    opening: Option<Span>,
+    is_ended: bool,
+}
+
+impl DrawerSoFar {
+    // The drawer, if it ended.
+    fn drawer(self) -> Option<Span>
+        ensures value { result ≡ ended_drawer self }
+    {
+        if self.is_ended { self.opening } else { None }
     }
-    Ok(None)
+}
+
+impl Search for DrawerSoFar {
+    ghost use Rattle.org_amend.specs.Searches.{drawer_after, is_ended};
+
+    ghost known_after = { drawer_after };
+
+    ghost ends = { is_ended };
+
+    fn after(self, class: Option<Class>, at: u32, line: &[u8]) -> DrawerSoFar {
+        if ends(self.opening, line) {
+            return DrawerSoFar {
+                is_ended: true,
+                ..self
+            };
+        }
+        DrawerSoFar {
+            opening: or_opened(self.name, self.opening, class, at, line),
+            ..self
+        }
+    }
+
+    fn is_over(self) -> bool {
+        self.is_ended
+    }
 }
 
 // Whether a line ends the drawer that is open, if one is.
@@ -166,21 +199,45 @@ fn front_end<T: Text>(
     ensures value { Gives result (front_in (T.content text.now) section classes.now) }
     ensures memory { IsOkUnless result memory_fault }
 {
-    // For the proof alone: its contract says that the text is not too long.
-    let _len = text.len();
-    let mut at = section.at;
-    let mut place = 0;
-    for line in Lines::new(alloc, text, section) {
-        let line = line?;
-        let line = line.bytes.as_slice();
-        if is_front(class_at(classes, place)) {
-            at += line.len() as u32;
-            place += 1;
+    let start = FrontSoFar {
+        end: section.at,
+        is_over: false,
+    };
+    let known = searched(alloc, text, section, classes, start)?;
+    Ok(known.end)
+}
+
+// Where the front ends among the lines so far, and whether it goes on.
+#[derive(Clone, Copy)]
+struct FrontSoFar {
+    end: u32,
+    is_over: bool,
+}
+
+impl Search for FrontSoFar {
+    ghost use Rattle.org_amend.specs.Searches.{front_after, is_past};
+
+    ghost known_after = { front_after };
+
+    ghost ends = { is_past };
+
+    fn after(self, class: Option<Class>, at: u32, line: &[u8]) -> FrontSoFar {
+        if is_front(class) {
+            FrontSoFar {
+                end: at + line.len() as u32,
+                is_over: false,
+            }
         } else {
-            return Ok(at);
+            FrontSoFar {
+                is_over: true,
+                ..self
+            }
         }
     }
-    Ok(at)
+
+    fn is_over(self) -> bool {
+        self.is_over
+    }
 }
 
 pub(crate) fn is_front(class: Option<Class>) -> bool

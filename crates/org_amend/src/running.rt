@@ -6,11 +6,11 @@ ghost use Rattle.org_base.specs.Codes.{memory_fault};
 ghost use Rattle.org_base.specs.Results.{Gives};
 ghost use Rattle.org_stamp.specs.Pair.{past_spaces};
 
+use crate::search::{Search, searched};
 use org_base::{Fault, Span};
 use org_cal::{Minute, Moment};
 use org_class::Class;
 use org_drawer::read_clock;
-use org_lines::Lines;
 use org_stamp::{leading_spaces, read_single};
 use org_text::Text;
 use std::alloc::Global;
@@ -62,27 +62,32 @@ fn find_running<T: Text>(
     ensures value { Gives result (running_in (T.content text.now) section classes.now) }
     ensures memory { IsOkUnless result memory_fault }
 {
-    // For the proof alone: its contract says that the text is not too long.
-    let _len = text.len();
-    let mut at = section.at;
-    let mut place = 0;
-    for line in Lines::new(alloc, text, section) {
-        let line = line?;
-        let line = line.bytes.as_slice();
-        if let Some(found) = running_of(class_at(classes, place), at, line) {
-            return Ok(Some(found));
-        }
-        at += line.len() as u32;
-        place += 1;
-    }
-    Ok(None)
+    let known = searched(alloc, text, section, classes, FirstRunning { found: None })?;
+    Ok(known.found)
 }
 
-// The class of a line at a place, if there is one.
-pub(crate) fn class_at(classes: &[Class], place: usize) -> Option<Class>
-    ensures value { result ≡ slice_get classes.now place }
-{
-    classes.get(place).copied()
+// The first running clock among the lines so far.
+#[derive(Clone, Copy)]
+struct FirstRunning {
+    found: Option<RunningClock>,
+}
+
+impl Search for FirstRunning {
+    ghost use Rattle.org_amend.specs.Searches.{is_found, running_after};
+
+    ghost known_after = { running_after };
+
+    ghost ends = { is_found };
+
+    fn after(self, class: Option<Class>, at: u32, line: &[u8]) -> FirstRunning {
+        FirstRunning {
+            found: running_of(class, at, line),
+        }
+    }
+
+    fn is_over(self) -> bool {
+        self.found.is_some()
+    }
 }
 
 // The clock of a line of that class at a place, if it runs.
