@@ -7,7 +7,7 @@ ghost use Rattle.org_class.specs.Drawers.{is_drawer_end};
 ghost use Rattle.org_base.specs.Codes.{memory_fault};
 ghost use Rattle.org_base.specs.Results.{Gives};
 
-use crate::search::{Search, searched};
+use crate::search::{Search, search_lines};
 use org_base::words::{same_word, trim};
 use org_base::{Fault, Span};
 use org_class::{Class, is_drawer_end};
@@ -80,7 +80,7 @@ pub(crate) fn drawer_of<T: Text>(
         opening: None,
         is_ended: false,
     };
-    let known = searched(alloc, text, section, classes, start)?;
+    let known = search_lines(alloc, text, section, classes, start)?;
     Ok(known.drawer())
 }
 
@@ -203,7 +203,7 @@ fn front_end<T: Text>(
         end: section.at,
         is_over: false,
     };
-    let known = searched(alloc, text, section, classes, start)?;
+    let known = search_lines(alloc, text, section, classes, start)?;
     Ok(known.end)
 }
 

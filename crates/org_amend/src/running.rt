@@ -6,7 +6,7 @@ ghost use Rattle.org_base.specs.Codes.{memory_fault};
 ghost use Rattle.org_base.specs.Results.{Gives};
 ghost use Rattle.org_stamp.specs.Pair.{past_spaces};
 
-use crate::search::{Search, searched};
+use crate::search::{Search, search_lines};
 use org_base::{Fault, Span};
 use org_cal::{Minute, Moment};
 use org_class::Class;
@@ -62,7 +62,7 @@ fn find_running<T: Text>(
     ensures value { Gives result (running_in (T.content text.now) section classes.now) }
     ensures memory { IsOkUnless result memory_fault }
 {
-    let known = searched(alloc, text, section, classes, FirstRunning { found: None })?;
+    let known = search_lines(alloc, text, section, classes, FirstRunning { found: None })?;
     Ok(known.found)
 }
 

@@ -1,10 +1,8 @@
 //! A search among the lines of a section.
 ghost use Rattle.std.specs.Prelude.{◌≡◌, ◌+◌, ◌≤◌, ◌<◌, ◌^◌, ℕ, Bool, List, Option, IsOkUnless, length, slice_get};
-ghost use Rattle.org_amend.specs.Searches.{searched};
+ghost use Rattle.org_amend.specs.Searches.{Finds};
 ghost use Rattle.org_base.specs.Codes.{memory_fault};
-ghost use Rattle.org_base.specs.Results.{Gives};
 ghost use Rattle.org_class.specs.declared.class.Class.{Class};
-ghost use Rattle.org_lines.specs.Cuts.{lines_in};
 
 use org_base::{Fault, Span};
 use org_class::Class;
@@ -29,7 +27,7 @@ pub(crate) trait Search: Copy {
 }
 
 // What a search finds among the lines of a section; the classes are those of the lines.
-pub(crate) fn searched<T: Text, S: Search>(
+pub(crate) fn search_lines<T: Text, S: Search>(
     alloc: Global,
     text: &T,
     section: Span,
@@ -37,7 +35,7 @@ pub(crate) fn searched<T: Text, S: Search>(
     start: S,
 ) -> Result<S, Fault>
     requires within { section.at + section.len ≤ length (T.content text.now) }
-    ensures value { Gives result (searched S.known_after S.ends start classes.now 0 section.at (lines_in (T.content text.now) section)) }
+    ensures value { Finds result S.known_after S.ends start (T.content text.now) section classes.now }
     ensures memory { IsOkUnless result memory_fault }
 {
     // For the proof alone: its contract says that the text is not too long.

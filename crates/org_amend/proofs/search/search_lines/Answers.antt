@@ -1,7 +1,7 @@
 use Rattle.std.proofs.Common.{◌∙◌, ap, arith, length, sym}
 use Rattle.org_amend.proofs.RunningLemmas.{length_more}
 use Rattle.org_amend.proofs.SearchLemmas.{search_none, search_over, search_step}
-use Rattle.org_amend.proofs.search.searched.Goals as goal
+use Rattle.org_amend.proofs.search.search_lines.Goals as goal
 
 -- no more line matters
 pub returns-then-is_over-clause-value : goal.returns-then-is_over-clause-value

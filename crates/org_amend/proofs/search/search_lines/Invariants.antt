@@ -2,7 +2,7 @@ use Rattle.std.proofs.Common.{◌≡◌, ◌+◌, ◌≤◌, map, length}
 use Rattle.std.specs.List.{concat}
 use Rattle.org_amend.specs.Searches.{searched}
 use Rattle.org_lines.specs.Cuts.{lines_in}
-use Rattle.org_amend.proofs.search.searched.Given as goal
+use Rattle.org_amend.proofs.search.search_lines.Given as goal
 
 -- what is found among the lines that are left is what is found among all
 abbrev pub invariant-loop-line : goal.invariant-loop-line
