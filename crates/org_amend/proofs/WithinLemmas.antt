@@ -1,21 +1,19 @@
 -- What is found of a section lies in it.
 use Rattle.std.proofs.Common.{◌≡◌, ◌≤◌, ◌<◌, ℕ, ◌+◌, List, [], ◌∷◌, ◌++◌, length, refl, sym, ap, subst, ◌∙◌, arith, length-append}
-use Rattle.std.specs.Prelude.{Option, Some, None, IfSome, Result, Ok, Err, IfOk, slice_get}
+use Rattle.std.specs.Prelude.{Option, Some, None, IfSome, slice_get}
 use Rattle.std.specs.List.{concat}
 use Rattle.std.proofs.lemmas.Bool.{cond_both}
 use Rattle.std.proofs.lemmas.List.Folds.{concat-append}
 use Rattle.org_amend.specs.Cancelled.{closing_len}
 use Rattle.org_amend.specs.Clocks.{running_in, stamp_end}
 use Rattle.org_amend.specs.Laws.{IsFirst}
-use Rattle.org_amend.specs.Places.{clock_place, front_end, front_in, is_front, logbook_in, place_at, place_of}
+use Rattle.org_amend.specs.Places.{front_end, front_in, is_front, logbook_in}
 use Rattle.org_amend.specs.Within.{IsWithin, LiesInside}
-use Rattle.org_amend.specs.declared.place.ClockPlace.{ClockPlace}
 use Rattle.org_amend.specs.declared.place.DrawerName.TheVariants.{Logbook}
 use Rattle.org_amend.specs.declared.running.RunningClock.{RunningClock}
 use Rattle.org_amend.proofs.DrawerLemmas.{found_within}
 use Rattle.org_amend.proofs.EndLemmas.{stamp_end_within}
 use Rattle.org_amend.proofs.RunningLemmas.{found_clocks_run}
-use Rattle.org_base.specs.Results.{Gives}
 use Rattle.org_base.specs.Spans.{bytes_in}
 use Rattle.org_base.specs.declared.span.Span.{Span}
 use Rattle.org_class.specs.Drawers.{is_drawer_end}
@@ -46,14 +44,8 @@ lines_end text section h =
 pub logbook_within : (text : List ℕ) (section : Span) (cs : List Class) → section.at + section.len ≤ length text → LiesInside section (logbook_in text section cs)
 logbook_within text section cs h = found_within Logbook cs 0 section (lines_in text section) (logbook_in text section cs) (lines_end text section h) refl
 
-place_within : (section : Span) (found : Option Span) (front : ℕ) → LiesInside section found → front ≤ section.at + section.len → place_at (place_of found front) ≤ section.at + section.len
-place_within section None front h le = le
-place_within section (Some line) front h le = h.1
-
-pub clock_place_within : (text : List ℕ) (section : Span) (cs : List Class) → section.at + section.len ≤ length text → place_at (clock_place text section cs) ≤ section.at + section.len
-clock_place_within text section cs h =
-    place_within section (logbook_in text section cs) (front_in text section cs) (logbook_within text section cs h)
-    (front_ends cs 0 section.at (section.at + section.len) (lines_in text section) (lines_end text section h))
+pub front_within : (text : List ℕ) (section : Span) (cs : List Class) → section.at + section.len ≤ length text → front_in text section cs ≤ section.at + section.len
+front_within text section cs h = front_ends cs 0 section.at (section.at + section.len) (lines_in text section) (lines_end text section h)
 
 -- the first running clock
 first_within : (cs : List Class) (place : ℕ) (section : Span) (ls : List (List ℕ)) (r : RunningClock) → EndBy section.at ls (section.at + section.len) → IsFirst cs place section.at ls r → IsWithin section r
@@ -72,20 +64,10 @@ pub running_within : (text : List ℕ) (section : Span) (cs : List Class) (r : R
 running_within text section cs r h found =
     first_within cs 0 section (lines_in text section) r (lines_end text section h) (found_clocks_run cs 0 section.at (lines_in text section) r found)
 
--- the same of an answer
-
-abbrev pub PlaceIn : {E : Type 0} → Span → Result ClockPlace E → Type 0
-PlaceIn section result = IfOk result (λ place. place_at place ≤ section.at + section.len)
-
-pub place_found : {E : Type 0} (section : Span) (place : ClockPlace) (result : Result ClockPlace E) → place_at place ≤ section.at + section.len → Gives result place → PlaceIn section result
-place_found section place (Ok found) h e = subst (λ p. place_at p ≤ section.at + section.len) (sym e) h
-place_found section place (Err why) h e = tt
-
-pub clock_found : {E : Type 0} (section : Span) (clock : Option RunningClock) (result : Result (Option RunningClock) E) → ((r : RunningClock) → clock ≡ Some r → IsWithin section r) → Gives result clock →
-    IfOk result (λ found. IfSome found (IsWithin section))
-clock_found section clock (Ok None) h e = tt
-clock_found section clock (Ok (Some r)) h e = h r (sym e)
-clock_found section clock (Err why) h e = tt
+-- the same of what is found
+pub running_found : (text : List ℕ) (section : Span) (cs : List Class) (found : Option RunningClock) → section.at + section.len ≤ length text → found ≡ running_in text section cs → IfSome found (IsWithin section)
+running_found text section cs None h e = tt
+running_found text section cs (Some r) h e = running_within text section cs r h (sym e)
 
 -- a drawer that is found ends before a limit
 pub drawer_ends : (section : Span) (wanted found : Option Span) (limit : ℕ) → LiesInside section wanted → section.at + section.len < limit → found ≡ wanted → IfSome found (λ line. line.at + line.len < limit)

@@ -44,19 +44,6 @@ pub fn clock_place<T: Text>(
     ensures within { IfOk result (λ place. place_at place ≤ section.at + section.len) }
     ensures memory { IsOkUnless result memory_fault }
 {
-    find_place(alloc, text, section, classes)
-}
-
-fn find_place<T: Text>(
-    alloc: Global,
-    text: &T,
-    section: Span,
-    classes: &[Class],
-) -> Result<ClockPlace, Fault>
-    requires within { section.at + section.len ≤ length (T.content text.now) }
-    ensures value { Gives result (clock_place (T.content text.now) section classes.now) }
-    ensures memory { IsOkUnless result memory_fault }
-{
     match drawer_of(alloc, text, section, classes, DrawerName::Logbook)? {
         Some(drawer) => Ok(ClockPlace::InDrawer(drawer)),
         None => Ok(ClockPlace::UnderFront(front_end(alloc, text, section, classes)?)),

@@ -49,19 +49,6 @@ pub fn running_clock<T: Text>(
     ensures within { IfOk result (λ found. IfSome found (IsWithin section)) }
     ensures memory { IsOkUnless result memory_fault }
 {
-    find_running(alloc, text, section, classes)
-}
-
-fn find_running<T: Text>(
-    alloc: Global,
-    text: &T,
-    section: Span,
-    classes: &[Class],
-) -> Result<Option<RunningClock>, Fault>
-    requires within { section.at + section.len ≤ length (T.content text.now) }
-    ensures value { Gives result (running_in (T.content text.now) section classes.now) }
-    ensures memory { IsOkUnless result memory_fault }
-{
     let known = search_lines(alloc, text, section, classes, FirstRunning { found: None })?;
     Ok(known.found)
 }
