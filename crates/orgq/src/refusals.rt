@@ -75,7 +75,7 @@ fn why_unreadable(why: Unreadable) -> &'static str {
         }
         Unreadable::Dates => "the dates can't stand on one line",
         Unreadable::Body => {
-            "the body would be read as something else: it has a heading, a setting, planning, properties or a clock"
+            "the body would be read as something else: it has a heading, a setting, planning, a drawer or a clock"
         }
     }
 }
