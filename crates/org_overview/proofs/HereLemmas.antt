@@ -1,10 +1,8 @@
 -- Rows with hours by their marks.
-use Rattle.std.proofs.Common.{◌≡◌, ◌∙◌, Bool, true, false, cond, List, [], ◌∷◌, length, map, ap, refl, sym}
+use Rattle.std.proofs.Common.{◌≡◌, ◌∙◌, Bool, true, false, List, [], ◌∷◌, length, map, ap, refl, sym}
 use Rattle.std.proofs.lemmas.List.{length-map}
-use Rattle.org_agenda.specs.declared.row.Row.{Row}
-use Rattle.org_client.specs.Files.{NamedText}
-use Rattle.org_overview.specs.Here.{ShowsToday, box_mark}
-use Rattle.org_overview.specs.Marks.{Mark, marks_of, shown_mark, shown_marks}
+use Rattle.org_overview.specs.Here.{box_mark}
+use Rattle.org_overview.specs.Marks.{Mark, shown_mark, shown_marks}
 use Rattle.org_page.specs.Places.{AreDealt, boxes_rows, left, picked}
 use Rattle.org_page.specs.declared.day.Boxed.{Boxed}
 use Rattle.org_page.specs.declared.row.Row.{Row as PageRow}

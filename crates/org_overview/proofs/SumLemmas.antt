@@ -1,7 +1,6 @@
 -- The minutes of charts are those of the clock table.
-use Rattle.std.proofs.Common.{◌≡◌, ◌∙◌, ◌+◌, ◌-◌, ◌*◌, ◌≤◌, ℕ, zero, suc, Bool, true, false, cond, ◌&&◌, is_some, List, [], ◌∷◌, ◌++◌, length, map, ap, ap₂, arith, refl, sym}
-use Rattle.std.specs.Prelude.{Option, None, Some, filter, min, max, nat_lt, replicate, slice_get}
-use Rattle.std.specs.List.{flat_map, sum_by}
+use Rattle.std.proofs.Common.{◌≡◌, ◌∙◌, ◌+◌, ◌≤◌, ℕ, Bool, true, false, cond, ◌&&◌, is_some, List, [], ◌∷◌, length, map, ap, ap₂, arith, refl, sym}
+use Rattle.std.specs.Prelude.{Option, None, Some, replicate}
 use Rattle.std.proofs.lemmas.Bool.Decides.{nat_tests}
 use Rattle.std.proofs.lemmas.List.Sums.{sum_by-append, sum_by-cons}
 use Rattle.org_cal.specs.Minutes.{minute_of}
@@ -36,21 +35,19 @@ none_on first last day from (Some to) a b none =
 of_clocks : (first last day : ℕ) (clocks : List ClockLine) → first ≤ day → day ≤ last →
     minutes_of (day, day) (touching (first, last) clocks) ≡ minutes_of (day, day) clocks
 of_clocks first last day [] a b = refl
-of_clocks first last day (clock ∷ clocks) a b = by (has_minutes (first, last) clock) refl
+of_clocks first last day (clock ∷ clocks) a b = by (has_minutes (first, last) clock) refl (of_clocks first last day clocks a b)
   where
-    rest : minutes_of (day, day) (touching (first, last) clocks) ≡ minutes_of (day, day) clocks
-    rest = of_clocks first last day clocks a b
-
-    by : (test : Bool) → has_minutes (first, last) clock ≡ test →
+    by : (test : Bool) → has_minutes (first, last) clock ≡ test → minutes_of (day, day) (touching (first, last) clocks) ≡ minutes_of (day, day) clocks →
         minutes_of (day, day) (cond test (clock ∷ touching (first, last) clocks) (touching (first, last) clocks)) ≡ minutes_of (day, day) (clock ∷ clocks)
-    by true e =
+    by true e rest =
         sum_by-cons (λ (c : ClockLine). minutes_in c (day, day)) clock (touching (first, last) clocks)
         ∙ ap (λ (n : ℕ). minutes_in clock (day, day) + n) rest
         ∙ sym (sum_by-cons (λ (c : ClockLine). minutes_in c (day, day)) clock clocks)
-    by false e =
+    by false e rest =
         let none : minutes_in clock (first, last) ≤ 0 = grind (arith, nat_tests, e) in
         let own : minutes_in clock (day, day) ≡ 0 = none_on first last day clock.from clock.to a b none in
-        rest ∙ ap (λ (n : ℕ). n + minutes_of (day, day) clocks) (sym own) ∙ sym (sum_by-cons (λ (c : ClockLine). minutes_in c (day, day)) clock clocks)
+        let grown : minutes_of (day, day) clocks ≡ minutes_in clock (day, day) + minutes_of (day, day) clocks = omega (arith, own) in
+        rest ∙ grown ∙ sym (sum_by-cons (λ (c : ClockLine). minutes_in c (day, day)) clock clocks)
 
 of_entry : (first last day : ℕ) (e : Entry) → first ≤ day → day ≤ last →
     minutes_of (day, day) (entry_clocks (first, last) e) ≡ cond (is_some (level_of e)) (clock_minutes (day, day) e) 0

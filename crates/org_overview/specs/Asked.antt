@@ -5,8 +5,8 @@ use Rattle.org_agenda.specs.Sources.{sources_of}
 use Rattle.org_cal.specs.Weeks.{monday_of}
 use Rattle.org_inherit.specs.Scope.{Scope}
 use Rattle.org_overview.specs.declared.clocked.TheConstants.{CHART_DAYS}
-use Rattle.org_overview.specs.declared.wish.Look.{Look}
-use Rattle.org_overview.specs.declared.wish.Wish.{Wish}
+use Rattle.org_overview.specs.declared.asked.Look.{Look}
+use Rattle.org_overview.specs.declared.asked.Wish.{Wish}
 
 -- a page with so many days after today, and with whole weeks from the Monday of the month's first one to that of its last day
 pub record IsWished (look : Look) (ahead : ℕ) (wish : Wish) : Type 0 where

@@ -1,5 +1,5 @@
 -- What a page shows by days.
-use Rattle.std.specs.Prelude.{◌≡◌, ℕ, ◌+◌, ◌-◌, ◌*◌, List, IfOk, Result, map}
+use Rattle.std.specs.Prelude.{◌≡◌, ◌+◌, ◌-◌, ◌*◌, List, IfOk, Result, map}
 use Rattle.std.specs.List.{range_with_len}
 use Rattle.org_agenda.specs.Days.{AgendaView, rows_ahead}
 use Rattle.org_agenda.specs.declared.row.Row.{Row}
@@ -11,7 +11,7 @@ use Rattle.org_overview.specs.Days.{day_marks, own_marks}
 use Rattle.org_overview.specs.Here.{ShowsHere}
 use Rattle.org_overview.specs.declared.dated.Dated.{Dated}
 use Rattle.org_overview.specs.declared.here.Here.{Here}
-use Rattle.org_overview.specs.declared.wish.Wish.{Wish}
+use Rattle.org_overview.specs.declared.asked.Wish.{Wish}
 
 -- the rows of today in an agenda of a page's days
 abbrev pub rows_today : AgendaView → Wish → List Row

@@ -1,5 +1,5 @@
 -- Worked examples: what the definitions say of inputs at which a wrong rule says something else.
-use Rattle.std.specs.Prelude.{◌≡◌, ◌+◌, ◌*◌, ◌-◌, ◌^◌, ℕ, List, [], ◌∷◌, None, Some, codes, false, true}
+use Rattle.std.specs.Prelude.{◌≡◌, ◌+◌, ◌*◌, ℕ, List, [], ◌∷◌, None, Some, codes, false, true}
 use Rattle.org_agenda.specs.declared.row.Row.{Row}
 use Rattle.org_agenda.specs.declared.row.RowKind.{RowKind}
 use Rattle.org_agenda.specs.declared.row.RowKind.TheVariants.{InRange, LateDeadline, OnDay, OnDeadline, Warning}
@@ -10,7 +10,7 @@ use Rattle.org_overview.specs.Marks.{byte_of, hours_of, stand_of}
 use Rattle.org_overview.specs.Parts.{rows_of}
 use Rattle.org_overview.specs.Sums.{day_sums, touching}
 use Rattle.org_overview.specs.Tasks.{adds_word}
-use Rattle.org_overview.specs.declared.part.Part.TheVariants.{Late, Soon, Own, Ranges, Single, Whole, Timed}
+use Rattle.org_overview.specs.declared.part.Part.TheVariants.{Late, Soon, Single, Whole, Timed}
 use Rattle.org_page.specs.declared.row.Stand.TheVariants.{Late as LateBy, Range}
 
 -- a row of a kind with a start

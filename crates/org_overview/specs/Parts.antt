@@ -1,7 +1,7 @@
 -- Which rows of a day stand in which part of a page.
-use Rattle.std.specs.Prelude.{◌≡◌, ℕ, Bool, true, false, not, ◌&&◌, ◌||◌, is_none, List, filter}
-use Rattle.std.specs.List.Sorted.{IsNonDecreasingBy, IsPermutation, ties}
-use Rattle.std.specs.Prelude.{nat_lt}
+use Rattle.std.specs.Prelude.{Bool, true, false, not, ◌&&◌, ◌||◌, is_none, List, filter}
+use Rattle.std.specs.List.Sorted.{IsNonDecreasingBy, IsPermutation, IsStableByKey}
+use Rattle.std.specs.Ordering.{nat_cmp}
 use Rattle.org_agenda.specs.declared.row.Row.{Row}
 use Rattle.org_agenda.specs.declared.row.RowKind.{RowKind}
 use Rattle.org_agenda.specs.declared.row.RowKind.TheVariants.{InRange, LateDeadline, LateSchedule, OnDay, OnDeadline, OnSchedule, Warning}
@@ -53,4 +53,4 @@ rows_of part rows = filter (is_of part) rows
 pub record IsByNumber (came sorted : List Row) : Type 0 where
   pub same : IsPermutation came sorted
   pub rise : IsNonDecreasingBy (λ (r : Row). r.number) sorted
-  pub stable : (row : Row) → filter (ties (λ (a b : Row). nat_lt a.number b.number) row) sorted ≡ filter (ties (λ (a b : Row). nat_lt a.number b.number) row) came
+  pub stable : IsStableByKey (λ (r : Row). r.number) nat_cmp came sorted

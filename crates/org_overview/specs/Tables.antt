@@ -5,7 +5,7 @@ use Rattle.org_clocktable.specs.Table.{step_rows}
 use Rattle.org_clocktable.specs.declared.row.TableRow.{TableRow}
 use Rattle.org_inherit.specs.Scope.{Scope}
 use Rattle.org_overview.specs.declared.table.TheConstants.{MOST_LEVEL}
-use Rattle.org_overview.specs.declared.wish.Wish.{Wish}
+use Rattle.org_overview.specs.declared.asked.Wish.{Wish}
 use Rattle.org_page.specs.declared.clocked.Sum.{Sum}
 use Rattle.org_page.specs.declared.clocked.Sums.{Sums}
 

@@ -18,7 +18,7 @@ abbrev pub keyword_at : List Scope → Row → List ℕ
 keyword_at scopes row = by_place [] own_keyword scopes row.file row.heading
 
 abbrev pub has_word : List (List ℕ) → List ℕ → Bool
-has_word names word = list_any (λ name. bytes_eq name word) names
+has_word names word = list_any (bytes_eq word) names
 
 -- a word after others, unless it is one of them or they are as many as there may be
 abbrev pub adds_word : List (List ℕ) → List ℕ → List (List ℕ)

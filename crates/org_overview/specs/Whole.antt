@@ -20,7 +20,7 @@ use Rattle.org_overview.specs.declared.chart.FileSums.{FileSums}
 use Rattle.org_overview.specs.declared.clocked.Charted.{Charted}
 use Rattle.org_overview.specs.declared.clocked.Clocked.{Clocked}
 use Rattle.org_overview.specs.declared.part.Part.TheVariants.{Late, Own}
-use Rattle.org_overview.specs.declared.wish.Wish.{Wish}
+use Rattle.org_overview.specs.declared.asked.Wish.{Wish}
 use Rattle.org_page.specs.Whole.{IsPageOf}
 use Rattle.org_page.specs.declared.chart.Chart.{Chart}
 use Rattle.org_page.specs.declared.page.Page.{Page}

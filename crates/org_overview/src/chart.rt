@@ -155,7 +155,7 @@ fn chart_week(
     ensures value { GivesWeek result files.now (days_of period.now) first }
 {
     let days = chart_days(alloc, files, period, first)?;
-    let monday = Day::of_number(u64::from(period.first.number() + first)).unwrap_or(period.first);
+    let monday = day_at(period, first);
     let label = week_label(alloc, monday)?;
     let name = week_name(alloc, monday)?;
     Ok(ChartWeek { label, name, days })
@@ -189,8 +189,7 @@ fn chart_day(
     ensures value { IfOk result (λ day. day_numbers day ≡ numbers_at files.now place) }
 {
     let minutes = numbers_at(alloc, files, place as usize)?;
-    let day = Day::of_number(u64::from(period.first.number() + place)).unwrap_or(period.first);
-    let name = chart_day_words(alloc, day)?;
+    let name = chart_day_words(alloc, day_at(period, place))?;
     Ok(ChartDay { name, minutes })
 }
 
@@ -203,4 +202,10 @@ fn numbers_at(alloc: Global, files: &[FileSums], place: usize) -> Result<Vec<u64
         numbers.push(minutes_at(file, place))?;
     }
     Ok(numbers)
+}
+
+// The day so many days after the first one.
+fn day_at(period: &Period, place: u32) -> Day {
+    let number = u64::from(period.first.number()) + u64::from(place);
+    Day::of_number(number).unwrap_or(period.first)
 }

@@ -6,11 +6,11 @@ ghost use Rattle.org_client.specs.Files.{AreRead};
 ghost use Rattle.org_overview.specs.Asked.{IsAgendaFor, agenda_asked};
 ghost use Rattle.org_overview.specs.Dated.{GivesDated, GivesDays, GivesHereOf, rows_today};
 
+use crate::asked::Wish;
 use crate::coming::coming_days;
 use crate::here::{Here, here_of};
 use crate::month::shown_month;
 use crate::rows::Linked;
-use crate::wish::Wish;
 use org_agenda::{Agenda, Row, sources_of};
 use org_base::Fault;
 use org_inherit::Inherits;

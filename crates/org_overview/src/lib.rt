@@ -15,9 +15,10 @@
 //! Ok(put_together(seen.wish, named, dated, clocked, groups))
 //! ```
 //!
-//! Lines of `org_overview/src/overview.rt`. Tests: cases `tests/orgq/page-*`.
+//! Lines of `org_overview/src/page.rt`. Tests: cases `tests/orgq/page-*`.
 #![tactic(auto)]
 
+mod asked;
 mod chart;
 mod clocked;
 mod coming;
@@ -25,15 +26,14 @@ mod dated;
 mod here;
 pub mod laws;
 mod month;
-mod overview;
+mod page;
 mod part;
 mod rows;
 mod sums;
 mod table;
 mod tasks;
-mod title;
 mod wish;
 mod words;
 
-pub use overview::{overview, overview_text};
-pub use wish::{Look, Wish};
+pub use asked::{Look, Wish};
+pub use page::{overview, overview_text};

@@ -3,9 +3,9 @@ ghost use Rattle.std.specs.Prelude.{◌≡◌, ◌+◌, ◌*◌, ◌<◌, ◌≤
 ghost use Rattle.org_base.specs.Codes.{memory_fault};
 ghost use Rattle.org_overview.specs.Cells.{ShowsCell, ShowsCells, ShowsMonth, ShowsParts, ShowsWeek, ShowsWeeks};
 
+use crate::asked::Wish;
 use crate::part::Part;
 use crate::rows::{Linked, part_rows};
-use crate::wish::Wish;
 use crate::words::{cell_words, date_of, month_words};
 use org_agenda::{Agenda, Row};
 use org_base::Fault;

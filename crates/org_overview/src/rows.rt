@@ -4,19 +4,19 @@ ghost use Rattle.org_base.specs.Codes.{memory_fault};
 ghost use Rattle.org_overview.specs.Marks.{ShowsRow, ShowsRows, byte_of, hours_of, shown_mark, stand_of};
 ghost use Rattle.org_overview.specs.Parts.{rows_of};
 
+use crate::asked::Wish;
 use crate::part::{Part, rows_of};
-use crate::title::push_title;
-use crate::wish::Wish;
-use crate::words::{push_name, push_text};
+use crate::words::push_name;
 use org_agenda::{Row, RowKind};
 use org_base::{Fault, Texts};
 use org_cal::TimeOfDay;
-use org_client::FileSet;
+use org_client::{FileSet, title_words};
 use org_inherit::{Heading, Inherits};
 use org_page::{Hours, LinkPlace, Row as PageRow, StampPlace, Stand};
 use org_store::Place;
 use org_text::Text;
 use std::alloc::{AllocError, Global};
+use std::str;
 
 /// Files of which rows are shown, what their headings inherit, and the page that is asked for.
 #[derive(Drop)]
@@ -191,13 +191,19 @@ fn put_line(alloc: Global, shown: &mut PageRow, heading: &Heading<'_, '_>) -> Re
 {
     shown.is_done = heading.is_done();
     if let Some(keyword) = heading.keyword() {
-        push_text(&mut shown.keyword, keyword)?;
+        shown.keyword.push_str(text_of(keyword))?;
     }
     if let Some(priority) = heading.priority() {
-        push_text(&mut shown.priority, priority)?;
+        shown.priority.push_str(text_of(priority))?;
     }
-    push_title(alloc, &mut shown.words, heading.title())?;
+    let words = title_words(alloc, heading.title())?;
+    shown.words.push_str(text_of(words.as_slice()))?;
     Ok(())
+}
+
+// A part of a file's text, which is UTF-8.
+fn text_of(bytes: &[u8]) -> &str {
+    str::from_utf8(bytes).unwrap_or("")
 }
 
 // Puts tags with a space between any two.
@@ -208,7 +214,7 @@ fn put_tags(shown: &mut PageRow, tags: &Texts) -> Result<(), AllocError>
         if place > 0 {
             shown.tags.push(' ')?;
         }
-        push_text(&mut shown.tags, tags.get(place))?;
+        shown.tags.push_str(text_of(tags.get(place)))?;
     }
     Ok(())
 }

@@ -84,22 +84,20 @@ fn sum_on(clocks: &[ClockLine], number: u32) -> u64
     let Some(day) = Day::of_number(u64::from(number)) else {
         return 0;
     };
-    sum_of(
-        clocks,
-        Period {
-            first: day,
-            last: day,
-        },
-    )
+    let days = Period {
+        first: day,
+        last: day,
+    };
+    sum_of(clocks, &days)
 }
 
 // What clocks have in some days, at most 2^64 - 1.
-fn sum_of(clocks: &[ClockLine], days: Period) -> u64
-    ensures value { result ≡ told (minutes_of (days_of days) clocks.now) }
+fn sum_of(clocks: &[ClockLine], days: &Period) -> u64
+    ensures value { result ≡ told (minutes_of (days_of days.now) clocks.now) }
 {
     let mut total: u64 = 0;
     for clock in clocks {
-        total = total.saturating_add(clock.minutes_in(days));
+        total = total.saturating_add(clock.minutes_in(*days));
     }
     total
 }

@@ -9,8 +9,9 @@ ghost use Rattle.org_overview.specs.Tasks.{adds_word, has_word, keyword_at, name
 use crate::rows::{Linked, page_row};
 use crate::words::{date_of, due_words};
 use org_agenda::{Row, todo_rows};
-use org_base::{Fault, Texts};
+use org_base::{Fault, Span, Texts};
 use org_cal::Day;
+use org_entry::Entry;
 use org_inherit::{Heading, Inherits};
 use org_page::{Due, Task, TaskGroup};
 use org_stamp::PlanningKeyword;
@@ -76,7 +77,7 @@ fn has_word(names: &Texts, word: &[u8]) -> bool
     ensures value { result ≡ has_word names.now word.now }
 {
     for place in 0..names.count() {
-        if names.get(place) == word {
+        if word == names.get(place) {
             return true;
         }
     }
@@ -219,11 +220,33 @@ fn due_of(
 
 // The day of a heading's deadline.
 fn deadline_of(inherits: &Inherits<'_>, row: &Row) -> Option<Day> {
-    let heading = Heading::find(inherits, row.file, row.heading)?;
-    let planning = heading.entry.planning()?;
-    let part = planning.part(PlanningKeyword::Deadline)?;
-    let text = heading.entry.part(part);
-    Day::of_text(text.get(1..11)?)
+    match Heading::find(inherits, row.file, row.heading) {
+        Some(heading) => deadline_in(heading.entry),
+        None => None,
+    }
+}
+
+fn deadline_in(entry: &Entry) -> Option<Day> {
+    match deadline_span(entry) {
+        Some(span) => day_in(entry.part(span)),
+        None => None,
+    }
+}
+
+// The part of an entry's text that its deadline takes, if it has one.
+fn deadline_span(entry: &Entry) -> Option<Span> {
+    match entry.planning() {
+        Some(planning) => planning.part(PlanningKeyword::Deadline),
+        None => None,
+    }
+}
+
+// The day of a stamp, which stands behind its bracket.
+fn day_in(stamp: &[u8]) -> Option<Day> {
+    match stamp.get(1..11) {
+        Some(date) => Day::of_text(date),
+        None => None,
+    }
 }
 
 fn named_due(alloc: Global, day: Day, today: Day) -> Result<Due, AllocError> {

@@ -1,35 +1,11 @@
 //! What a page is asked for.
-ghost use Rattle.std.specs.Prelude.{◌≡◌, ◌+◌, ◌*◌, ◌≤◌, IfSome};
+ghost use Rattle.std.specs.Prelude.{◌≡◌, ◌+◌, ◌≤◌, IfSome};
 ghost use Rattle.org_cal.specs.declared.day.TheConstants.{LAST_DAY};
 ghost use Rattle.org_overview.specs.Asked.{days_shown, IsWished};
 
+use crate::asked::{Look, Wish};
 use org_agenda::AsOf;
-use org_base::Profile;
-use org_cal::{Day, LAST_DAY, Moment, Period, Unit};
-use org_page::LinkTemplate;
-
-/// A page that is asked for: at which moment, by which profile, and where its links lead; how many days it shows after that of
-/// the moment; and the first day and the last one of the month, with the first day of its first week and how many weeks it has.
-#[derive(Clone, Copy, Debug)]
-pub struct Wish<'a> {
-    pub moment: Moment,
-    pub profile: Profile,
-    pub template: LinkTemplate<'a>,
-    pub ahead: u32,
-    pub month: Period,
-    pub first: Day,
-    pub weeks: u32,
-    pub ghost days: { (first ≤ moment.day) × (moment.day + ahead ≤ LAST_DAY) },
-    pub ghost cells: { first + 7 * weeks ≤ LAST_DAY + 1 },
-}
-
-/// What a page is asked for beside its days.
-#[derive(Clone, Copy, Debug)]
-pub struct Look<'a> {
-    pub moment: Moment,
-    pub profile: Profile,
-    pub template: LinkTemplate<'a>,
-}
+use org_cal::{Day, LAST_DAY, Period, Unit};
 
 impl<'a> Wish<'a> {
     /// A page with so many days after that of the moment, and with the weeks of its month; none where one of these days is past

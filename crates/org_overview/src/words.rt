@@ -2,7 +2,6 @@
 
 use org_cal::{Day, Period, day_name, push_date};
 use std::alloc::{AllocError, Global};
-use std::str;
 
 const MONTHS: [&str; 12] = [
     "January",
@@ -131,18 +130,6 @@ pub(crate) fn span_words(alloc: Global, days: &Period) -> Result<String, AllocEr
     }
     write!(words, " to {last} {} {last_year}", month_name(last_month))?;
     Ok(words)
-}
-
-/// Appends a text of a file in words with one space between any two.
-pub(crate) fn push_text(out: &mut String, bytes: &[u8]) -> Result<(), AllocError> {
-    let text = str::from_utf8(bytes).unwrap_or("");
-    for (place, word) in text.split_ascii_whitespace().enumerate() {
-        if place > 0 {
-            out.push(' ')?;
-        }
-        out.push_str(word)?;
-    }
-    Ok(())
 }
 
 /// Appends the name of a file without its folder.

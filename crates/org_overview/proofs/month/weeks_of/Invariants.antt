@@ -5,4 +5,4 @@ use Rattle.org_overview.specs.Cells.{cell_of, weeks_cells}
 use Rattle.org_overview.proofs.month.weeks_of.Given as goal
 
 abbrev pub invariant-loop-week : goal.invariant-loop-week
-invariant-loop-week l = weeks_cells l.weeks.items ≡ map (cell_of l.seen.files.now.files l.agenda) (range_with_len 0 (7 * l.week))
+invariant-loop-week g l = weeks_cells l.weeks.items ≡ map (cell_of l.seen.files.now.files l.agenda) (range_with_len 0 (7 * l.week))

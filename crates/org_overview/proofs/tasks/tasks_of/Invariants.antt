@@ -5,4 +5,4 @@ use Rattle.org_overview.specs.Groups.{tasks_marks}
 use Rattle.org_overview.proofs.tasks.tasks_of.Given as goal
 
 abbrev pub invariant-loop-row : goal.invariant-loop-row
-invariant-loop-row l = tasks_marks l.tasks.items ++ marks_of l.seen.files.now.files (drop l.row-index l.rows) ≡ marks_of l.seen.files.now.files l.rows
+invariant-loop-row g l = tasks_marks l.tasks.items ++ marks_of l.seen.files.now.files (drop l.row-index l.rows) ≡ marks_of l.seen.files.now.files l.rows

@@ -4,11 +4,11 @@ ghost use Rattle.org_base.specs.Codes.{memory_fault};
 ghost use Rattle.org_client.specs.Files.{AreRead};
 ghost use Rattle.org_overview.specs.Whole.{GivesPage, GivesPageText};
 
+use crate::asked::Wish;
 use crate::clocked::{Clocked, clocked_of};
 use crate::dated::{Dated, dated_of};
 use crate::rows::Linked;
 use crate::tasks::open_groups;
-use crate::wish::Wish;
 use crate::words::{date_of, whole_day_words};
 use org_base::Fault;
 use org_cal::push_time;
