@@ -78,14 +78,14 @@ pub fn sums_of_clocks(alloc: Global) -> Result<bool, Fault> {
         return Ok(false);
     }
     let sums = clock_sums(alloc, outline, period, &counted)?;
-    Ok(sums.as_slice() == [120, 30])
+    Ok(sums.as_slice() == [120, 30].as_slice())
 }
 
 // The index that finds a stamp under 7 on a day, and no other.
 fn finds_it(index: &DayIndex, day: Day) -> Result<bool, Fault> {
     let ids = index.candidates(&mut Meter::new(), day, day, day)?;
     let touching = index.ids_touching(&mut Meter::new(), day, day)?;
-    Ok(ids.as_slice() == [7] && touching.as_slice() == [7])
+    Ok(ids.as_slice() == [7].as_slice() && touching.as_slice() == [7].as_slice())
 }
 
 // A stamp put into an index and found by its day, there and in a share. Where it is refused the index has none.

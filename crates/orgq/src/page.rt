@@ -19,7 +19,6 @@ use org_save::{Cause, Disk, Name, Store, Unfit, open, replace};
 use org_text::Whole;
 use std::alloc::Global;
 use std::fs::{File, OpenFile, OpenOptions};
-use std::io::ErrorKind;
 use std::rt::{Env, Files};
 use std::time::Clock;
 
