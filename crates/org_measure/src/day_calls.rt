@@ -10,7 +10,7 @@ use org_index::DayIndex;
 use org_inherit::Inherit;
 use org_stamp::{Stamp, read_stamp};
 use org_sum::clock_sums;
-use org_text::Whole;
+use org_text::{Text, Whole};
 use std::alloc::Global;
 
 // Two headings: one was clocked for an hour and a half, and the one below it for half an hour.
