@@ -1,4 +1,6 @@
 //! Calls over the stamps of days: an index of them, a day's rows, clock sums, and what a clock table is asked for.
+ghost use Rattle.org_client.specs.Files.{AreRead};
+ghost use Rattle.org_sum.specs.Texts.{AreOfText};
 
 use crate::outline_calls::refused_if;
 use org_agenda::{AsOf, Row, RowKind, day_rows, sources_of};
@@ -7,7 +9,7 @@ use org_cal::{Day, Moment, Period};
 use org_client::FileSet;
 use org_clocktable::TableSpec;
 use org_index::DayIndex;
-use org_inherit::Inherit;
+use org_inherit::{Inherit, Inherits};
 use org_stamp::{Stamp, read_stamp};
 use org_sum::clock_sums;
 use org_text::{Text, Whole};
@@ -64,16 +66,32 @@ pub fn rows_of_a_day(alloc: Global) -> Result<bool, Fault> {
 pub fn sums_of_clocks(alloc: Global) -> Result<bool, Fault> {
     let file_set = two_headings(alloc)?;
     let inherits = file_set.inherits()?;
+    all_are_summed(alloc, &inherits)
+}
+
+// The same of each file.
+fn all_are_summed(alloc: Global, inherits: &Inherits<'_>) -> Result<bool, Fault>
+    requires read { AreRead inherits.now }
+{
+    for file in 0..inherits.count() {
+        if !are_summed(alloc, inherits.get(file))? {
+            return Ok(false);
+        }
+    }
+    Ok(true)
+}
+
+// Whether the headings of a file have these sums on the day.
+fn are_summed(alloc: Global, inherit: &Inherit<'_>) -> Result<bool, Fault>
+    requires text { AreOfText inherit.now.entries }
+{
     let day = this_day()?;
     let period = Period {
         first: day,
         last: day,
     };
-    if inherits.count() != 1 {
-        return Ok(false);
-    }
-    let outline = inherits.get(0).outline();
     let counted = [true; 2];
+    let outline = inherit.outline();
     if outline.count() != counted.len() {
         return Ok(false);
     }
