@@ -51,10 +51,9 @@ while IFS='	' read -r number home words; do
 done < "${TMPDIR:-/tmp}/rules.$$"
 
 # Functions that may have more: their parameters are the words of a command, or those of a trait.
-wide='org_engine::edit org_engine::complete org_engine::complete_and_tell org_engine::add org_engine::change org_engine::complete_heading
+wide='org_engine::edit org_engine::complete org_engine::complete_and_tell org_engine::add org_engine::complete_heading
 org_engine::dated_text org_engine::days_text org_engine::todo_text org_engine::match_text org_engine::matching_text
-org_engine::view_text org_engine::render_over org_agenda::near org_near::near org_complete::complete org_complete::complete_entry
-org_store::set_text'
+org_engine::view_text org_engine::render_over org_agenda::near org_near::near org_complete::complete org_complete::complete_entry'
 for file in $(find crates -name out -prune -o -type f -path '*/src/*.rt' -print | sort); do
     crate=${file#crates/}
     crate=${crate%%/*}

@@ -10,7 +10,7 @@ use Rattle.org_act.specs.declared.act.Refusal.{Refusal}
 use Rattle.org_act.specs.declared.act.Refusal.TheVariants as refusal
 use Rattle.org_act.specs.declared.addition.Addition.{Addition}
 use Rattle.org_act.specs.declared.addition.Spot.{Spot}
-use Rattle.org_act.specs.declared.change.Change.{Change}
+use Rattle.org_store.specs.declared.change.OwnedChange.{OwnedChange}
 use Rattle.org_act.specs.declared.planning.Planning.{Planning}
 use Rattle.org_amend.specs.Entries.{entry_text}
 use Rattle.org_amend.specs.declared.head.Unreadable.{Unreadable}
@@ -33,10 +33,10 @@ planned_by p text at below h line next put h_is below_is line_is next_is put_is 
     ∙ (ap (λ (b : ℕ). with_put text b (act_put p h (first_line (drop b text)) (first_line (drop (b + length (first_line (drop b text))) text)))) below_is
     ∙ ap (λ (g : List ℕ). with_put text (at + length g) (act_put p g (first_line (drop (at + length g) text)) (first_line (drop (at + length g + length (first_line (drop (at + length g) text))) text)))) h_is)))
 
-pub makes_same : (r : Result Change Refusal) (text : List ℕ) (wanted all : Result (List ℕ) Refusal) → wanted ≡ all → Makes r text wanted → Makes r text all
+pub makes_same : (r : Result OwnedChange Refusal) (text : List ℕ) (wanted all : Result (List ℕ) Refusal) → wanted ≡ all → Makes r text wanted → Makes r text all
 makes_same r text wanted all e h = subst (λ (w : Result (List ℕ) Refusal). Makes r text w) e h
 
-pub added_made : (a : Addition) (text whole : List ℕ) (r : Result Change Refusal) → sized (text ++ a.behind.now) ≡ Ok whole → Makes r text (added_whole a text whole) → Makes r text (added_text a text)
+pub added_made : (a : Addition) (text whole : List ℕ) (r : Result OwnedChange Refusal) → sized (text ++ a.behind.now) ≡ Ok whole → Makes r text (added_whole a text whole) → Makes r text (added_text a text)
 unfolding added_text
 added_made a text whole r e h = subst (λ (s : Result (List ℕ) Fault). Makes r text (added_in a text s)) (sym e) h
 

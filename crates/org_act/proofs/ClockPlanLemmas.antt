@@ -5,14 +5,14 @@ use Rattle.org_act.specs.Changes.{Makes, no_memory}
 use Rattle.org_act.specs.Clocking.{clocked_by, clocked_in, clocked_text}
 use Rattle.org_act.specs.declared.act.Refusal.{Refusal}
 use Rattle.org_act.specs.declared.act.Refusal.TheVariants as refusal
-use Rattle.org_act.specs.declared.change.Change.{Change}
+use Rattle.org_store.specs.declared.change.OwnedChange.{OwnedChange}
 use Rattle.org_act.specs.declared.clock_act.ClockAct.{ClockAct}
 use Rattle.org_act.proofs.PlanLemmas.{sized_is}
 use Rattle.org_base.specs.Codes.{memory_fault}
 use Rattle.org_base.specs.declared.fault.Fault.{Fault}
 use Rattle.org_complete.specs.Completion.{sized}
 
-pub clock_made : (act : ClockAct) (text whole : List ℕ) (r : Result Change Refusal) → sized text ≡ Ok whole → Makes r text (clocked_by act text) → Makes r text (clocked_text act text)
+pub clock_made : (act : ClockAct) (text whole : List ℕ) (r : Result OwnedChange Refusal) → sized text ≡ Ok whole → Makes r text (clocked_by act text) → Makes r text (clocked_text act text)
 unfolding clocked_text
 clock_made act text whole r e h =
     let own : sized text ≡ Ok text = e ∙ ap Ok (sized_is text whole e) in

@@ -6,7 +6,7 @@ use Rattle.org_act.specs.declared.act.Refusal.{Refusal}
 use Rattle.org_act.specs.declared.amendment.Amended.{Amended}
 use Rattle.org_act.specs.declared.amendment.Unamended.{Unamended}
 use Rattle.org_act.specs.declared.amendment.Unamended.TheVariants.{Refused, Unsaved}
-use Rattle.org_act.specs.declared.change.Change.{Change}
+use Rattle.org_store.specs.declared.change.OwnedChange.{OwnedChange}
 use Rattle.org_save.specs.Events.{Event}
 use Rattle.org_save.specs.Replacing.{HasChanged, IsAtRename, IsReplaced, IsUntouched, LeavesNothing, StaysWhole}
 use Rattle.org_save.specs.declared.unsaved.Unsaved.{Unsaved as NotSaved}
@@ -48,7 +48,7 @@ abbrev pub IfFails : Result Amended Unamended → (List ℕ → Result (List ℕ
 IfFails result amended old before after = IfErr result (IsRefused (amended old) old before after)
 
 -- a change that was written
-pub record IsWritten (old : List ℕ) (change : Change) (before after : List Event) (amended : Amended) : Type 0 where
+pub record IsWritten (old : List ℕ) (change : OwnedChange) (before after : List Event) (amended : Amended) : Type 0 where
   pub is : amended.change ≡ change
   pub replaced : IsReplaced old (with_change old change) amended.saved before after
 

@@ -6,7 +6,7 @@ use Rattle.org_act.specs.Completing.{no_heading}
 use Rattle.org_act.specs.Laws.{answered}
 use Rattle.org_act.specs.declared.act.Refusal.{Refusal}
 use Rattle.org_act.specs.declared.act.Refusal.TheVariants as refusal
-use Rattle.org_act.specs.declared.change.Change.{Change}
+use Rattle.org_store.specs.declared.change.OwnedChange.{OwnedChange}
 use Rattle.org_act.specs.declared.clock_act.ClockAct.{ClockAct}
 use Rattle.org_act.specs.declared.clock_act.ClockStep.{ClockStep}
 use Rattle.org_act.specs.declared.clock_act.ClockStep.TheVariants.{In, Out, Cancel}
@@ -24,6 +24,7 @@ use Rattle.org_cal.specs.declared.moment.Moment.{Moment}
 use Rattle.org_class.specs.Classes.{classes_in}
 use Rattle.org_complete.specs.Completion.{line_start, replaced, section_at, sized}
 use Rattle.org_complete.specs.Parts.{Part}
+use Rattle.org_complete.specs.Written.{part_of}
 use Rattle.org_store.specs.Begun.{has_heading}
 
 -- the section that begins at a place of a text, as a part of it
@@ -105,15 +106,11 @@ abbrev pub Finds : {T : Type 0} → Result T Refusal → Result T Refusal → Ty
 Finds (Ok found) wanted = wanted ≡ Ok found
 Finds (Err why) wanted = why ≢ no_memory → wanted ≡ Err why
 
--- what a change replaces
-abbrev pub part_of : Change → Part
-part_of change = record { at = change.at; del = change.deleted; ins = string_bytes change.inserted }
-
 -- a change that replaces this, unless that is refused
-abbrev pub GivesPart : {E : Type 0} → Result Change E → Part → Type 0
+abbrev pub GivesPart : {E : Type 0} → Result OwnedChange E → Part → Type 0
 GivesPart result part = IfOk result (λ change. part_of change ≡ part)
 
 -- a change that lies in a text and replaces the wanted part, or the refusal that is wanted, unless memory is refused
-abbrev pub Replaces : Result Change Refusal → List ℕ → Result Part Refusal → Type 0
+abbrev pub Replaces : Result OwnedChange Refusal → List ℕ → Result Part Refusal → Type 0
 Replaces (Ok change) text wanted = LiesIn text change × (wanted ≡ Ok (part_of change))
 Replaces (Err why) text wanted = why ≢ no_memory → wanted ≡ Err why

@@ -3,9 +3,9 @@ ghost use Rattle.std.specs.Prelude.{◌≡◌, ℕ, List, Result};
 ghost use Rattle.org_act.specs.Changes.{Makes, no_memory};
 ghost use Rattle.org_act.specs.declared.act.Refusal.{Refusal};
 
-use crate::change::Change;
 use org_amend::Unreadable;
 use org_base::{Code, Fault};
+use org_store::OwnedChange;
 use std::alloc::{AllocError, Global};
 
 /// Why an act changes nothing.
@@ -51,6 +51,6 @@ pub trait Act {
     ghost amended: { Self → List ℕ → Result (List ℕ) Refusal };
 
     /// The change that it makes of a text, or why it is refused. Want of memory may come at any time.
-    fn plan(&self, alloc: Global, text: &str) -> Result<Change, Refusal>
+    fn plan(&self, alloc: Global, text: &str) -> Result<OwnedChange, Refusal>
         ensures value { Makes result text.now (amended self.now text.now) };
 }

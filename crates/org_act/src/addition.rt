@@ -5,13 +5,12 @@ ghost use Rattle.org_act.specs.Changes.{Makes};
 ghost use Rattle.org_act.specs.Lines.{first_line};
 
 use crate::act::{Act, Refusal};
-use crate::change::Change;
 use crate::completion::file_of;
 use crate::lines::{first_line, has_feed, heading_at, line_end, subtree_end};
 use org_amend::{NewEntry, NewHead, entry_text};
 use org_base::{Code, Fault};
 use org_class::leading_stars;
-use org_store::File;
+use org_store::{File, OwnedChange};
 use org_text::{MAX_BYTES, Whole};
 use std::alloc::{AllocError, Global};
 
@@ -34,7 +33,7 @@ impl<'a> Act for Addition<'a> {
 
     ghost amended = { added_text };
 
-    fn plan(&self, alloc: Global, text: &str) -> Result<Change, Refusal> {
+    fn plan(&self, alloc: Global, text: &str) -> Result<OwnedChange, Refusal> {
         match file_of(alloc, text, self.behind) {
             Ok(file) => plan_in(alloc, &file, text, self),
             Err(fault) => Err(Refusal::Fault(fault)),
@@ -55,7 +54,7 @@ fn plan_in(
     file: &File<Whole>,
     text: &str,
     act: &Addition<'_>,
-) -> Result<Change, Refusal>
+) -> Result<OwnedChange, Refusal>
     ensures value { Makes result text.now (added_whole act.now text.now file.now.text) }
 {
     let bytes = text.as_bytes();
@@ -70,7 +69,7 @@ fn plan_in(
 }
 
 // The change that puts the lines of an entry at a place.
-fn change_at(alloc: Global, text: &[u8], at: usize, entry: &str) -> Result<Change, Refusal>
+fn change_at(alloc: Global, text: &[u8], at: usize, entry: &str) -> Result<OwnedChange, Refusal>
     requires within { at ≤ length text.now }
     ensures value { Makes result text.now (with_entry text.now at (Ok entry.now)) }
 {
@@ -79,10 +78,10 @@ fn change_at(alloc: Global, text: &[u8], at: usize, entry: &str) -> Result<Chang
     if text.len() + inserted.len() > MAX_BYTES {
         return Err(Refusal::Fault(Fault::Plain(Code::Size)));
     }
-    Ok(Change {
-        at,
-        deleted: 0,
-        inserted,
+    Ok(OwnedChange {
+        at: at as u64,
+        del: 0,
+        ins: inserted,
     })
 }
 

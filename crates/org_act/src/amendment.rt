@@ -5,16 +5,17 @@ ghost use Rattle.org_act.specs.Changes.{LiesIn, with_change};
 ghost use Rattle.org_save.specs.Replacing.{StaysWhole};
 
 use crate::act::{Act, Refusal};
-use crate::change::{Change, with_change};
+use crate::change::with_change;
 use org_base::{Code, Fault};
 use org_save::{Saved, Store, Unsaved, replace};
+use org_store::OwnedChange;
 use std::alloc::Global;
 
 /// An act that was done.
 #[derive(Debug, Drop)]
 pub struct Amended {
     /// What it changed.
-    pub change: Change,
+    pub change: OwnedChange,
     /// How it was written.
     pub saved: Saved,
 }
@@ -56,7 +57,7 @@ fn write_change<S: Store>(
     alloc: Global,
     store: &mut S,
     old: &str,
-    change: Change,
+    change: OwnedChange,
 ) -> Result<Amended, Unamended>
     requires within { LiesIn old.now change }
     ensures whole { StaysWhole (with_change old.now change) (S.events store.old) (S.events store.new) }

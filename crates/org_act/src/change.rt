@@ -1,28 +1,19 @@
-//! One change of a text.
+//! A text with a change made.
 ghost use Rattle.org_act.specs.Changes.{LiesIn, with_change};
 ghost use Rattle.org_base.specs.Results.{GivesItems};
 
+use org_store::OwnedChange;
 use std::alloc::{AllocError, Global};
 
-/// Bytes of a text, and what stands there instead.
-#[derive(Debug, Drop)]
-pub struct Change {
-    /// Where the first of them stands.
-    pub at: usize,
-    /// How many they are.
-    pub deleted: usize,
-    /// What stands there instead.
-    pub inserted: String,
-}
-
 /// A text with a change made.
-pub fn with_change(alloc: Global, text: &[u8], change: &Change) -> Result<Vec<u8>, AllocError>
+pub fn with_change(alloc: Global, text: &[u8], change: &OwnedChange) -> Result<Vec<u8>, AllocError>
     requires within { LiesIn text.now change.now }
     ensures value { GivesItems result (with_change text.now change.now) }
 {
-    let end = change.at + change.deleted;
-    let mut new = Vec::from_slice(alloc, &text[..change.at])?;
-    new.extend_from_slice(change.inserted.as_bytes())?;
+    let start = change.at as usize;
+    let end = start + change.del as usize;
+    let mut new = Vec::from_slice(alloc, &text[..start])?;
+    new.extend_from_slice(change.ins.as_bytes())?;
     new.extend_from_slice(&text[end..])?;
     Ok(new)
 }

@@ -1,19 +1,18 @@
 //! Acts on the clock of a heading.
 ghost use Rattle.std.specs.Prelude.{◌≡◌, ◌+◌, ◌≤◌, length, Ok};
 ghost use Rattle.org_act.specs.Changes.{LiesIn, Makes};
-ghost use Rattle.org_act.specs.Clocking.{clocked_by, part_of, step_in, with_part};
+ghost use Rattle.org_act.specs.Clocking.{clocked_by, step_in, with_part};
 ghost use Rattle.org_complete.specs.Completion.{sized};
-ghost use Rattle.org_complete.specs.Written.{AnswersAs};
+ghost use Rattle.org_complete.specs.Written.{AnswersAs, part_of};
 
 use crate::act::{Act, Refusal};
-use crate::change::Change;
 use crate::clock_section::{ClockSection, section_on};
 use crate::clock_step::step_change;
 use org_amend::running_clock;
 use org_base::{Code, Fault, Meter, Span};
 use org_cal::Moment;
 use org_class::classify;
-use org_store::File;
+use org_store::{File, OwnedChange};
 use org_text::{MAX_BYTES, Text, Whole};
 use std::alloc::Global;
 
@@ -43,7 +42,7 @@ impl Act for ClockAct {
 
     ghost amended = { clocked_text };
 
-    fn plan(&self, alloc: Global, text: &str) -> Result<Change, Refusal> {
+    fn plan(&self, alloc: Global, text: &str) -> Result<OwnedChange, Refusal> {
         match file_of(alloc, text) {
             Ok(file) => plan_in(alloc, &file, text, self),
             Err(fault) => Err(Refusal::Fault(fault)),
@@ -60,7 +59,12 @@ fn file_of(alloc: Global, text: &str) -> Result<File<Whole>, Fault>
 }
 
 // What an act changes of a file's text.
-fn plan_in(alloc: Global, file: &File<Whole>, text: &str, act: &ClockAct) -> Result<Change, Refusal>
+fn plan_in(
+    alloc: Global,
+    file: &File<Whole>,
+    text: &str,
+    act: &ClockAct,
+) -> Result<OwnedChange, Refusal>
     requires same { file.now.text ≡ text.now }
     ensures value { Makes result text.now (clocked_by act.now text.now) }
 {
@@ -77,7 +81,7 @@ fn plan_at(
     text: &str,
     span: Span,
     step: ClockStep,
-) -> Result<Change, Refusal>
+) -> Result<OwnedChange, Refusal>
     requires same { whole.now ≡ text.now }
     requires within { span.at + span.len ≤ length text.now }
     ensures value { Makes result text.now (step_in step text.now span) }
@@ -99,11 +103,11 @@ fn plan_at(
 }
 
 // A change, unless the text would be too long with it.
-fn sized_change(text: &str, change: Change) -> Result<Change, Refusal>
+fn sized_change(text: &str, change: OwnedChange) -> Result<OwnedChange, Refusal>
     requires within { LiesIn text.now change }
     ensures value { Makes result text.now (with_part text.now (Ok (part_of change))) }
 {
-    if text.len() - change.deleted + change.inserted.len() > MAX_BYTES {
+    if text.len() - change.del as usize + change.ins.len() > MAX_BYTES {
         return Err(Refusal::Fault(Fault::Plain(Code::Size)));
     }
     Ok(change)

@@ -2,13 +2,13 @@
 ghost use Rattle.std.specs.Prelude.{◌≡◌, ◌+◌, ◌≤◌, IfOk, IfSome, IsOkUnless, string_bytes};
 ghost use Rattle.org_act.specs.Changes.{LiesIn};
 ghost use Rattle.org_act.specs.ClockParts.{IsSection, begun_part, begun_part_at, cancelled_with, part_for};
-ghost use Rattle.org_act.specs.Clocking.{GivesPart, Replaces, ended_at, inserted_at, part_of};
+ghost use Rattle.org_act.specs.Clocking.{GivesPart, Replaces, ended_at, inserted_at};
+ghost use Rattle.org_complete.specs.Written.{part_of};
 ghost use Rattle.org_amend.specs.Places.{place_at};
 ghost use Rattle.org_amend.specs.Within.{IsWithin};
 ghost use Rattle.org_base.specs.Codes.{memory_fault};
 
 use crate::act::Refusal;
-use crate::change::Change;
 use crate::clock_act::ClockStep;
 use crate::clock_section::ClockSection;
 use org_amend::{
@@ -17,6 +17,7 @@ use org_amend::{
 };
 use org_base::Fault;
 use org_cal::Moment;
+use org_store::OwnedChange;
 use std::alloc::Global;
 
 // What a step changes of a section, whose first running clock, if one runs, is given.
@@ -25,7 +26,7 @@ pub(crate) fn step_change(
     section: &ClockSection<'_>,
     clock: Option<RunningClock>,
     step: ClockStep,
-) -> Result<Change, Refusal>
+) -> Result<OwnedChange, Refusal>
     requires section { IsSection section.now }
     requires clock { IfSome clock (IsWithin section.now.span) }
     ensures value { Replaces result section.now.text.now (part_for section.now step clock) }
@@ -47,7 +48,7 @@ pub(crate) fn step_change(
 }
 
 // The change by which a clock begins.
-fn begin(alloc: Global, section: &ClockSection<'_>, moment: Moment) -> Result<Change, Fault>
+fn begin(alloc: Global, section: &ClockSection<'_>, moment: Moment) -> Result<OwnedChange, Fault>
     requires section { IsSection section.now }
     ensures value { GivesPart result (begun_part section.now moment) }
     ensures within { IfOk result (LiesIn section.now.text.now) }
@@ -63,7 +64,7 @@ fn begin_at(
     section: &ClockSection<'_>,
     moment: Moment,
     place: ClockPlace,
-) -> Result<Change, Fault>
+) -> Result<OwnedChange, Fault>
     requires section { IsSection section.now }
     requires place { place_at place ≤ section.now.span.at + section.now.span.len }
     ensures value { GivesPart result (begun_part_at section.now moment place) }
@@ -84,13 +85,13 @@ fn begin_at(
 }
 
 // The change by which a text is put in at a place.
-fn insertion(at: u32, inserted: String) -> Change
+fn insertion(at: u32, inserted: String) -> OwnedChange
     ensures value { part_of result ≡ inserted_at at (string_bytes inserted) }
 {
-    Change {
-        at: at as usize,
-        deleted: 0,
-        inserted,
+    OwnedChange {
+        at: u64::from(at),
+        del: 0,
+        ins: inserted,
     }
 }
 
@@ -100,7 +101,7 @@ fn end(
     section: &ClockSection<'_>,
     clock: &RunningClock,
     moment: &Moment,
-) -> Result<Change, Refusal>
+) -> Result<OwnedChange, Refusal>
     requires section { IsSection section.now }
     requires clock { IsWithin section.now.span clock.now }
     ensures value { Replaces result section.now.text.now (ended_at moment.now clock.now) }
@@ -114,7 +115,11 @@ fn end(
 }
 
 // The change by which a clock is taken away.
-fn cancel(alloc: Global, section: &ClockSection<'_>, clock: RunningClock) -> Result<Change, Fault>
+fn cancel(
+    alloc: Global,
+    section: &ClockSection<'_>,
+    clock: RunningClock,
+) -> Result<OwnedChange, Fault>
     requires section { IsSection section.now }
     requires clock { IsWithin section.now.span clock }
     ensures value { GivesPart result (cancelled_with section.now clock) }
@@ -122,9 +127,9 @@ fn cancel(alloc: Global, section: &ClockSection<'_>, clock: RunningClock) -> Res
     ensures memory { IsOkUnless result memory_fault }
 {
     let part = cancelled_part(alloc, section.whole, section.span, section.classes, clock)?;
-    Ok(Change {
-        at: part.at as usize,
-        deleted: part.len as usize,
-        inserted: String::new(alloc),
+    Ok(OwnedChange {
+        at: u64::from(part.at),
+        del: u64::from(part.len),
+        ins: String::new(alloc),
     })
 }

@@ -7,13 +7,12 @@ ghost use Rattle.org_complete.specs.Written.{AnswersAs};
 ghost use Rattle.org_store.specs.Outline.{file_settings};
 
 use crate::act::{Act, Refusal};
-use crate::change::Change;
 use crate::done::done_word;
 use org_base::{Code, Fault, Meter};
 use org_cal::Moment;
-use org_complete::{Revision, complete};
-use org_store::File;
-use org_text::{Text, Whole};
+use org_complete::complete;
+use org_store::{File, OwnedChange};
+use org_text::{MAX_BYTES, Text, Whole};
 use std::alloc::Global;
 
 /// The keyword by which a heading is completed.
@@ -45,7 +44,7 @@ impl<'a> Act for Completion<'a> {
 
     ghost amended = { completed_text };
 
-    fn plan(&self, alloc: Global, text: &str) -> Result<Change, Refusal> {
+    fn plan(&self, alloc: Global, text: &str) -> Result<OwnedChange, Refusal> {
         match file_of(alloc, text, self.behind) {
             Ok(mut file) => plan_in(alloc, &mut file, text, self),
             Err(fault) => Err(Refusal::Fault(fault)),
@@ -59,7 +58,7 @@ fn plan_in(
     file: &mut File<Whole>,
     text: &str,
     act: &Completion<'_>,
-) -> Result<Change, Refusal>
+) -> Result<OwnedChange, Refusal>
     requires whole { file.old.text ≡ text.now ++ act.now.behind.now }
     ensures value { Makes result text.now (amended_whole act.now text.now file.old.text) }
 {
@@ -114,19 +113,17 @@ fn plan_by(
     text: &str,
     act: &Completion<'_>,
     word: &str,
-) -> Result<Change, Refusal>
+) -> Result<OwnedChange, Refusal>
     requires whole { file.old.text ≡ text.now ++ act.now.behind.now }
     ensures value { Makes result text.now (amended_by act.now text.now file.old.text (Ok word.now)) }
 {
-    let revision = complete(alloc, &mut Meter::new(), file, act.line, word, act.moment)?;
-    let Revision { at, del, ins, .. } = revision;
-    let (at, deleted) = (at as usize, del as usize);
-    if text.len() < at + deleted {
+    let len = file.text().len();
+    let change = complete(alloc, &mut Meter::new(), file, act.line, word, act.moment)?;
+    if len - change.del as usize + change.ins.len() > MAX_BYTES {
+        return Err(Refusal::Fault(Fault::Plain(Code::Size)));
+    }
+    if (text.len() as u64) < change.at + change.del {
         return Err(Refusal::Fault(Fault::Plain(Code::Heading)));
     }
-    Ok(Change {
-        at,
-        deleted,
-        inserted: ins,
-    })
+    Ok(change)
 }

@@ -6,11 +6,11 @@ ghost use Rattle.org_base.specs.Codes.{memory_fault};
 ghost use Rattle.org_base.specs.Results.{GivesText};
 
 use crate::act::{Act, Refusal};
-use crate::change::Change;
 use crate::lines::{first_line, has_feed, heading_at, line_end};
 use org_amend::{TypedDate, dated_line, undated_line};
 use org_base::{Code, Fault};
 use org_stamp::{PlanningKeyword, is_planning};
+use org_store::OwnedChange;
 use org_text::MAX_BYTES;
 use std::alloc::{AllocError, Global};
 
@@ -34,7 +34,7 @@ impl Act for Planning {
 
     ghost amended = { planned_text };
 
-    fn plan(&self, alloc: Global, text: &str) -> Result<Change, Refusal> {
+    fn plan(&self, alloc: Global, text: &str) -> Result<OwnedChange, Refusal> {
         match heading_at(text.as_bytes(), self.line) {
             Some(at) => plan_at(alloc, text.as_bytes(), self, at),
             None => Err(Refusal::Fault(Fault::Plain(Code::Heading))),
@@ -43,7 +43,7 @@ impl Act for Planning {
 }
 
 // What planning the heading that begins at a place changes of a text.
-fn plan_at(alloc: Global, text: &[u8], act: &Planning, at: usize) -> Result<Change, Refusal>
+fn plan_at(alloc: Global, text: &[u8], act: &Planning, at: usize) -> Result<OwnedChange, Refusal>
     requires within { at ≤ length text.now }
     ensures value { Makes result text.now (planned_at act.now text.now at) }
 {
@@ -63,7 +63,7 @@ struct Put {
 }
 
 // The change that puts something at a place of a text.
-fn change_of(text: &[u8], at: usize, put: Option<Put>) -> Result<Change, Refusal>
+fn change_of(text: &[u8], at: usize, put: Option<Put>) -> Result<OwnedChange, Refusal>
     requires within { IfSome put (λ p. at + p.deleted ≤ length text.now) }
     ensures value { Makes result text.now (with_put text.now at (puts_of put)) }
 {
@@ -73,10 +73,10 @@ fn change_of(text: &[u8], at: usize, put: Option<Put>) -> Result<Change, Refusal
     if text.len() - deleted + inserted.len() > MAX_BYTES {
         return Err(Refusal::Fault(Fault::Plain(Code::Size)));
     }
-    Ok(Change {
-        at,
-        deleted,
-        inserted,
+    Ok(OwnedChange {
+        at: at as u64,
+        del: deleted as u64,
+        ins: inserted,
     })
 }
 

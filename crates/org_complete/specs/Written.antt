@@ -1,5 +1,5 @@
 -- What a completion puts into a heading's text (profile).
-use Rattle.std.specs.Prelude.{◌≡◌, ◌≢◌, ℕ, ◌+◌, ◌≤◌, Bool, true, false, ⊤, List, [], ◌++◌, length, string_bytes, Option, Some, None, Result, Ok, Err}
+use Rattle.std.specs.Prelude.{◌≡◌, ◌≢◌, ℕ, ◌+◌, ◌≤◌, Bool, true, false, ⊤, List, [], ◌++◌, string_bytes, Option, Some, None, Result, Ok, Err}
 use Rattle.std.specs.List.{slice_range}
 use Rattle.std.specs.Str.{IsUtf8}
 use Rattle.org_base.specs.Codes.{memory_fault}
@@ -7,12 +7,15 @@ use Rattle.org_base.specs.declared.code.Code.TheVariants as code
 use Rattle.org_base.specs.declared.fault.Fault.{Fault}
 use Rattle.org_base.specs.declared.fault.Fault.TheVariants as fault
 use Rattle.org_base.specs.declared.span.Span.{Span}
+use Rattle.org_cal.specs.declared.moment.Moment.{Moment}
+use Rattle.org_complete.specs.Completion.{completed, completed_at, completion_part, part_at, plan_part, plan_written}
 use Rattle.org_complete.specs.Parts.{Part}
 use Rattle.org_complete.specs.declared.plan.Plan.{Plan}
 use Rattle.org_complete.specs.declared.plan.Shift.{Shift}
-use Rattle.org_complete.specs.declared.revision.Revision.{Revision}
+use Rattle.org_entry.specs.declared.entry.Entry.{Entry}
 use Rattle.org_stamp.specs.Print.{stamp_text}
-use Rattle.org_text.specs.Replace.{replace}
+use Rattle.org_store.specs.Change.{replaced_text}
+use Rattle.org_store.specs.declared.change.OwnedChange.{OwnedChange}
 use Rattle.org_utf8.specs.Laws.{IsTextPart}
 
 -- want of a time
@@ -57,15 +60,24 @@ abbrev pub AnswersAs : {T : Type 0} → (T → List ℕ) → Result T Fault → 
 AnswersAs seen (Ok new) wanted = wanted ≡ Ok (seen new)
 AnswersAs seen (Err refused) wanted = refused ≢ memory_fault → wanted ≡ Err refused
 
--- the same of the text of a revision
-abbrev pub Revises : {T : Type 0} → (T → List ℕ) → Result (Revision T) Fault → Result (List ℕ) Fault → Type 0
-Revises content = AnswersAs (λ r. content r.text)
+-- a change, as bytes
+abbrev pub part_of : OwnedChange → Part
+part_of c = record { at = c.at; del = c.del; ins = string_bytes c.ins }
 
--- the revision's change lies in a text, and its text is that one with the change
-pub record IsRevision {T : Type 0} (content : T → List ℕ) (old : List ℕ) (r : Revision T) : Type 0 where
-  pub within : r.at + r.del ≤ length old
-  pub text : content r.text ≡ replace old r.at r.del (string_bytes r.ins)
+-- a change of a text cuts no character, is this part, and the text with it, unless it gets too long, is the wanted one
+pub record IsPart (text : List ℕ) (part : Result Part Fault) (wanted : Result (List ℕ) Fault) (change : OwnedChange) : Type 0 where
+  pub within : IsTextPart text (record { at = change.at; len = change.del })
+  pub is : part ≡ Ok (part_of change)
+  pub makes : wanted ≡ replaced_text text change.at change.del (string_bytes change.ins)
 
--- a revision's change, as bytes
-abbrev pub part_of : {T : Type 0} → Revision T → Part
-part_of r = record { at = r.at; del = r.del; ins = string_bytes r.ins }
+-- a change is what completing the heading on a line replaces
+abbrev pub IsCompletionOf : List ℕ → ℕ → List ℕ → Moment → OwnedChange → Type 0
+IsCompletionOf text line keyword now = IsPart text (completion_part text line keyword now) (completed text line keyword now)
+
+-- the same of the heading of the section at a place
+abbrev pub IsCompletionAt : List ℕ → ℕ → List ℕ → Moment → OwnedChange → Type 0
+IsCompletionAt text place keyword now = IsPart text (part_at text place keyword now) (completed_at text place keyword now)
+
+-- a change is what writing a plan into the entry of the section at a place replaces
+abbrev pub IsPlanWritten : List ℕ → ℕ → Entry → Option Span → Plan → OwnedChange → Type 0
+IsPlanWritten text place entry old plan = IsPart text (Ok (plan_part text place entry old plan)) (plan_written text place entry old plan)

@@ -1,42 +1,40 @@
 //! Completing a heading.
-ghost use Rattle.std.specs.Prelude.{◌≡◌, ◌+◌, ◌-◌, ◌++◌, ◌<◌, ◌≤◌, ◌^◌, Ok, Err, Some, length, IfOk, IsSome, OnOk, IsOkUnless, string_bytes};
+ghost use Rattle.std.specs.Prelude.{◌≡◌, ◌+◌, ◌++◌, ◌<◌, ◌≤◌, ◌^◌, Err, Some, length, IfOk, IsSome, OnOk, IsOkUnless};
 ghost use Rattle.std.specs.List.{prefix_len};
 ghost use Rattle.std.specs.Str.{IsUtf8, IsCharBoundary};
 ghost use Rattle.org_base.specs.Codes.{memory_fault};
 ghost use Rattle.org_base.specs.Results.{Gives, IfRefused, Writes};
 ghost use Rattle.org_base.specs.Words.{is_space};
 ghost use Rattle.org_entry.specs.Entry.{heading_line};
-ghost use Rattle.org_complete.specs.Completion.{completed, completed_at, completion_part, gap_behind, keyword_span, part_at, plan_part, plan_written, replaced, sized};
+ghost use Rattle.org_complete.specs.Completion.{completed, completed_at, gap_behind, keyword_span};
 ghost use Rattle.org_complete.specs.Reading.{HasReadOne, IsPlaceIn, ReadsOwn, WasReadAt};
-ghost use Rattle.org_complete.specs.Written.{AnswersAs, CanWrite, IsBehind, IsRevision, Revises, part_of, plan_end, plan_text, shift_end, shift_text};
+ghost use Rattle.org_complete.specs.Written.{CanWrite, IsBehind, IsCompletionAt, IsCompletionOf, IsPlanWritten, plan_end, plan_text, shift_end, shift_text};
 ghost use Rattle.org_store.specs.Begun.{entry_there};
-ghost use Rattle.org_text.specs.Replace.{max_bytes, replace};
-ghost use Rattle.org_utf8.specs.Laws.{IsTextPart};
+ghost use Rattle.org_text.specs.Replace.{max_bytes};
 
 use crate::plan::{Plan, Shift, plan_of};
-use crate::revision::Revision;
 use org_base::{Code, Fault, Meter, Span};
 use org_cal::Moment;
 use org_class::{has_heading_at, leading_stars};
 use org_entry::Entry;
 use org_stamp::print_stamp;
-use org_store::File;
+use org_store::{File, OwnedChange};
 use org_text::Text;
 use std::alloc::{AllocError, Global};
 
-/// The text of a file with the heading on a line completed by a keyword at a moment, and what it changes of the file's text
-/// (Org manual 9.6, "Repeated tasks"). Lines count from 1. Where the keyword is a done one, and an active `SCHEDULED` or
-/// `DEADLINE` of the heading has a repeater, each such stamp shifts, and the keyword written is the first of the sequence
-/// that holds the given one; otherwise that one is written and no stamp shifts. `+` shifts by one interval, `++` by so many
-/// that the stamp lies after the moment, `.+` to one interval from the moment's day, or with hours from the moment itself. A
-/// shifted stamp is printed anew. Where the heading has no keyword, it and a space are put after the stars and the white
-/// space that follows them. All else of the text stays, and so does the file's own text.
+/// What completing the heading on a line by a keyword at a moment changes of a file's text (Org manual 9.6, "Repeated
+/// tasks"). Lines count from 1. Where the keyword is a done one, and an active `SCHEDULED` or `DEADLINE` of the heading has a
+/// repeater, each such stamp shifts, and the keyword written is the first of the sequence that holds the given one; otherwise
+/// that one is written and no stamp shifts. `+` shifts by one interval, `++` by so many that the stamp lies after the moment,
+/// `.+` to one interval from the moment's day, or with hours from the moment itself. A shifted stamp is printed anew. Where the
+/// heading has no keyword, it and a space are put after the stars and the white space that follows them. All else of the text
+/// stays.
 ///
 /// Refusals, in this order: `Heading` where no heading stands on the line; `Keyword` where the keyword is none of the
 /// file's; `Hours` where a stamp that would shift has a repeater of hours and no time, or a time range; `Date` where one
-/// would leave the years 1 to 9999; `Size` where the new text would be longer than a text may be. Out of memory may come
-/// at any time. No section is classified. Where the line is a heading's, its section is read, if it is still to be read, and
-/// stays read, after a refusal too; the meter counts it then, and nothing else.
+/// would leave the years 1 to 9999. Out of memory may come at any time. Whether the text with the change is too long is seen
+/// where it is made. No section is classified. Where the line is a heading's, its section is read, if it is still to be read,
+/// and stays read, after a refusal too; the meter counts it then, and nothing else.
 pub fn complete<T: Text>(
     alloc: Global,
     meter: &mut Meter,
@@ -44,10 +42,9 @@ pub fn complete<T: Text>(
     line: u64,
     keyword: &str,
     moment: Moment,
-) -> Result<Revision<T>, Fault>
-    ensures value { Revises T.content result (completed file.old.text line keyword.now moment) }
-    ensures change { IfOk result (IsRevision T.content file.old.text) }
-    ensures part { IfOk result (λ r. completion_part file.old.text line keyword.now moment ≡ Ok (part_of r)) }
+) -> Result<OwnedChange, Fault>
+    ensures value { IfOk result (IsCompletionOf file.old.text line keyword.now moment) }
+    ensures fault { IfRefused result (λ fault. completed file.old.text line keyword.now moment ≡ Err fault) }
     ensures read { HasReadOne file.old file.new meter.old meter.new }
     ensures exact { OnOk result (ReadsOwn line file.old file.new meter.old meter.new) }
     ensures refused { IfRefused result (λ _. ReadsOwn line file.old file.new meter.old meter.new) }
@@ -62,19 +59,18 @@ pub fn complete<T: Text>(
     complete_section(alloc, file, place, keyword, moment)
 }
 
-// The text with the heading of the section at a place completed, which was read.
+// What completing the heading of the section at a place changes, which was read.
 fn complete_section<T: Text>(
     alloc: Global,
     file: &File<T>,
     place: u32,
     keyword: &str,
     moment: Moment,
-) -> Result<Revision<T>, Fault>
+) -> Result<OwnedChange, Fault>
     requires there { IsPlaceIn file.now place }
     requires read { WasReadAt file.now place }
-    ensures value { Revises T.content result (completed_at file.now.text place keyword.now moment) }
-    ensures change { IfOk result (IsRevision T.content file.now.text) }
-    ensures part { IfOk result (λ r. part_at file.now.text place keyword.now moment ≡ Ok (part_of r)) }
+    ensures value { IfOk result (IsCompletionAt file.now.text place keyword.now moment) }
+    ensures fault { IfRefused result (λ fault. completed_at file.now.text place keyword.now moment ≡ Err fault) }
 {
     let Some(entry) = file.entry(place) else {
         unreachable!();
@@ -100,7 +96,8 @@ fn text_of<T: Text>(file: &File<T>) -> &T
     text
 }
 
-// The text with a plan written into the entry of the section at a place, whose heading has this keyword.
+// What writing a plan into the entry of the section at a place changes, whose heading has this keyword. Out of memory is the
+// only refusal.
 fn complete_entry<T: Text>(
     alloc: Global,
     file: &File<T>,
@@ -108,43 +105,27 @@ fn complete_entry<T: Text>(
     entry: &Entry,
     old: Option<Span>,
     plan: Plan,
-) -> Result<Revision<T>, Fault>
+) -> Result<OwnedChange, Fault>
     requires there { IsPlaceIn file.now place }
     requires entry { entry.now ≡ entry_there file.now.text place }
     requires headed { IsSome entry.now.head }
     requires plan { CanWrite entry.now.text (keyword_span (heading_line entry.now) old) plan }
-    ensures value { Revises T.content result (plan_written file.now.text place entry.now old plan) }
-    ensures change { IfOk result (IsRevision T.content file.now.text) }
-    ensures part { IfOk result (λ r. plan_part file.now.text place entry.now old plan ≡ part_of r) }
+    ensures value { IfOk result (IsPlanWritten file.now.text place entry.now old plan) }
+    ensures memory { IsOkUnless result memory_fault }
 {
-    let text = text_of(file);
+    // For the proof alone: its contract says that the text is UTF-8.
+    let _text = text_of(file);
     let span = keyword_span(entry.line(), old);
     let mut ins = String::new(alloc);
     push_keyword(&mut ins, file.settings().keyword_word(plan.keyword), old)?;
     let end = push_shifts(alloc, &mut ins, entry, span, plan)?;
     let at = file.start(place) + span.at;
-    revise(text, at, end - span.at, ins)
-}
-
-// The text with a part of it replaced, and this change.
-fn revise<T: Text>(text: &T, at: u32, del: u32, ins: String) -> Result<Revision<T>, Fault>
-    requires part { IsTextPart (T.content text.now) (record { at = at; len = del }) }
-    ensures value { Revises T.content result (replaced (T.content text.now) at del (string_bytes ins)) }
-    ensures change { IfOk result (IsRevision T.content (T.content text.now)) }
-    ensures part { IfOk result (λ r. (r.at ≡ at) × (r.del ≡ del) × (string_bytes r.ins ≡ string_bytes ins)) }
-{
-    let text = replace_part(text, at, del, ins.as_str())?;
-    Ok(Revision { text, at, del, ins })
-}
-
-// The text with a part of it replaced.
-fn replace_part<T: Text>(text: &T, at: u32, del: u32, ins: &str) -> Result<T, Fault>
-    requires part { IsTextPart (T.content text.now) (record { at = at; len = del }) }
-    ensures value { AnswersAs T.content result (replaced (T.content text.now) at del ins.now) }
-{
-    let mut new = text.share()?;
-    new.edit(at as u64, del as u64, ins)?;
-    Ok(new)
+    let del = end - span.at;
+    Ok(OwnedChange {
+        at: at as u64,
+        del: del as u64,
+        ins,
+    })
 }
 
 // How many bytes of white space stand at the front.

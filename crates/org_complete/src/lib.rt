@@ -1,4 +1,4 @@
-//! A heading of a file completed: the new text, and the one change that it is.
+//! A heading of a file completed: the one change of the file's text that it is.
 //!
 //! The section that begins with the heading is read, if it is still to be read, and nothing else. A completion is one
 //! change from the first byte that it replaces to the last, and what is between is put in again: of two changes the
@@ -15,7 +15,5 @@
 mod completion;
 pub mod laws;
 mod plan;
-mod revision;
 
 pub use completion::complete;
-pub use revision::Revision;

@@ -1,10 +1,11 @@
 -- Which sections were read when a heading was completed.
-use Rattle.std.proofs.Common.{◌≡◌, ◌∙◌, ◌<◌, ℕ, Bool, true, false, cond, List, [], ◌∷◌, ap, arith, length, refl, subst, sym}
-use Rattle.std.specs.Prelude.{Err, IfSome, None, Ok, OnErr, OnOk, Option, Result, Some, String, bytes_eq, slice_get}
+use Rattle.std.proofs.Common.{◌≡◌, ◌≢◌, ◌∙◌, ◌<◌, ℕ, Bool, true, false, cond, List, [], ◌∷◌, ap, arith, length, refl, subst, sym}
+use Rattle.std.specs.Prelude.{Err, IfErr, IfSome, None, Ok, OnErr, OnOk, Option, Result, Some, String, bytes_eq, slice_get, string_bytes}
 use Rattle.std.specs.List.{position_or_len}
 use Rattle.std.specs.Result.{IsErrAnd}
 use Rattle.std.specs.Map.{keys_of, values_of}
 use Rattle.indexmap.specs.IndexMap.{set_value_at}
+use Rattle.org_base.specs.Codes.{memory_fault}
 use Rattle.org_base.specs.Counts.{Counts}
 use Rattle.org_base.specs.declared.fault.Fault.{Fault}
 use Rattle.org_class.specs.Changes.{new_sections}
@@ -13,16 +14,17 @@ use Rattle.org_complete.specs.Completion.{completed, completion_part}
 use Rattle.org_complete.specs.Parts.{Part}
 use Rattle.org_complete.specs.Reading.{HasReadOne, ReadsOwn, with_one_read}
 use Rattle.org_complete.specs.Written.{part_of}
-use Rattle.org_complete.specs.declared.revision.Revision.{Revision}
 use Rattle.org_store.specs.File.{FileView as KeptFile, IsChanged, marked}
 use Rattle.org_store.specs.declared.change.Change.{Change}
-use Rattle.org_engine.specs.Calls.{Completed, IsCompletionIn, Refuses}
+use Rattle.org_store.specs.declared.change.OwnedChange.{OwnedChange}
+use Rattle.org_engine.specs.Calls.{FailsToComplete, IsCompletionIn, Refuses, edited_named}
 use Rattle.org_engine.specs.Marks.{Completes, CompletesMarks, CompletesNone, IsQuiet, KeepsOthers, PutsMarks, PutsNoMarks, ReadsOne, ReadsOwnIn, ReadsOwnOnly, Seen, completed_count, kept_named, marks_named, new_count, part_count, with_marks, with_section_read}
 use Rattle.org_engine.specs.Files.{files_of, marks_of}
-use Rattle.org_engine.specs.Step.{Complete, file_named, text_seen}
-use Rattle.org_engine.specs.World.{EngineView, FileView, KeptPins, KeptWorld, WorldView}
+use Rattle.org_engine.specs.Step.{Answers, Complete, Refused, Reply, changes, file_named, put, text_seen}
+use Rattle.org_engine.specs.World.{EngineView, FileView, KeptPins, KeptWorld, State, WorldView}
 use Rattle.org_engine.proofs.FilesLemmas.{is_key, kept_at, kept_text, marks_of-set}
-use Rattle.org_engine.proofs.ChangeLemmas.{complete_refused, seen_file}
+use Rattle.org_engine.proofs.ChangeLemmas.{complete_answers, complete_refused, seen_file}
+use Rattle.org_engine.proofs.PassedLemmas.{refuses_passed}
 use Rattle.org_engine.proofs.MarkLemmas.{files_of-same, one_same}
 
 same_kept : (a b : KeptFile) → Some a ≡ Some b → a ≡ b
@@ -134,27 +136,48 @@ module _ (name : List ℕ) (line : ℕ) (keyword : List ℕ) (world new : KeptWo
   pub completed_none : CompletesNone name line keyword old mid
   completed_none = (others mid refl, record { reads = read.one.reads; count = 0; one = read.one.few; few = omega arith; counts = read.one.counts })
 
-  pub completed_err : {T A : Type 0} (content : T → List ℕ) (session asked : ℕ) (seen : List ℕ) (fault : Fault) (out : Result A Fault) → text_seen session name asked files ≡ Ok seen → Completed {T = T} content name line keyword world (Err fault) → IsErrAnd out (λ why. why ≡ fault) →
+  pub completed_err : {A : Type 0} (session asked : ℕ) (seen : List ℕ) (fault : Fault) (out : Result A Fault) → text_seen session name asked files ≡ Ok seen → (fault ≢ memory_fault → FailsToComplete name line keyword world fault) → IsErrAnd out (λ why. why ≡ fault) →
       Refuses (Complete session name asked line keyword) old out mid
-  completed_err content session asked seen fault (Ok x) is refused passed = tt
-  completed_err content session asked seen fault (Err why) is refused passed =
+  completed_err session asked seen fault (Ok x) is refused passed = tt
+  completed_err session asked seen fault (Err why) is refused passed =
       let found = seen_file session name asked files seen is in
       let own : completed seen line keyword world.world.moment ≡ completed found.0.text line keyword world.world.moment = ap (λ t. completed t line keyword world.world.moment) (sym found.2) in (
         λ i. record { world = read.world i; pins = pins.pins; serial = serial },
-        λ other. complete_refused session name asked line keyword old.state seen why is (own ∙ refused found.0 found.1 (λ memory. other (passed ∙ memory)) ∙ ap Err (sym passed)),
+        λ other. complete_refused session name asked line keyword old.state seen why is (own ∙ refused (λ memory. other (passed ∙ memory)) found.0 found.1 ∙ ap Err (sym passed)),
       )
+
+  same_state : mid.state ≡ old.state
+  same_state = λ i. record { world = read.world i; pins = pins.pins; serial = serial }
+
+  -- what the change of the heading's text is answered is answered to the completion
+  pub completed_so : (session asked : ℕ) (seen : List ℕ) (own_change : OwnedChange) (change : Change) (reply : Reply) (final : State) → text_seen session name asked files ≡ Ok seen → IsCompletionIn name line keyword world own_change →
+      change.at ≡ own_change.at → change.del ≡ own_change.del → change.ins.now ≡ string_bytes own_change.ins →
+      changes mid.state (put name mid.state (edited_named name change mid.state.world.files)) ≡ record { reply = reply; after = final } → Answers (Complete session name asked line keyword) old.state reply final
+  completed_so session asked seen own_change change reply final is completion at del ins puts =
+      complete_answers session name asked keyword line old.state seen completion.file own_change change reply final is completion.found completion.is at del ins
+      (subst (λ (s : State). changes s (put name s (edited_named name change s.world.files)) ≡ record { reply = reply; after = final }) same_state puts)
+
+  -- and a refusal of that change too
+  pub completed_fails : {A : Type 0} (session asked : ℕ) (seen : List ℕ) (own_change : OwnedChange) (change : Change) (final : State) (fault : Fault) (out : Result A Fault) → text_seen session name asked files ≡ Ok seen → IsCompletionIn name line keyword world own_change →
+      change.at ≡ own_change.at → change.del ≡ own_change.del → change.ins.now ≡ string_bytes own_change.ins → IsErrAnd out (λ why. why ≡ fault) → final ≡ mid.state →
+      (fault ≢ memory_fault → changes mid.state (put name mid.state (edited_named name change mid.state.world.files)) ≡ record { reply = Refused fault; after = final }) →
+      IfErr out (λ why. (final ≡ old.state) × (why ≢ memory_fault → Answers (Complete session name asked line keyword) old.state (Refused why) old.state))
+  completed_fails session asked seen own_change change final fault out is completion at del ins passed after puts =
+      let here : final ≡ old.state = after ∙ same_state in
+      refuses_passed (λ why. Answers (Complete session name asked line keyword) old.state (Refused why) old.state) out fault passed here
+      (λ other. completed_so session asked seen own_change change (Refused fault) old.state is completion at del ins (puts other ∙ (λ i. record { reply = Refused fault; after = here i })))
 
   pub completed_own : (session asked : ℕ) (text : List ℕ) (final : EngineView) → text_seen session name asked files ≡ Ok text → ReadsOwn line read.file read.read before after → IsQuiet mid final → ReadsOwnOnly session name asked line old final
   completed_own session asked text final seen own quiet =
       Seen text seen read.file read.read read.found (subst (λ counts. ReadsOwn line read.file read.read before counts) (sym quiet.1) own)
       (quiet.0 ∙ (λ i. record { world = read.marks i; pins = pins.marks }))
 
-  module _ {T : Type 0} (content : T → List ℕ) (r : Revision T) (is : IsCompletionIn content name line keyword world r) (change : Change) (made : ◌≡◌ {A = Part} (record { at = change.at; del = change.del; ins = change.ins.now }) (part_of r)) where
+  module _ (own_change : OwnedChange) (is : IsCompletionIn name line keyword world own_change) (change : Change) (made : ◌≡◌ {A = Part} (record { at = change.at; del = change.del; ins = change.ins.now }) (part_of own_change)) where
     abbrev pub part : Part
     part = record { at = change.at; del = change.del; ins = change.ins.now }
 
     own_part : completion_part is.file.text line keyword world.world.moment ≡ Ok part
-    own_part = is.part ∙ ap Ok (sym made)
+    own_part = is.is.is ∙ ap Ok (sym made)
 
     most : new_count change.at change.del change.ins.now (file_named name new.world.files) ≡ completed_count line keyword world.world.moment (file_named name files)
     most =

@@ -1,5 +1,5 @@
 -- Which sections were read.
-use Rattle.std.proofs.Common.{◌≡◌, ◌∙◌, ℕ, zero, suc, ◌+◌, ◌<◌, ◌≤◌, List, [], ◌∷◌, Bool, true, false, cond, length, take, sym, refl, ap, arith, true≢false}
+use Rattle.std.proofs.Common.{◌≡◌, ◌∙◌, ℕ, zero, suc, ◌+◌, ◌<◌, ◌≤◌, List, [], ◌∷◌, Bool, true, false, cond, length, take, sym, subst, refl, ap, arith, true≢false}
 use Rattle.std.specs.Prelude.{Err, IfOk, Ok, OnErr, OnOk, is_some, Result, Some, None, Option, String, nat_lt, slice_get}
 use Rattle.std.proofs.lemmas.Bool.{le-ltb, lt-ltb}
 use Rattle.std.specs.Map.{values_of}
@@ -7,20 +7,23 @@ use Rattle.std.proofs.lemmas.List.{take_all}
 use Rattle.indexmap.specs.IndexMap.{set_value_at}
 use Rattle.org_base.specs.Counts.{Counts, ticked}
 use Rattle.org_base.specs.declared.meter.Tick.TheVariants.{Read}
+use Rattle.org_store.specs.Change.{IsChangedBy, edited, edited_text}
 use Rattle.org_store.specs.Counts.{have_read}
+use Rattle.org_store.specs.declared.change.Change.{Change}
 use Rattle.org_base.specs.Results.{Gives, IfRefused}
 use Rattle.org_base.specs.declared.fault.Fault.{Fault}
-use Rattle.org_complete.specs.Completion.{completion_part}
+use Rattle.org_complete.specs.Completion.{completed}
 use Rattle.org_complete.specs.Reading.{HasReadOne, with_one_read}
-use Rattle.org_complete.specs.Written.{IsRevision, part_of}
-use Rattle.org_complete.specs.declared.revision.Revision.{Revision}
-use Rattle.org_engine.specs.Calls.{IsCompletionIn}
+use Rattle.org_complete.specs.Written.{IsCompletionOf}
+use Rattle.org_store.specs.declared.change.OwnedChange.{OwnedChange}
+use Rattle.org_engine.specs.Calls.{Accepts, FailsToComplete, IsCompletionIn, RefusesEdit}
 use Rattle.org_engine.specs.Step.{file_named}
 use Rattle.org_store.specs.File.{FileView as KeptFile, all_marked, first_unread, marked, unread, with_first_read}
 use Rattle.org_engine.specs.Files.{file_of, files_of, marks_of}
 use Rattle.org_index.specs.Ticks.{examined}
-use Rattle.org_engine.specs.Marks.{ExaminesSome, IsFirstPending, KeepsMarks, NoStamps, ReadsAll, ReadsSome, all_read, first_read, marks_at, next_read, pending_at, pending_in, read_at}
-use Rattle.org_engine.specs.World.{EngineView, FileView, KeptWorld}
+use Rattle.org_engine.specs.Marks.{ExaminesSome, IsFirstPending, KeepsMarks, kept_named, NoStamps, ReadsAll, ReadsSome, all_read, first_read, marks_at, next_read, pending_at, pending_in, read_at}
+use Rattle.org_engine.specs.World.{EngineView, FileView, KeptWorld, WorldView}
+use Rattle.org_engine.proofs.FilesLemmas.{kept_text}
 
 no_more : (n : ℕ) → first_read n [] ≡ []
 no_more zero = refl
@@ -216,8 +219,26 @@ pub there_is_one : (o : Option FileView) → is_some o ≡ true → (file : File
 there_is_one None h = absurd cc
 there_is_one (Some file) h = (file, refl)
 
--- a revision of the text of the file of a name
-pub completion_in : {T : Type 0} (content : T → List ℕ) (name : List ℕ) (line : ℕ) (keyword : List ℕ) (kept : KeptWorld) (file : FileView) (r : Result (Revision T) Fault) → file_named name kept.world.files ≡ Some file →
-    IfOk r (IsRevision content file.text) → IfOk r (λ v. completion_part file.text line keyword kept.world.moment ≡ Ok (part_of v)) → IfOk r (IsCompletionIn content name line keyword kept)
-completion_in content name line keyword kept file (Ok v) found revision part = record { file = file; found = found; revision = revision; part = part }
-completion_in content name line keyword kept file (Err f) found revision part = tt
+-- a completion of the text of the file of a name
+pub completion_in : (name : List ℕ) (line : ℕ) (keyword : List ℕ) (kept : KeptWorld) (file : FileView) (r : Result OwnedChange Fault) → file_named name kept.world.files ≡ Some file →
+    IfOk r (IsCompletionOf file.text line keyword kept.world.moment) → IfOk r (IsCompletionIn name line keyword kept)
+completion_in name line keyword kept file (Ok v) found is = record { file = file; found = found; is = is }
+completion_in name line keyword kept file (Err f) found is = tt
+
+-- what is said of an edit of a file is said of it by its name
+module _ (name : List ℕ) (change : Change) (world : WorldView) (marks : List (List Bool)) (kept : KeptFile) where
+  pub accepts_edit : {A : Type 0} (new : KeptFile) (serial : ℕ) (r : Result A Fault) → kept_named name world.files marks ≡ Some kept → OnOk r (IsChangedBy kept change serial new) → OnOk r (edited_text kept.text change ≡ Ok new.text) → OnOk r (Accepts name change (record { world = world; marks = marks }))
+  accepts_edit new serial (Err f) is changed made = tt
+  accepts_edit new serial (Ok x) is changed made = λ file found.
+      let same = kept_text name world.files marks kept file is found in
+      subst (λ t. edited_text t change ≡ Ok (edited t change)) same (made ∙ ap Ok (ap (λ (f : KeptFile). f.text) changed.is))
+
+  pub refuses_edit : {A : Type 0} (r : Result A Fault) → kept_named name world.files marks ≡ Some kept → IfRefused r (λ fault. edited_text kept.text change ≡ Err fault) → IfRefused r (RefusesEdit name change (record { world = world; marks = marks }))
+  refuses_edit (Ok x) is refused = tt
+  refuses_edit (Err f) is refused = λ other file found. subst (λ t. edited_text t change ≡ Err f) (kept_text name world.files marks kept file is found) (refused other)
+
+-- so is a refusal to complete a heading
+pub fails_in : {A : Type 0} (name : List ℕ) (line : ℕ) (keyword : List ℕ) (world : WorldView) (marks : List (List Bool)) (kept : KeptFile) (r : Result A Fault) → kept_named name world.files marks ≡ Some kept →
+    IfRefused r (λ fault. completed kept.text line keyword world.moment ≡ Err fault) → IfRefused r (FailsToComplete name line keyword (record { world = world; marks = marks }))
+fails_in name line keyword world marks kept (Ok x) is refused = tt
+fails_in name line keyword world marks kept (Err f) is refused = λ other file found. subst (λ t. completed t line keyword world.moment ≡ Err f) (kept_text name world.files marks kept file is found) (refused other)

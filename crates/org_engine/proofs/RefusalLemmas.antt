@@ -12,9 +12,10 @@ use Rattle.org_base.specs.declared.fault.Fault.TheVariants.{Plain, Stale}
 use Rattle.org_complete.specs.Completion.{completed}
 use Rattle.org_complete.specs.Reasons.{completion_reasons}
 use Rattle.org_complete.proofs.RefusalLemmas.{in_order as completion_in_order}
+use Rattle.org_store.specs.Change.{unless_refused}
 use Rattle.org_text.specs.Replace.{is_boundary, max_bytes, replace}
 use Rattle.org_engine.specs.Refusals.{RefusalsComeInOrder, complete_reasons, edit_reasons, spent, text_reasons}
-use Rattle.org_engine.specs.Step.{Refused, Reply, Serial, changes, completed_at, edited, file_named, is_session, last_serial, most_files, put, text_at, unless_refused, with_file, with_text, without}
+use Rattle.org_engine.specs.Step.{Refused, Reply, Serial, changes, completed_at, edited, file_named, is_session, last_serial, most_files, put, text_at, with_file, with_text, without}
 use Rattle.org_engine.specs.World.{FileView, State}
 use Rattle.org_engine.proofs.LawLemmas.{next_state}
 

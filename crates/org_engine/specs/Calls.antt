@@ -12,12 +12,11 @@ use Rattle.org_engine.specs.Step.{AddFile, Answers, Command, Complete, KeywordsO
 use Rattle.org_engine.specs.declared.changes.Completion.{Completion}
 use Rattle.org_engine.specs.World.{EngineView, FileView, KeptWorld, State}
 use Rattle.org_complete.specs.Completion.{completed, completion_part}
-use Rattle.org_complete.specs.Parts.{Part}
-use Rattle.org_complete.specs.Written.{IsRevision, Revises, part_of}
-use Rattle.org_complete.specs.declared.revision.Revision.{Revision}
-use Rattle.org_store.specs.Change.{LiesIn, edited}
+use Rattle.org_complete.specs.Written.{IsCompletionOf, part_of}
+use Rattle.org_store.specs.Change.{edited, edited_text}
 use Rattle.org_store.specs.File.{FileView as KeptFile}
 use Rattle.org_store.specs.declared.change.Change.{Change}
+use Rattle.org_store.specs.declared.change.OwnedChange.{OwnedChange}
 
 -- what a text says that is lent, if one is
 abbrev pub text_in : {T : Type 0} → (T → List ℕ) → Option (Bor T) → Option (List ℕ)
@@ -42,18 +41,22 @@ pub record IsNewFile (name : List ℕ) (files : List FileView) : Type 0 where
   pub gone : is_some (file_named name files) ≡ false
   pub room : length files < most_files
 
--- a text is that of the file of that name with a change, whose place lies in it
-pub record IsChangeIn (name : List ℕ) (change : Change) (text : List ℕ) (files : List FileView) : Type 0 where
-  pub file : FileView
-  pub found : file_named name files ≡ Some file
-  pub within : LiesIn file.text change
-  pub is : text ≡ edited file.text change
+-- the text of a file with a change, or why the change is refused
+abbrev pub edited_file : Change → Option FileView → Result (List ℕ) Fault
+edited_file change None = Err (fault.Plain code.Unknown)
+edited_file change (Some file) = edited_text file.text change
 
--- a change of bytes at a place into others
-pub record IsChangeOf (at del : ℕ) (ins : List ℕ) (change : Change) : Type 0 where
-  pub at_is : change.at ≡ at
-  pub del_is : change.del ≡ del
-  pub ins_is : change.ins.now ≡ ins
+-- the same of the file of that name
+abbrev pub edited_named : List ℕ → Change → List FileView → Result (List ℕ) Fault
+edited_named name change files = edited_file change (file_named name files)
+
+-- a change of the file of that name isn't refused
+abbrev pub Accepts : List ℕ → Change → KeptWorld → Type 0
+Accepts name change kept = (file : FileView) → file_named name kept.world.files ≡ Some file → edited_text file.text change ≡ Ok (edited file.text change)
+
+-- it is, with this fault
+abbrev pub RefusesEdit : List ℕ → Change → KeptWorld → Fault → Type 0
+RefusesEdit name change kept fault = (file : FileView) → file_named name kept.world.files ≡ Some file → edited_text file.text change ≡ Err fault
 
 -- a serial that is given is the step's, and so is the state
 abbrev pub Tells : Command → EngineView → Result ℕ Fault → EngineView → Type 0
@@ -77,39 +80,35 @@ Refuses command old result new =
 abbrev pub RefusesName : List ℕ → State → Fault → Type 0
 RefusesName name s fault = (text : List ℕ) → Answers (AddFile name text) s (Refused fault) s
 
--- a file's new text is answered so: with the next serial, unless there is none
-abbrev pub Puts : List ℕ → List ℕ → EngineView → Reply → EngineView → Type 0
-Puts name text old reply new = changes old.state (put name old.state (Ok text)) ≡ record { reply = reply; after = new.state }
+-- a change of the file of that name is answered so: with the next serial, unless it is refused or there is none
+abbrev pub Puts : List ℕ → Change → EngineView → Reply → EngineView → Type 0
+Puts name change old reply new =
+    changes old.state (put name old.state (edited_named name change old.state.world.files)) ≡ record { reply = reply; after = new.state }
 
--- the text of a revision, if it is one, is that of the file of that name with a heading completed, or else the refusal
-abbrev pub Completed : {T : Type 0} → (T → List ℕ) → List ℕ → ℕ → List ℕ → KeptWorld → Result (Revision T) Fault → Type 0
-Completed content name line keyword kept result =
-    (file : FileView) → file_named name kept.world.files ≡ Some file → Revises content result (completed file.text line keyword kept.world.moment)
-
--- what a completion says that it replaced
-abbrev pub part_told : Completion → Part
-part_told done = record { at = done.at; del = done.del; ins = string_bytes done.ins }
-
--- a revision is the text of the file of that name with what completing a heading replaces
-pub record IsCompletionIn {T : Type 0} (content : T → List ℕ) (name : List ℕ) (line : ℕ) (keyword : List ℕ) (kept : KeptWorld) (r : Revision T) : Type 0 where
+-- a change is what completing a heading replaces in the text of the file of that name
+pub record IsCompletionIn (name : List ℕ) (line : ℕ) (keyword : List ℕ) (kept : KeptWorld) (change : OwnedChange) : Type 0 where
   pub file : FileView
   pub found : file_named name kept.world.files ≡ Some file
-  pub revision : IsRevision content file.text r
-  pub part : completion_part file.text line keyword kept.world.moment ≡ Ok (part_of r)
+  pub is : IsCompletionOf file.text line keyword kept.world.moment change
+
+-- completing a heading of the file of that name is refused with this fault
+abbrev pub FailsToComplete : List ℕ → ℕ → List ℕ → KeptWorld → Fault → Type 0
+FailsToComplete name line keyword kept fault =
+    (file : FileView) → file_named name kept.world.files ≡ Some file → completed file.text line keyword kept.world.moment ≡ Err fault
 
 -- what a completion answers that it replaced is what completing the heading replaces in the text of the file of that name
 pub record Replaces (name : List ℕ) (line : ℕ) (keyword : List ℕ) (s : State) (done : Completion) : Type 0 where
   pub file : FileView
   pub found : file_named name s.world.files ≡ Some file
-  pub part : completion_part file.text line keyword s.world.moment ≡ Ok (part_told done)
+  pub part : completion_part file.text line keyword s.world.moment ≡ Ok (part_of done.change)
 
 -- a completion answers the step's serial, and the state after it is the step's
 abbrev pub IsCompleted : ℕ → List ℕ → ℕ → ℕ → List ℕ → EngineView → EngineView → Completion → Type 0
 IsCompleted session name serial line keyword old new done = Answers (Complete session name serial line keyword) old.state (Serial done.serial) new.state
 
--- a text isn't put, and that is the step's fault
-abbrev pub PutsNone : List ℕ → List ℕ → EngineView → EngineView → Fault → Type 0
-PutsNone name text old new fault = Puts name text old (Refused fault) new
+-- the file isn't changed, and that is the step's fault
+abbrev pub PutsNone : List ℕ → Change → EngineView → EngineView → Fault → Type 0
+PutsNone name change old new fault = Puts name change old (Refused fault) new
 
 -- the session, the name or the serial is refused whatever memory does
 abbrev pub FailsUnseen : {T : Type 0} → ℕ → List ℕ → ℕ → EngineView → Result T Fault → Type 0

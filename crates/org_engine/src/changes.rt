@@ -1,32 +1,26 @@
 //! The calls of an engine that change files.
-ghost use Rattle.std.specs.Prelude.{◌≡◌, IfOk, IfErr, IfSome, OnOk, OnErr, None, Some, false, string_bytes, nat_le};
+ghost use Rattle.std.specs.Prelude.{◌≡◌, IfOk, IfErr, IfSome, OnOk, OnErr, None, Some, false, true, is_some, string_bytes, nat_le};
 ghost use Rattle.std.specs.Str.{is_utf8};
 ghost use Rattle.org_base.specs.Results.{Gives, IfRefused};
-ghost use Rattle.org_engine.specs.Calls.{FailsUnseen, IsChangeIn, IsCompleted, IsNewFile, Puts, PutsNone, Refuses, RefusesSurely, RefusesSurelyBy, RefusesName, Replaces, Tells, name_fault};
+ghost use Rattle.org_engine.specs.Calls.{FailsUnseen, IsCompleted, IsNewFile, Puts, PutsNone, Refuses, RefusesSurely, RefusesSurelyBy, RefusesName, Replaces, Tells, name_fault};
 ghost use Rattle.org_engine.specs.Computed.{FailsSurely};
 ghost use Rattle.org_engine.specs.Marks.{AddsMarks, AddsNoMarks, CompletesMarks, CompletesNone, DropsMarks, EditsMarks, EditsNoMarks, IsQuiet, PutsMarks, PutsNoMarks, KeepsRest};
-ghost use Rattle.org_engine.specs.Step.{last_serial, AddFile, Answers, Complete, DropFile, EditFile, Refused, Serial, text_seen};
+ghost use Rattle.org_engine.specs.Step.{last_serial, AddFile, Answers, Complete, DropFile, EditFile, Refused, Serial, file_named, text_seen};
 
 use crate::engine::Engine;
 use crate::limits::LAST_SERIAL;
-use crate::seen::{edit_text, text_seen};
+use crate::seen::text_seen;
 use org_base::{Bytes, Code, Fault, MOST_FILES, is_file_name};
-use org_complete::Revision;
-use org_store::Change;
+use org_store::{Change, OwnedChange};
 use org_text::Text;
 
-/// What an accepted completion did: the serial of the file's new text, and the change of the former one that it is. The `del`
-/// bytes at `at` were replaced by `ins`.
+/// What an accepted completion did: the serial of the file's new text, and the change of the former one that it is.
 #[derive(Debug, Drop)]
 pub struct Completion {
     /// The file's new serial.
     pub serial: u64,
-    /// The place of the first replaced byte, from 0.
-    pub at: u32,
-    /// How many bytes were replaced.
-    pub del: u32,
-    /// The bytes that stand there now.
-    pub ins: String,
+    /// What was replaced in the text of the serial before, and by what.
+    pub change: OwnedChange,
 }
 
 impl<T: Text> Engine<T> {
@@ -153,9 +147,11 @@ impl<T: Text> Engine<T> {
         ensures partial { OnErr result (EditsNoMarks name.now at del ins.now self.old self.new) }
         ensures uncounted { IfRefused result (λ _. IsQuiet self.old self.new) }
     {
-        let seen = text_seen(&self.world, session, name, serial)?;
-        let edited = edit_text(seen, at, del, ins)?;
-        self.put(name, edited.text, edited.change)
+        text_seen(&self.world, session, name, serial)?;
+        let Ok(ins) = str::from_utf8(ins) else {
+            return Err(Fault::Plain(Code::Utf8));
+        };
+        self.put(name, Change { at, del, ins })
     }
 
     /// Completes the heading on a line of the file of that name, which a session saw with this serial, with a keyword, and
@@ -204,41 +200,31 @@ impl<T: Text> Engine<T> {
         ensures refused { IfRefused result (KeepsRest session name.now serial line self.old self.new) }
     {
         text_seen(&self.world, session, name, serial)?;
-        let world = &mut self.world;
-        let Revision { text, at, del, ins } = world.complete_heading(
-            self.alloc,
-            &mut self.meter,
-            name,
-            line,
-            keyword,
-        )?;
-        let part = ins.as_str();
-        let serial = self.put(name, text, Change { at, del, ins: part })?;
-        Ok(Completion {
-            serial,
-            at,
-            del,
-            ins,
-        })
+        let change = self
+            .world
+            .complete_heading(self.alloc, &mut self.meter, name, line, keyword)?;
+        let serial = self.put(name, change.lend())?;
+        Ok(Completion { serial, change })
     }
 
-    // Gives the file of a name this text, which is its own with a change, and the next serial, and answers it. `Spent`; out
-    // of memory may come at any time. After a refusal the engine is as before, but for what was counted.
-    fn put(&mut self, name: &str, text: T, change: Change<'_>) -> Result<u64, Fault>
-        requires is { IsChangeIn name.now change (T.content text) self.old.state.world.files }
-        ensures ok { IfOk result (λ next. Puts name.now (T.content text) self.old (Serial next) self.new) }
+    // Changes the text of the file of a name, which is there, and answers its next serial. Refusals in order: those of an edit,
+    // `Spent`; out of memory may come at any time. After a refusal the engine is as before, but for what was counted.
+    fn put(&mut self, name: &str, change: Change<'_>) -> Result<u64, Fault>
+        requires there { is_some (file_named name.now self.old.state.world.files) ≡ true }
+        ensures ok { IfOk result (λ next. Puts name.now change.entry self.old (Serial next) self.new) }
         ensures err { OnErr result (self.new.state ≡ self.old.state) }
-        ensures refused { IfRefused result (PutsNone name.now (T.content text) self.old self.new) }
+        ensures refused { IfRefused result (PutsNone name.now change.entry self.old self.new) }
         ensures marks { OnOk result (PutsMarks name.now change.entry self.old self.new) }
         ensures partial { OnErr result (PutsNoMarks name.now change.entry self.old self.new) }
         ensures uncounted { IfRefused result (λ _. IsQuiet self.old self.new) }
     {
         if self.is_spent() {
+            self.world.try_edit(name, change)?;
             return Err(Fault::Plain(Code::Spent));
         }
         let serial = self.serial + 1;
         self.world
-            .change(self.alloc, &mut self.meter, name, text, change, serial)?;
+            .edit(self.alloc, &mut self.meter, name, change, serial)?;
         self.serial = serial;
         Ok(serial)
     }

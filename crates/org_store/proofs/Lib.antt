@@ -1,6 +1,7 @@
 pub mod AllLemmas
 pub mod BegunLemmas
 pub mod ChangeLemmas
+pub mod EditLemmas
 pub mod FlagLemmas
 pub mod FreshLemmas
 pub mod HeadingLemmas

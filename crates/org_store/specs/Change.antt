@@ -1,7 +1,10 @@
 -- A change of a text as a value (profile).
-use Rattle.std.specs.Prelude.{◌≡◌, ◌+◌, ◌≤◌, ℕ, List, length}
+use Rattle.std.specs.Prelude.{◌≡◌, ◌+◌, ◌≤◌, ℕ, List, length, Option, None, Some, Result, Ok, Err}
 use Rattle.std.specs.List.{flat_map}
 use Rattle.org_base.specs.Spans.{bytes_in}
+use Rattle.org_base.specs.declared.code.Code.{Code}
+use Rattle.org_base.specs.declared.fault.Fault.{Fault}
+use Rattle.org_base.specs.declared.fault.Fault.TheVariants.{Plain}
 use Rattle.org_base.specs.declared.span.Span.{Span}
 use Rattle.org_class.specs.Changes.{first_touched, new_sections, touched_end}
 use Rattle.org_class.specs.Classes.{section_settings, setting_lines}
@@ -9,7 +12,7 @@ use Rattle.org_class.specs.Sections.{sections}
 use Rattle.org_store.specs.File.{FileView, IsChanged, lines_between, list_after}
 use Rattle.org_store.specs.Sections.{SectionView}
 use Rattle.org_store.specs.declared.change.Change.{Change}
-use Rattle.org_text.specs.Replace.{replace}
+use Rattle.org_text.specs.Replace.{refusal_of, replace}
 
 -- what it replaces lies in the text
 abbrev pub LiesIn : List ℕ → Change → Type 0
@@ -18,6 +21,19 @@ LiesIn text change = change.at + change.del ≤ length text
 -- the text with it
 abbrev pub edited : List ℕ → Change → List ℕ
 edited text change = replace text change.at change.del change.ins.now
+
+-- a text, unless a change is refused with a code
+abbrev pub unless_refused : Option Code → List ℕ → Result (List ℕ) Fault
+unless_refused None text = Ok text
+unless_refused (Some code) text = Err (Plain code)
+
+-- a text with a part replaced, or why it is refused
+abbrev pub replaced_text : List ℕ → ℕ → ℕ → List ℕ → Result (List ℕ) Fault
+replaced_text text at del ins = unless_refused (refusal_of text at del ins) (replace text at del ins)
+
+-- a text with a change, or why the change is refused
+abbrev pub edited_text : List ℕ → Change → Result (List ℕ) Fault
+edited_text text change = replaced_text text change.at change.del change.ins.now
 
 -- the first section that it touches
 abbrev pub first_edited : List ℕ → Change → ℕ

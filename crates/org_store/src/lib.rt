@@ -29,6 +29,7 @@
 mod cached_outline;
 mod change;
 mod classify;
+mod edit;
 mod file;
 pub mod laws;
 mod outline;
@@ -37,12 +38,11 @@ mod read;
 mod section;
 mod sectioned_text;
 mod sections;
-mod set_text;
 mod settings;
 mod settings_unchanged;
 mod touched;
 
-pub use change::Change;
+pub use change::{Change, OwnedChange};
 pub use file::File;
 pub use org_stamp_index::ParsedFile;
 pub use place::Place;

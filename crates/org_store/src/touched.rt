@@ -90,11 +90,12 @@ pub(crate) fn touched_sections<T: Text>(
     // For the proof alone: their contracts say that the texts are not too long.
     let _old = old.text.len();
     let _new = new.len();
-    let first = first_touched(old.list, new, change.at);
-    let end = begun_by(old.list, change.at + change.del);
+    let (at, del) = (change.at as u32, change.del as u32);
+    let first = first_touched(old.list, new, at);
+    let end = begun_by(old.list, at + del);
     let from = old.list.size_before(first);
     let stop = old.list.size_before(end);
-    let to = stop - change.del + change.ins.len() as u32;
+    let to = stop - del + change.ins.len() as u32;
     TouchedSections {
         first,
         end,

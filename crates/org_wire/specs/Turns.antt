@@ -62,7 +62,7 @@ serial_reply (Err fault) = reply.Refused fault
 
 -- the reply to a completion, with what it replaced
 abbrev pub told_change : Result Completion Fault → Reply
-told_change (Ok done) = reply.Changed done.serial (record { at = done.at; del = done.del; ins = string_bytes done.ins })
+told_change (Ok done) = reply.Changed done.serial (record { at = done.change.at; del = done.change.del; ins = string_bytes done.change.ins })
 told_change (Err fault) = reply.Refused fault
 
 -- the reply to a question for lines

@@ -12,7 +12,7 @@ use crate::command::{BaseVersion, Command, Request};
 use crate::reply::{Replaced, Reply};
 use org_base::{Bytes, Code, Fault, Word};
 use org_cal::Moment;
-use org_engine::{Completion, Engine, View};
+use org_engine::{Completion, Engine, OwnedChange, View};
 use org_text::Text;
 
 // Carries a command out, and answers in the second protocol or in the first.
@@ -94,12 +94,9 @@ fn told_change(outcome: Result<Completion, Fault>) -> Reply
 {
     match outcome {
         Ok(done) => {
-            let part = Replaced {
-                at: u64::from(done.at),
-                del: u64::from(done.del),
-                ins: Bytes::new(done.ins.into_bytes()),
-            };
-            Reply::Changed(done.serial, part)
+            let OwnedChange { at, del, ins } = done.change;
+            let ins = Bytes::new(ins.into_bytes());
+            Reply::Changed(done.serial, Replaced { at, del, ins })
         }
         Err(fault) => Reply::Refused(fault),
     }

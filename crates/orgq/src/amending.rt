@@ -9,7 +9,7 @@ use crate::out::print_all;
 use crate::refusals::say_unamended;
 use crate::say::out_of_memory;
 use crate::wish::WishedAct;
-use org_act::{Act, Amended, Change, ClockStep, Unamended, amend, with_change};
+use org_act::{Act, Amended, ClockStep, OwnedChange, Unamended, amend, with_change};
 use org_answer::push_seen;
 use org_save::{Saved, Store};
 use org_stamp::is_planning;
@@ -83,7 +83,7 @@ fn report_unamended<R: AllocGlobal + Eprint>(rt: &R, heading: &HeadingText, why:
 fn print_change<R: AllocGlobal + Print + Eprint>(
     rt: &R,
     heading: &HeadingText,
-    change: &Change,
+    change: &OwnedChange,
 ) -> u8
     requires within { LiesIn (string_bytes heading.now.text) change.now }
 {
@@ -99,7 +99,7 @@ fn print_change<R: AllocGlobal + Print + Eprint>(
 fn change_lines(
     alloc: Global,
     heading: &HeadingText,
-    change: &Change,
+    change: &OwnedChange,
 ) -> Result<Vec<u8>, AllocError>
     requires within { LiesIn (string_bytes heading.now.text) change.now }
 {
@@ -126,10 +126,14 @@ fn push_added(
     alloc: Global,
     lines: &mut Vec<u8>,
     heading: &HeadingText,
-    change: &Change,
+    change: &OwnedChange,
 ) -> Result<(), AllocError> {
-    let front = heading.text.as_str().get(..change.at).unwrap_or("");
-    let inserted = change.inserted.as_str();
+    let front = heading
+        .text
+        .as_str()
+        .get(..change.at as usize)
+        .unwrap_or("");
+    let inserted = change.ins.as_str();
     let entry = inserted.trim_start_matches('\n');
     let feeds = inserted.len().saturating_sub(entry.len());
     let before = count_feeds(front).saturating_add(feeds);
@@ -167,10 +171,10 @@ fn push_clock(
     lines: &mut Vec<u8>,
     heading: &HeadingText,
     text: &str,
-    change: &Change,
+    change: &OwnedChange,
 ) -> Result<(), AllocError> {
     push_line(alloc, lines, heading, heading.text.as_str(), heading.line)?;
-    match clock_line(text, change.at) {
+    match clock_line(text, change.at as usize) {
         Some(number) => push_line(alloc, lines, heading, text, number),
         None => Ok(()),
     }

@@ -1,12 +1,12 @@
 -- A plan is written as one change of the text.
-use Rattle.std.proofs.Common.{◌≡◌, ◌∙◌, ◌++◌, List, ℕ, ap, sym, subst, arith, length}
+use Rattle.std.proofs.Common.{◌≡◌, ◌∙◌, ◌+◌, ◌-◌, ◌++◌, List, ℕ, ap, sym, subst, arith, length}
 use Rattle.std.specs.Prelude.{string_bytes}
 use Rattle.std.specs.Str.{IsUtf8}
-use Rattle.std.proofs.lemmas.Result.{IfOk-weaker}
 use Rattle.org_base.specs.declared.span.Span.{Span}
 use Rattle.org_complete.specs.Completion.{keyword_span, gap_behind}
-use Rattle.org_complete.specs.Written.{plan_text}
+use Rattle.org_complete.specs.Written.{plan_end, plan_text}
 use Rattle.org_complete.proofs.ChangeLemmas.{IsEntryOf, change_is}
+use Rattle.org_complete.proofs.CompleteLemmas.{plan_written_by}
 use Rattle.org_complete.proofs.PlanLemmas.{word_is_text}
 use Rattle.org_store.specs.Outline.{file_settings}
 use Rattle.org_settings.specs.Keywords.{keyword_word}
@@ -47,16 +47,6 @@ overflow_add-at g c =
     let at = ap (λ (s : Span). s.at) span in
     omega (arith, c.start.ensures.value, at, fits)
 
-pub revise-requires : goal.revise-requires
-revise-requires g c =
-    let t = c.args.file.now.text in
-    let settings = file_settings t in
-    let own : IsEntryOf t c.args.place settings c.args.entry.now = record { utf8 = c.text_of-text.ensures.utf8; small = c.text_of-text.ensures.fits; within = c.requires.there.section; is = c.requires.entry; headed = c.requires.headed } in
-    let change = change_is t c.args.place settings c.args.entry.now c.args.old c.args.plan own c.requires.plan in
-    let span = c.keyword_span-span.ensures.value ∙ ap (λ (l : List ℕ). keyword_span l c.args.old) c.line.ensures.value in
-    let part = change.part in
-    record { part = rw (c.text_of-text.ensures.value, c.start.ensures.value, c.in_ok-end.ensures.end, span) part }
-
 pub returns-clause-value : goal.returns-clause-value
 returns-clause-value g c =
     let t = c.args.file.now.text in
@@ -70,23 +60,6 @@ returns-clause-value g c =
     c.in_ok-push_keyword.ensures.ok ∙ ap (λ (b : List ℕ). b ++ (c.keyword_word.result.now ++ gap_behind c.args.old)) c.new-ins.ensures.bytes ∙ ap (λ (w : List ℕ). w ++ gap_behind c.args.old) word in
     let ins : string_bytes c.push_shifts.new.out ≡ (keyword_word settings.keywords c.args.plan.keyword ++ gap_behind c.args.old) ++ plan_text x c.keyword_span-span.result c.args.plan =
     c.in_ok-end.ensures.ok ∙ ap (λ (b : List ℕ). b ++ plan_text x c.keyword_span-span.result c.args.plan) front in
-    let is = change.is in
-    let answered = rw (c.text_of-text.ensures.value, c.start.ensures.value, ins, c.in_ok-end.ensures.end, span) at c.revise.ensures.value in
-    rw is answered
-
-pub returns-clause-part : goal.returns-clause-part
-returns-clause-part g c =
-    let t = c.args.file.now.text in
-    let settings = file_settings t in
-    let x = c.args.entry.now.text in
-    let own : IsEntryOf t c.args.place settings c.args.entry.now = record { utf8 = c.text_of-text.ensures.utf8; small = c.text_of-text.ensures.fits; within = c.requires.there.section; is = c.requires.entry; headed = c.requires.headed } in
-    let change = change_is t c.args.place settings c.args.entry.now c.args.old c.args.plan own c.requires.plan in
-    let span = c.keyword_span-span.ensures.value ∙ ap (λ (l : List ℕ). keyword_span l c.args.old) c.line.ensures.value in
-    let word = c.keyword_word.ensures.value ∙ ap (λ (s : FileSettings). keyword_word s.keywords c.args.plan.keyword) c.settings.ensures.value in
-    let front : string_bytes c.push_keyword.new.out ≡ keyword_word settings.keywords c.args.plan.keyword ++ gap_behind c.args.old =
-    c.in_ok-push_keyword.ensures.ok ∙ ap (λ (b : List ℕ). b ++ (c.keyword_word.result.now ++ gap_behind c.args.old)) c.new-ins.ensures.bytes ∙ ap (λ (w : List ℕ). w ++ gap_behind c.args.old) word in
-    let ins : string_bytes c.push_shifts.new.out ≡ (keyword_word settings.keywords c.args.plan.keyword ++ gap_behind c.args.old) ++ plan_text x c.keyword_span-span.result c.args.plan =
-    c.in_ok-end.ensures.ok ∙ ap (λ (b : List ℕ). b ++ plan_text x c.keyword_span-span.result c.args.plan) front in
-    let one = change.one in
-    let answered = rw (c.start.ensures.value, ins, c.in_ok-end.ensures.end, span) at c.revise.ensures.part in
-    IfOk-weaker c.revise.result _ _ (λ r is. one ∙ (λ i. record { at = sym is.0 i; del = sym is.1 i; ins = sym is.2 i })) answered
+    let all = ins ∙ ap (λ (s : Span). (keyword_word settings.keywords c.args.plan.keyword ++ gap_behind c.args.old) ++ plan_text x s c.args.plan) span in
+    let end = c.in_ok-end.ensures.end ∙ ap (λ (s : Span). plan_end s c.args.plan) span in
+    plan_written_by t c.args.place c.args.entry.now c.args.old c.args.plan _ change (λ i. c.start.ensures.value i + (span i).at) (λ i. end i - (span i).at) all

@@ -63,7 +63,7 @@ returns-in_default-clause-ok g c =
     rw (← c.self.view_is) (record {
       stays = true;
       settings = (λ _. alike, λ _. refl);
-      is = λ i. record { text = changed i; serial = c.args.serial; marks = marks i };
+      is = λ i. record { text = changed i; serial = c.self.inside.serial; marks = marks i };
     })
 
 pub invariant_of-self-then-answers_as : goal.invariant_of-self-then-answers_as
@@ -104,7 +104,7 @@ returns-then-answers_as-clause-ok g c =
     rw (← c.self.view_is) (record {
       stays = true;
       settings = (λ _. alike, λ _. refl);
-      is = λ i. record { text = changed i; serial = c.args.serial; marks = marks i };
+      is = λ i. record { text = changed i; serial = c.self.inside.serial; marks = marks i };
     })
 
 pub invariant_of-self-2 : goal.invariant_of-self-2
@@ -143,5 +143,5 @@ returns-clause-ok g c =
     rw (← c.self.view_is) (record {
       stays = false;
       settings = (λ e. absurd cc, λ alike. absurd (let e = (c.answers_as.ensures.value).1 (subst (λ a. AnswerAlike a c.as_ref-2.result.now) (sym (c.as_ref.ensures ∙ own ∙ ap file_settings changed)) (subst (AnswerAlike (file_settings (replace t at del ins))) (sym (c.as_ref-2.ensures ∙ kept.own)) alike)) in let other = c.if-answers_as.false in cc));
-      is = λ i. record { text = changed i; serial = c.args.serial; marks = marks i };
+      is = λ i. record { text = changed i; serial = c.self.inside.serial; marks = marks i };
     })
