@@ -1,5 +1,5 @@
 -- Where the last end line of each block's name stands.
-use Rattle.std.specs.Prelude.{◌≡◌, ℕ, suc, Bool, ◌==◌, nat_lt, if◌then◌else◌, List, [], ◌∷◌, map, bytes_eq}
+use Rattle.std.specs.Prelude.{◌≡◌, ℕ, suc, Bool, true, false, ◌&&◌, ◌||◌, ◌==◌, nat_lt, if◌then◌else◌, List, [], ◌∷◌, map, bytes_eq}
 use Rattle.std.specs.List.{list_any}
 use Rattle.std.specs.Option.{unwrap_or}
 use Rattle.std.specs.Map.{lookup}
@@ -7,6 +7,16 @@ use Rattle.std.specs.Char.{to_ascii_lowercase}
 use Rattle.std.specs.Cow.{cow_slice_items}
 use Rattle.org_class.specs.Blocks.{ends_block}
 use Rattle.org_lines.specs.declared.lines.Line.{Line}
+
+-- a mark goes on after `#`: with a plus, or with what isn't seen
+abbrev pub completes_mark : List ℕ → Bool
+completes_mark [] = true
+completes_mark (b ∷ bs) = b == 43
+
+-- `#+` stands in the bytes, or `#` at their end
+abbrev pub has_mark : List ℕ → Bool
+has_mark [] = false
+has_mark (b ∷ bs) = ((b == 35) && completes_mark bs) || has_mark bs
 
 -- the number of the last element that passes the test, from 1; 0 where none does
 abbrev pub last_where : {X : Type 0} → (X → Bool) → List X → ℕ

@@ -7,6 +7,10 @@ use Rattle.org_stamp.specs.Pair.{is_clock}
 use Rattle.org_class.specs.declared.class.Class.{Class}
 use Rattle.org_class.specs.declared.class.Class.TheVariants.{Clock, Setting, Comment, Plain}
 
+-- the first byte of the first word; 0 where there is none
+abbrev pub first_byte : List ℕ → ℕ
+first_byte l = slice_index (trim_start l) 0
+
 -- the first word begins with #
 abbrev pub has_hash : List ℕ → Bool
 has_hash l = slice_index (trim_start l) 0 == 35

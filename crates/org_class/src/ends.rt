@@ -1,12 +1,10 @@
 //! Where the last end line of each block's name stands.
 ghost use Rattle.std.specs.Prelude.{◌≡◌, ◌+◌, ◌≤◌, [], false, length, IfOk, OnOk, IsOkUnless};
-ghost use Rattle.std.specs.List.{list_any};
 ghost use Rattle.org_base.specs.Codes.{memory_fault};
 ghost use Rattle.org_base.specs.Results.{Gives};
 ghost use Rattle.org_base.specs.Words.{same_word};
 ghost use Rattle.org_lines.specs.Cuts.{lines_in};
-ghost use Rattle.org_class.specs.Blocks.{is_hash};
-ghost use Rattle.org_class.specs.Ends.{place_of, AreLastEnds, IsRenumbered, is_ended_by};
+ghost use Rattle.org_class.specs.Ends.{place_of, AreLastEnds, IsRenumbered, has_mark, is_ended_by};
 ghost use Rattle.org_base.specs.Spans.{bytes_in};
 
 use crate::blocks::begins_with;
@@ -71,7 +69,7 @@ impl EndPlaces {
         ensures value { IfOk result (λ places. AreLastEnds places (lines_in (T.content text.now) part)) }
         ensures memory { IsOkUnless result memory_fault }
     {
-        if !has_hash(text, part) {
+        if !has_mark(text, part) {
             return Ok(EndPlaces::new(alloc));
         }
         EndPlaces::note_lines(alloc, text, part)
@@ -101,10 +99,10 @@ impl EndPlaces {
     }
 }
 
-// Whether a `#` stands in a part of the text, as it does where a block ends.
-fn has_hash<T: Text>(text: &T, part: Span) -> bool
+// Whether `#+` stands in a part of the text, as it does where a block ends; or a piece that the text lends ends with `#`.
+fn has_mark<T: Text>(text: &T, part: Span) -> bool
     requires within { part.at + part.len ≤ length (T.content text.now) }
-    ensures none { result ≡ false → list_any is_hash (bytes_in (T.content text.now) part) ≡ false }
+    ensures none { result ≡ false → has_mark (bytes_in (T.content text.now) part) ≡ false }
 {
     // For the proof alone: its contract says that the text is not too long.
     let _len = text.len();
@@ -113,9 +111,27 @@ fn has_hash<T: Text>(text: &T, part: Span) -> bool
     while here < end {
         let piece = text.piece_at(here);
         let piece = &piece[..piece.len().min(end - here)];
-        match memchr(b'#', piece) {
-            Some(_) => return true,
-            None => here += piece.len(),
+        if is_marked(piece) {
+            return true;
+        }
+        here += piece.len();
+    }
+    false
+}
+
+// Whether `#+` stands in the bytes, or `#` at their end.
+fn is_marked(bytes: &[u8]) -> bool
+    ensures value { result ≡ has_mark bytes.now }
+{
+    let mut here = 0;
+    while here < bytes.len() {
+        let (_, rest) = bytes.split_at(here);
+        let Some(place) = memchr(b'#', rest) else {
+            return false;
+        };
+        here += place + 1;
+        if here == bytes.len() || bytes[here] == b'+' {
+            return true;
         }
     }
     false

@@ -1,18 +1,36 @@
 //! The class of a line by itself.
-ghost use Rattle.std.specs.Prelude.{◌≡◌, ◌==◌};
+ghost use Rattle.std.specs.Prelude.{◌≡◌, ◌==◌, true, false};
 ghost use Rattle.std.specs.List.{list_any};
-ghost use Rattle.org_class.specs.LineClass.{has_hash, is_comment, is_setting, is_setting_word, line_class};
+ghost use Rattle.org_base.specs.Words.{is_gap};
+ghost use Rattle.org_class.specs.LineClass.{first_byte, has_hash, is_comment, is_setting, is_setting_word, line_class};
 
 use crate::class::Class;
-use org_base::words::{first_word, trim_start};
+use org_base::words::first_word;
 use org_stamp::is_clock;
+
+fn is_gap(byte: u8) -> bool
+    ensures value { result ≡ is_gap byte }
+{
+    matches!(byte, b' ' | b'\t' | b'\r' | b'\n')
+}
+
+// The first byte of the line's first word, 0 where it has none.
+pub(crate) fn first_byte(line: &[u8]) -> u8
+    ensures value { result ≡ first_byte line.now }
+{
+    for byte in line {
+        if !is_gap(*byte) {
+            return *byte;
+        }
+    }
+    0
+}
 
 // Whether the first word of the line begins with `#`, as in comments, in settings and in lines that open blocks.
 pub(crate) fn has_hash(line: &[u8]) -> bool
     ensures value { result ≡ has_hash line.now }
 {
-    let text = trim_start(line);
-    !text.is_empty() && text[0] == b'#'
+    first_byte(line) == b'#'
 }
 
 // Whether the first word of the line is `#` alone.
@@ -41,17 +59,42 @@ fn is_setting(line: &[u8]) -> bool
     is_setting_word(first_word(line))
 }
 
-// The class of a line that belongs to no heading, drawer or block.
-#[tactic(auto, using(crate::proofs::MarkLemmas::comment_has_hash, crate::proofs::MarkLemmas::setting_has_hash))]
+// The class of a line that belongs to no heading, drawer or block. Most lines are plain by their first byte.
 pub(crate) fn line_class(line: &[u8]) -> Class
     ensures value { result ≡ line_class line.now }
 {
-    let hash = has_hash(line);
-    if hash && is_comment(line) {
+    let first = first_byte(line);
+    if first == b'#' {
+        hash_class(line)
+    } else if first == b'C' {
+        letter_class(line)
+    } else {
+        Class::Plain
+    }
+}
+
+// The same of a line whose first word begins with `#`.
+#[tactic(auto, using(crate::proofs::FirstLemmas::clock_has_no_hash))]
+fn hash_class(line: &[u8]) -> Class
+    requires hash { has_hash line.now ≡ true }
+    ensures value { result ≡ line_class line.now }
+{
+    if is_comment(line) {
         Class::Comment
-    } else if hash && is_setting(line) {
+    } else if is_setting(line) {
         Class::Setting
-    } else if is_clock(line) {
+    } else {
+        Class::Plain
+    }
+}
+
+// The same of a line whose first word doesn't.
+#[tactic(auto, using(crate::proofs::MarkLemmas::comment_has_hash, crate::proofs::MarkLemmas::setting_has_hash))]
+fn letter_class(line: &[u8]) -> Class
+    requires letter { has_hash line.now ≡ false }
+    ensures value { result ≡ line_class line.now }
+{
+    if is_clock(line) {
         Class::Clock
     } else {
         Class::Plain

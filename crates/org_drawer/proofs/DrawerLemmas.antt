@@ -3,7 +3,7 @@ use Rattle.std.proofs.Common.{◌≡◌, ℕ, zero, suc, ◌+◌, List, [], ◌�
 use Rattle.std.specs.List.{filter_map}
 use Rattle.std.specs.Option.{option_to_list}
 use Rattle.org_base.specs.Properties.{Given, Property, with_all}
-use Rattle.org_drawer.specs.Node.{given_of}
+use Rattle.org_drawer.specs.Node.{given_of, with_line}
 
 cut_at : (lines : List (List ℕ)) (i : ℕ) (l : List ℕ) → slice_get lines i ≡ Some l → drop i lines ≡ l ∷ drop (i + 1) lines
 cut_at [] i l h = absurd cc
@@ -14,6 +14,10 @@ with_one : (ps : List Property) (o : Option Given) (ls : List (List ℕ)) (l : L
     with_all (with_all ps (option_to_list o)) (filter_map given_of ls) ≡ with_all ps (filter_map given_of (l ∷ ls))
 with_one ps None ls l e = rw e refl
 with_one ps (Some g) ls l e = rw e refl
+
+-- a line in front of others
+pub line_in_front : (ps : List Property) (l : List ℕ) (ls : List (List ℕ)) → with_all (with_line ps l) (filter_map given_of ls) ≡ with_all ps (filter_map given_of (l ∷ ls))
+line_in_front ps l ls = with_one ps (given_of l) ls l refl
 
 -- one line more
 pub one_line_more : (ps new all : List Property) (lines : List (List ℕ)) (i : ℕ) (l : List ℕ) → slice_get lines i ≡ Some l →

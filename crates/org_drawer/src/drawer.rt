@@ -25,8 +25,9 @@ pub fn read_drawer(alloc: Global, lines: &Texts) -> Result<Drawer, Fault>
     Ok(drawer)
 }
 
-// Adds what a line gives.
-fn add_line(drawer: &mut Drawer, line: &[u8]) -> Result<(), AllocError>
+/// Adds what one more node line gives, after those that were added before; a line that is none gives nothing. Where memory
+/// is refused some of it may be there.
+pub fn add_line(drawer: &mut Drawer, line: &[u8]) -> Result<(), AllocError>
     ensures ok { OnOk result (drawer.new ≡ with_line drawer.old line.now) }
 {
     match node_of(line) {

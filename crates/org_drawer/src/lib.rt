@@ -3,7 +3,7 @@
 //! Every call that allocates may be refused memory. Where it names no other refusal, that is its only one.
 //!
 //! What is read of a line is what one definition says of it, and nothing exactly where it is no such line. Only
-//! `read_drawer` takes memory.
+//! `read_drawer` and `add_line` take memory.
 //!
 //! ```
 //! match read_clock(line.as_bytes()) {
@@ -26,7 +26,7 @@ mod node;
 mod planning;
 
 pub use clock::{ClockLine, read_clock};
-pub use drawer::{Drawer, read_drawer};
+pub use drawer::{Drawer, add_line, read_drawer};
 pub use effort::{LONGEST_EFFORT, effort_minutes};
 pub use node::is_node;
 pub use planning::{Planning, read_planning};

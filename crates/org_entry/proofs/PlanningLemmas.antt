@@ -2,13 +2,15 @@
 use Rattle.std.proofs.Common.{◌≡◌, ℕ, ◌+◌, true, None, Option, List, [], ◌∷◌, ◌++◌, length, drop, refl, sym, ap, ◌∙◌, inl, inr, arith, append-nil}
 use Rattle.std.proofs.lemmas.Bool.{cases_Bool}
 use Rattle.std.proofs.Math.Seq.{drop-append_seam}
+use Rattle.std.proofs.lemmas.List.{drop_all}
 use Rattle.std.specs.Option.{option_map}
 use Rattle.org_class.specs.Classes.{classes, front_classes}
 use Rattle.org_class.specs.Drawers.{classes_below}
 use Rattle.org_class.specs.Heading.{begins_heading}
 use Rattle.org_drawer.specs.Planning.{planning_of}
 use Rattle.org_drawer.specs.declared.planning.Planning.{Planning}
-use Rattle.org_entry.specs.Entry.{placed, entry_of_lines}
+use Rattle.org_entry.specs.Entry.{heading_line, placed, entry_of_lines}
+use Rattle.org_entry.specs.declared.entry.Entry.{Entry}
 use Rattle.org_entry.specs.Laws.{PlanningIsOfItsLine}
 use Rattle.org_entry.specs.Planning.{entry_planning, moved, planning_from}
 use Rattle.org_entry.proofs.LineLemmas.{first, first_again}
@@ -25,6 +27,13 @@ planning_in text = let at = length (first text) in option_map (moved at) (planni
 none_planned : (at : ℕ) → option_map (moved at) (planning_of []) ≡ None
 unfolding pairs_from
 none_planned at = refl
+
+-- an entry that is its heading line alone has none
+pub none_behind : (e : Entry) (line text : List ℕ) (n : ℕ) → line ≡ heading_line e → text ≡ e.text → n ≡ length line → n ≡ length text → None ≡ entry_planning e
+none_behind e line text n l t a b =
+    let at : ℕ = length (heading_line e) in
+    let all : at ≡ length e.text = ap length (sym l) ∙ sym a ∙ b ∙ ap length t in
+    sym (ap (λ bs. option_map (moved at) (planning_of bs)) (drop_all at e.text (omega (arith, all))) ∙ none_planned at)
 
 -- after the first line stands what follows it
 behind_first : (t l : List ℕ) (ls : List (List ℕ)) (more : List ℕ) → lines t ≡ l ∷ ls → (ls ≡ [] → more ≡ []) → planning_in (l ++ more) ≡ option_map (moved (length l)) (planning_of more)

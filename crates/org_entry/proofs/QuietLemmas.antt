@@ -52,14 +52,14 @@ quiet_line settings so_far at class.Heading line quiet none = absurd cc
 quiet_line settings so_far at class.Planning line quiet none = absurd cc
 quiet_line settings so_far at class.Node line quiet none = absurd cc
 quiet_line settings so_far at class.Clock line quiet none = absurd cc
-quiet_line settings so_far at class.Setting line quiet none = rw (no_stamps at line none, append-nil so_far.text, append-nil so_far.nodes, append-nil so_far.stamps, append-nil so_far.clocks) refl
-quiet_line settings so_far at class.Plain line quiet none = rw (no_stamps at line none, append-nil so_far.text, append-nil so_far.nodes, append-nil so_far.stamps, append-nil so_far.clocks) refl
-quiet_line settings so_far at class.DrawerOpen line quiet none = rw (append-nil so_far.text, append-nil so_far.nodes, append-nil so_far.stamps, append-nil so_far.clocks) refl
-quiet_line settings so_far at class.DrawerEnd line quiet none = rw (append-nil so_far.text, append-nil so_far.nodes, append-nil so_far.stamps, append-nil so_far.clocks) refl
-quiet_line settings so_far at class.Comment line quiet none = rw (append-nil so_far.text, append-nil so_far.nodes, append-nil so_far.stamps, append-nil so_far.clocks) refl
-quiet_line settings so_far at class.BlockOpen line quiet none = rw (append-nil so_far.text, append-nil so_far.nodes, append-nil so_far.stamps, append-nil so_far.clocks) refl
-quiet_line settings so_far at class.Verbatim line quiet none = rw (append-nil so_far.text, append-nil so_far.nodes, append-nil so_far.stamps, append-nil so_far.clocks) refl
-quiet_line settings so_far at class.BlockEnd line quiet none = rw (append-nil so_far.text, append-nil so_far.nodes, append-nil so_far.stamps, append-nil so_far.clocks) refl
+quiet_line settings so_far at class.Setting line quiet none = rw (no_stamps at line none, append-nil so_far.text, append-nil so_far.stamps, append-nil so_far.clocks) refl
+quiet_line settings so_far at class.Plain line quiet none = rw (no_stamps at line none, append-nil so_far.text, append-nil so_far.stamps, append-nil so_far.clocks) refl
+quiet_line settings so_far at class.DrawerOpen line quiet none = rw (append-nil so_far.text, append-nil so_far.stamps, append-nil so_far.clocks) refl
+quiet_line settings so_far at class.DrawerEnd line quiet none = rw (append-nil so_far.text, append-nil so_far.stamps, append-nil so_far.clocks) refl
+quiet_line settings so_far at class.Comment line quiet none = rw (append-nil so_far.text, append-nil so_far.stamps, append-nil so_far.clocks) refl
+quiet_line settings so_far at class.BlockOpen line quiet none = rw (append-nil so_far.text, append-nil so_far.stamps, append-nil so_far.clocks) refl
+quiet_line settings so_far at class.Verbatim line quiet none = rw (append-nil so_far.text, append-nil so_far.stamps, append-nil so_far.clocks) refl
+quiet_line settings so_far at class.BlockEnd line quiet none = rw (append-nil so_far.text, append-nil so_far.stamps, append-nil so_far.clocks) refl
 
 -- nor do several
 pub quiet_lines_say_nothing : (settings : FileSettings) (so_far : EntrySoFar) (at : ℕ) (ls : List (List ℕ)) (cs : List Class) → list_all is_quiet cs ≡ true → list_any is_close (concat ls) ≡ false → with_lines settings so_far (placed at ls cs) ≡ so_far

@@ -3,29 +3,30 @@ use Rattle.std.specs.List.{list_any}
 use Rattle.std.specs.Option.{option_to_list}
 use Rattle.std.specs.Prelude.{ℕ, Bool, true, false, List, [], ◌∷◌, ◌++◌, Option, None, Some, drop}
 use Rattle.org_settings.specs.Settings.{FileSettings}
+use Rattle.org_base.specs.Properties.{Property}
 use Rattle.org_class.specs.declared.class.Class.{Class}
 use Rattle.org_class.specs.declared.class.Class.TheVariants.{Heading, Planning as PlanningLine, Node, Clock}
 use Rattle.org_drawer.specs.Clock.{clock_of}
-use Rattle.org_drawer.specs.Node.{drawer_of}
+use Rattle.org_drawer.specs.Node.{with_line as with_node}
 use Rattle.org_drawer.specs.declared.clock.ClockLine.{ClockLine}
-use Rattle.org_entry.specs.Entry.{PlacedLine, text_of, nodes_of, clocks_of, stamps_of, head_after, title_stamps}
+use Rattle.org_entry.specs.Entry.{PlacedLine, text_of, clocks_of, stamps_of, head_after, title_stamps}
 use Rattle.org_entry.specs.declared.entry.Entry.{Entry}
 use Rattle.org_head.specs.Head.{head_of}
 use Rattle.org_head.specs.declared.head.Head.{Head}
 use Rattle.org_stamp.specs.Stamp.{is_close}
 use Rattle.org_stamp.specs.declared.stamp.Found.{Found}
 
--- the parts of an entry so far, and the lines of its drawer
+-- the parts of an entry so far
 pub record EntrySoFar : Type 0 where
   pub text : List ℕ
   pub head : Option Head
-  pub nodes : List (List ℕ)
+  pub drawer : List Property
   pub stamps : List Found
   pub clocks : List ClockLine
 
 -- before the first line
 abbrev pub nothing_said : EntrySoFar
-nothing_said = record { text = []; head = None; nodes = []; stamps = []; clocks = [] }
+nothing_said = record { text = []; head = None; drawer = []; stamps = []; clocks = [] }
 
 -- a line of this class says no more than its stamps
 abbrev pub is_quiet : Class → Bool
@@ -51,12 +52,17 @@ with_heading settings so_far at line = record so_far {
 abbrev pub with_clock : EntrySoFar → List ℕ → EntrySoFar
 with_clock so_far line = record so_far { clocks = so_far.clocks ++ option_to_list (clock_of line) }
 
+-- properties with what a line gives, if it is a node line of the drawer
+abbrev pub drawer_after : List Property → Class → List ℕ → List Property
+drawer_after so_far Node bytes = with_node so_far bytes
+drawer_after so_far _ bytes = so_far
+
 -- one line more
 abbrev pub with_line : FileSettings → EntrySoFar → PlacedLine → EntrySoFar
 with_line settings so_far l = record {
   text = so_far.text ++ text_of l.class l.bytes;
   head = head_after settings so_far.head l.class l.bytes;
-  nodes = so_far.nodes ++ nodes_of l.class l.bytes;
+  drawer = drawer_after so_far.drawer l.class l.bytes;
   stamps = so_far.stamps ++ stamps_of settings l.at l.class l.bytes;
   clocks = so_far.clocks ++ clocks_of l.class l.bytes;
 }
@@ -71,7 +77,7 @@ abbrev pub into_entry : EntrySoFar → Entry
 into_entry so_far = record {
   text = so_far.text;
   head = so_far.head;
-  details = record { drawer = drawer_of so_far.nodes; stamps = so_far.stamps; clocks = so_far.clocks };
+  details = record { drawer = so_far.drawer; stamps = so_far.stamps; clocks = so_far.clocks };
 }
 
 -- the entry of a section that is its heading line alone

@@ -6,10 +6,9 @@ ghost use Rattle.org_entry.specs.Draft.{nothing_said, with_line, into_entry, lin
 
 use crate::details::{Details, Parts};
 use crate::entry::Entry;
-use crate::own::OwnProperties;
 use crate::stamps::push_active;
 use crate::text::EntryText;
-use org_base::{Fault, Texts};
+use org_base::Fault;
 use org_class::Class;
 use org_drawer::{ClockLine, read_clock};
 use org_head::{Head, part, read_head};
@@ -23,7 +22,6 @@ pub(crate) struct Draft {
     alloc: Global,
     text: EntryText,
     head: Option<Head>,
-    nodes: Texts,
     parts: Parts,
 }
 
@@ -32,7 +30,7 @@ impl Model for Draft {
 
     ghost Value = { EntrySoFar };
 
-    ghost view = { λ d. record { text = d.text; head = d.head; nodes = d.nodes; stamps = d.parts.stamps; clocks = d.parts.clocks } };
+    ghost view = { λ d. record { text = d.text; head = d.head; drawer = d.parts.drawer; stamps = d.parts.stamps; clocks = d.parts.clocks } };
 }
 
 impl Draft {
@@ -44,7 +42,6 @@ impl Draft {
             alloc,
             text: EntryText::new(alloc),
             head: None,
-            nodes: Texts::new(alloc),
             parts: Parts::none(alloc),
         }
     }
@@ -65,7 +62,7 @@ impl Draft {
         match class {
             Class::Heading => self.add_heading(settings, at, line)?,
             Class::Planning => self.text.push(line)?,
-            Class::Node => self.nodes.push(line)?,
+            Class::Node => self.parts.drawer.add(self.alloc, line)?,
             Class::Clock => self.add_clock(line)?,
             Class::Setting | Class::Plain => push_active(&mut self.parts.stamps, at, line)?,
             _ => {}
@@ -112,10 +109,8 @@ impl Draft {
             alloc,
             text,
             head,
-            nodes,
-            mut parts,
+            parts,
         } = self;
-        parts.drawer = OwnProperties::of_lines(alloc, &nodes)?;
         Ok(Entry {
             text,
             head,

@@ -40,12 +40,16 @@ impl Entry {
 
     /// What the planning line says, read of the entry's text; None where the section has no planning line. It takes a pass
     /// over that text, and no memory.
-    #[tactic(auto, using(crate::proofs::LineLemmas::first_within))]
+    #[tactic(auto, using(crate::proofs::LineLemmas::first_within, crate::proofs::PlanningLemmas::none_behind))]
     pub fn planning(&self) -> Option<Planning>
         ensures value { result ≡ entry_planning self.now }
     {
         let at = self.line().len();
-        planning_at(at, &self.text.as_slice()[at..])
+        let text = self.text.as_slice();
+        if at == text.len() {
+            return None;
+        }
+        planning_at(at, &text[at..])
     }
 
     /// The bytes of a part of the entry's text. What reaches beyond the text isn't there.

@@ -1,30 +1,26 @@
 //! The properties of a section.
-ghost use Rattle.std.specs.Prelude.{◌≡◌, [], true, IsOkUnless};
-ghost use Rattle.std.specs.Option.{option_map, option_copied};
-ghost use Rattle.org_base.specs.Codes.{memory_fault};
+ghost use Rattle.std.specs.Prelude.{◌≡◌, [], true, OnOk};
+ghost use Rattle.std.specs.Option.{option_copied};
 ghost use Rattle.org_base.specs.Properties.{value_in};
-ghost use Rattle.org_base.specs.Results.{Gives};
-ghost use Rattle.org_drawer.specs.Node.{drawer_of};
+ghost use Rattle.org_drawer.specs.Node.{with_line};
 
-use org_base::{Fault, Texts};
-use org_drawer::{Drawer, read_drawer};
-use std::alloc::Global;
+use org_drawer::{Drawer, add_line};
+use std::alloc::{AllocError, Global};
 use std::marker::Model;
 
 // The properties of a section's drawer, none where it has no drawer; seen as their list.
 #[derive(Debug, Drop)]
 pub(crate) struct OwnProperties {
-    drawer: Option<Box<Drawer>>,
+    drawer: Option<Drawer>,
 }
 
 impl Model for OwnProperties {
     ghost use Rattle.std.specs.Prelude.{List, [], unwrap_or};
-    ghost use Rattle.std.specs.Option.{option_map};
     ghost use Rattle.org_base.specs.Properties.{Property};
 
     ghost Value = { List Property };
 
-    ghost view = { λ p. unwrap_or (option_map (λ b. b.value) p.drawer) [] };
+    ghost view = { λ p. unwrap_or p.drawer [] };
 }
 
 impl OwnProperties {
@@ -35,18 +31,17 @@ impl OwnProperties {
         OwnProperties { drawer: None }
     }
 
-    // What the lines of a drawer give.
-    pub(crate) fn of_lines(alloc: Global, lines: &Texts) -> Result<OwnProperties, Fault>
-        ensures value { Gives result (drawer_of lines.now) }
-        ensures memory { IsOkUnless result memory_fault }
+    // Adds what one more line of the drawer gives.
+    pub(crate) fn add(&mut self, alloc: Global, line: &[u8]) -> Result<(), AllocError>
+        ensures ok { OnOk result (self.new ≡ with_line self.old line.now) }
     {
-        if lines.count() == 0 {
-            return Ok(OwnProperties::none());
+        if let Some(drawer) = &mut self.drawer {
+            return add_line(drawer, line);
         }
-        let drawer = read_drawer(alloc, lines)?;
-        Ok(OwnProperties {
-            drawer: Some(Box::new(alloc, drawer)?),
-        })
+        let mut drawer = Drawer::new(alloc);
+        add_line(&mut drawer, line)?;
+        self.drawer = Some(drawer);
+        Ok(())
     }
 
     // Whether there is no drawer.

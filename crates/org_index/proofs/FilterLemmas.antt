@@ -8,11 +8,11 @@ use Rattle.org_base.specs.Counts.{Counts, ticked}
 use Rattle.org_base.specs.declared.meter.Tick.TheVariants.{Examine}
 use Rattle.org_index.specs.Ticks.{examined}
 
-contains_cases : (x z : ℕ) (xs : List ℕ) (k : ℕ) → k < length (x ∷ xs) → get_or (x ∷ xs) k z ≡ z → (x ≡ z) ⊎ Contains xs z
+pub contains_cases : (x z : ℕ) (xs : List ℕ) (k : ℕ) → k < length (x ∷ xs) → get_or (x ∷ xs) k z ≡ z → (x ≡ z) ⊎ Contains xs z
 contains_cases x z xs zero l e = inl e
 contains_cases x z xs (suc k) l e = inr (k, omega arith, e)
 
-contains_there : (x z : ℕ) (xs : List ℕ) → Contains xs z → Contains (x ∷ xs) z
+pub contains_there : (x z : ℕ) (xs : List ℕ) → Contains xs z → Contains (x ∷ xs) z
 contains_there x z xs h = (suc h.0, omega (arith, h.1), h.2)
 
 pub filter_in : (p : ℕ → Bool) (xs : List ℕ) (z : ℕ) → Contains (filter p xs) z → Contains xs z × (p z ≡ true)

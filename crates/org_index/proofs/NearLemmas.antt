@@ -1,5 +1,5 @@
 -- The sets of days hold the ids of all near stamps.
-use Rattle.std.proofs.Common.{◌≡◌, ℕ, ◌+◌, ◌-◌, ◌*◌, ◌<◌, ◌≤◌, Bool, true, false, cond, ◌&&◌, ◌||◌, ltb, IsTrue, inl, inr, refl, sym, ap, ◌∙◌, subst, true≢false, arith}
+use Rattle.std.proofs.Common.{◌≡◌, ℕ, ◌+◌, ◌-◌, ◌*◌, ◌<◌, ◌≤◌, Bool, true, false, cond, ◌&&◌, ◌||◌, ltb, IsTrue, inl, inr, refl, sym, ap, ◌∙◌, subst, true≢false, arith, List}
 use Rattle.std.specs.Prelude.{Option, Some, None, nat_eq, nat_le, nat_lt, ◌==◌, if◌then◌else◌}
 use Rattle.std.specs.Ordering.{nat_cmp}
 use Rattle.std.specs.BTreeMap.{BTreeMap, get, is_at}
@@ -10,14 +10,14 @@ use Rattle.org_index.specs.declared.reach.Reach.{Reach}
 use Rattle.org_index.specs.DaySet.{key_cmp, Stands, Has, Keeps, Adds, Fits, IsSet, stands_by, is_day, own_day, repeated_day, delayed_day, warned_day, range_day, class_of, bound_of, class_day}
 use Rattle.org_index.specs.Near.{lies_in, meets, meets_if, touches, warns}
 
-pub keeps_more : (a b c : BTreeSet ℕ) → Keeps a b → Keeps b c → Keeps a c
+pub keeps_more : (a b c : List ℕ) → Keeps a b → Keeps b c → Keeps a c
 keeps_more a b c h k = λ id x. k id (h id x)
 
-pub adds_kept : (day_set : BTreeSet (ℕ × ℕ)) (from to : ℕ) (a b : BTreeSet ℕ) → Adds day_set from to a → Keeps a b → Adds day_set from to b
+pub adds_kept : (day_set : BTreeSet (ℕ × ℕ)) (from to : ℕ) (a b : List ℕ) → Adds day_set from to a → Keeps a b → Adds day_set from to b
 adds_kept day_set from to a b h k = λ id day low high x. k id (h id day low high x)
 
 -- the classes so far, and one more
-pub adds_next : (day_set : BTreeSet (ℕ × ℕ)) (from class base low : ℕ) (a b : BTreeSet ℕ) → base ≡ 4194304 * class → low ≡ from - bound_of class → ((j : ℕ) → j < class → Adds day_set (class_day j (from - bound_of j)) (class_day j from) a) → Keeps a b → Adds day_set (base + low) (base + from) b → (j : ℕ) → j < class + 1 → Adds day_set (class_day j (from - bound_of j)) (class_day j from) b
+pub adds_next : (day_set : BTreeSet (ℕ × ℕ)) (from class base low : ℕ) (a b : List ℕ) → base ≡ 4194304 * class → low ≡ from - bound_of class → ((j : ℕ) → j < class → Adds day_set (class_day j (from - bound_of j)) (class_day j from) a) → Keeps a b → Adds day_set (base + low) (base + from) b → (j : ℕ) → j < class + 1 → Adds day_set (class_day j (from - bound_of j)) (class_day j from) b
 adds_next day_set from class base low a b bi li h k more j lt = elim (cases_lt j class) [
   | inl below ↦ adds_kept day_set (class_day j (from - bound_of j)) (class_day j from) a b (h j below) k
   | inr not_below ↦
@@ -61,7 +61,7 @@ eq_of : (a b : ℕ) → (a == b) ≡ true → a ≡ b
 eq_of a b h = grind (arith, nat_tests)
 
 -- a range that began before the days and reaches into them stands in its class's stretch
-in_class : (ranges : BTreeSet (ℕ × ℕ)) (found : BTreeSet ℕ) (from day last id : ℕ) → from < 4194304 → day < from → from ≤ last →
+in_class : (ranges : BTreeSet (ℕ × ℕ)) (found : List ℕ) (from day last id : ℕ) → from < 4194304 → day < from → from ≤ last →
     ((j : ℕ) → j < 7 → Adds ranges (class_day j (from - bound_of j)) (class_day j from) found) →
     Stands ranges (class_day (class_of (last - day)) day) id → Has found id
 in_class ranges found from day last id small before reach adds =
@@ -74,7 +74,7 @@ in_class ranges found from day last id small before reach adds =
     (λ h x. adds 5 (omega arith) id (class_day 5 day) (omega arith) (omega arith) x)
     (λ x. adds 6 (omega arith) id (class_day 6 day) (omega arith) (omega arith) x)
 
-module _ (reaches : BTreeMap ℕ Reach) (days repeating delayed warned ranges : BTreeSet (ℕ × ℕ)) (found : BTreeSet ℕ) (from to today id : ℕ) (e : Reach)
+module _ (reaches : BTreeMap ℕ Reach) (days repeating delayed warned ranges : BTreeSet (ℕ × ℕ)) (found : List ℕ) (from to today id : ℕ) (e : Reach)
     (small : from < 4194304)
     (fd : Fits own_day reaches days) (fr : Fits repeated_day reaches repeating) (fe : Fits delayed_day reaches delayed) (fw : Fits warned_day reaches warned) (fg : Fits range_day reaches ranges)
     (ad : Adds days from to found) (aa : IsTrue (lies_in from to today) → Adds days 0 (today + 14) found) (ar : Adds repeating 0 to found) (ae : Adds delayed from to found)
@@ -131,7 +131,7 @@ module _ (reaches : BTreeMap ℕ Reach) (days repeating delayed warned ranges : 
       ]
 
 -- the same where the id may have no stamp
-pub found_all : (reaches : BTreeMap ℕ Reach) (days repeating delayed warned ranges : BTreeSet (ℕ × ℕ)) (found : BTreeSet ℕ) (from to today id : ℕ) (o : Option Reach) → from < 4194304 →
+pub found_all : (reaches : BTreeMap ℕ Reach) (days repeating delayed warned ranges : BTreeSet (ℕ × ℕ)) (found : List ℕ) (from to today id : ℕ) (o : Option Reach) → from < 4194304 →
     Fits own_day reaches days → Fits repeated_day reaches repeating → Fits delayed_day reaches delayed → Fits warned_day reaches warned → Fits range_day reaches ranges →
     Adds days from to found → (IsTrue (lies_in from to today) → Adds days 0 (today + 14) found) → Adds repeating 0 to found → Adds delayed from to found → (IsTrue (lies_in from to today) → Adds warned 0 today found) →
     ((j : ℕ) → j < 7 → Adds ranges (class_day j (from - bound_of j)) (class_day j from) found) →

@@ -1,5 +1,5 @@
 -- Sets of days: on which days which ids stand.
-use Rattle.std.specs.Prelude.{◌≡◌, ◌↔◌, ◌⊎◌, ℕ, ◌+◌, ◌-◌, ◌*◌, ◌<◌, ◌≤◌, ◌==◌, nat_lt, nat_eq, Bool, false, ◌&&◌, ◌||◌, if◌then◌else◌, List, [], ◌∷◌, Option, Some, None, IsTrue}
+use Rattle.std.specs.Prelude.{◌≡◌, ◌↔◌, ◌⊎◌, ℕ, ◌+◌, ◌-◌, ◌*◌, ◌<◌, ◌≤◌, ◌==◌, nat_lt, nat_eq, Bool, false, ◌&&◌, ◌||◌, if◌then◌else◌, List, [], ◌∷◌, Contains, Option, Some, None, IsTrue}
 use Rattle.std.specs.declared.cmp.Ordering.{Ordering}
 use Rattle.std.specs.Ordering.{nat_cmp, ordering_then}
 use Rattle.std.specs.BTreeMap.{BTreeMap, get}
@@ -16,12 +16,12 @@ key_cmp a b = ordering_then (nat_cmp a.0 b.0) (nat_cmp a.1 b.1)
 abbrev pub Stands : BTreeSet (ℕ × ℕ) → ℕ → ℕ → Type 0
 Stands day_set day id = IsTrue (contains key_cmp day_set (day, id))
 
--- the set has the id
-abbrev pub Has : BTreeSet ℕ → ℕ → Type 0
-Has ids id = IsTrue (contains nat_cmp ids id)
+-- the id is among these
+abbrev pub Has : List ℕ → ℕ → Type 0
+Has ids id = Contains ids id
 
--- the new set has the old one's ids and those that the set of days has on the days
-abbrev pub IsGathered : BTreeSet ℕ → BTreeSet (ℕ × ℕ) → ℕ → ℕ → BTreeSet ℕ → Type 0
+-- the new list has the old one's ids and those that the set of days has on the days
+abbrev pub IsGathered : List ℕ → BTreeSet (ℕ × ℕ) → ℕ → ℕ → List ℕ → Type 0
 IsGathered old day_set from to new =
     (id : ℕ) → Has new id ↔ (Has old id ⊎ ((day : ℕ) × (from ≤ day) × (day ≤ to) × Stands day_set day id))
 
@@ -31,11 +31,11 @@ stands_in id [] = false
 stands_in id (k ∷ ks) = nat_eq id k.1 || stands_in id ks
 
 -- nothing is lost
-abbrev pub Keeps : BTreeSet ℕ → BTreeSet ℕ → Type 0
+abbrev pub Keeps : List ℕ → List ℕ → Type 0
 Keeps old new = (id : ℕ) → Has old id → Has new id
 
 -- and what the set of days has on the days is there
-abbrev pub Adds : BTreeSet (ℕ × ℕ) → ℕ → ℕ → BTreeSet ℕ → Type 0
+abbrev pub Adds : BTreeSet (ℕ × ℕ) → ℕ → ℕ → List ℕ → Type 0
 Adds day_set from to new = (id day : ℕ) → from ≤ day → day ≤ to → Stands day_set day id → Has new id
 
 -- the class of a range's length
@@ -51,7 +51,7 @@ abbrev pub class_day : ℕ → ℕ → ℕ
 class_day j day = DAY_LIMIT * j + day
 
 -- what classes of ranges have from so many days before a day on, as many as their lengths allow, up to it
-abbrev pub AddsRanges : BTreeSet (ℕ × ℕ) → ℕ → BTreeSet ℕ → Type 0
+abbrev pub AddsRanges : BTreeSet (ℕ × ℕ) → ℕ → List ℕ → Type 0
 AddsRanges day_set day new = (j : ℕ) → j < 7 → Adds day_set (class_day j (day - bound_of j)) (class_day j day) new
 
 -- where what is kept stands in each set of days: all under their days; those that repeat; those that are delayed; those that warn

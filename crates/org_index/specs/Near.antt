@@ -3,7 +3,6 @@
 use Rattle.std.specs.Prelude.{◌≡◌, ◌↔◌, ℕ, Contains, IsTrue, nat_le, Bool, false, ◌&&◌, ◌||◌, List, length, Option, Some, None}
 use Rattle.std.specs.Ordering.{nat_cmp}
 use Rattle.std.specs.BTreeMap.{insert_entry, is_at}
-use Rattle.std.specs.BTreeSet.{BTreeSet}
 use Rattle.std.specs.List.{filter}
 use Rattle.std.specs.Map.{keys_of, lookup}
 use Rattle.org_base.specs.Counts.{Counts}
@@ -68,8 +67,8 @@ touching_count from to pairs = length (touching_ids from to pairs)
 abbrev pub AreCandidates : List (ℕ × Reach) → ℕ → ℕ → ℕ → List ℕ → Type 0
 AreCandidates pairs from to today ids = (id : ℕ) → Contains ids id ↔ IsTrue (is_candidate pairs from to today id)
 
--- the set has the ids of all stamps that are near
-abbrev pub HasCandidates : List (ℕ × Reach) → ℕ → ℕ → ℕ → BTreeSet ℕ → Type 0
+-- the ids of all stamps that are near are among these
+abbrev pub HasCandidates : List (ℕ × Reach) → ℕ → ℕ → ℕ → List ℕ → Type 0
 HasCandidates pairs from to today found = (id : ℕ) → IsTrue (is_candidate pairs from to today id) → Has found id
 
 -- each was examined, and nothing else was counted

@@ -6,48 +6,48 @@ ghost use Rattle.org_index.specs.DaySet.{IsGathered, IsSet, Keeps, Adds};
 use std::alloc::AllocError;
 use std::collections::BTreeSet;
 
-// Adds the ids that the set of days has on the days, and no others.
+// Adds the ids that the set of days has on the days, and no others, also such as are there.
 fn gather_all(
-    found: &mut BTreeSet<u32>,
+    found: &mut Vec<u32>,
     day_set: &BTreeSet<(u32, u32)>,
     from: u32,
     to: u32,
 ) -> Result<(), AllocError>
     requires days { from ≤ to }
     requires at_most { to < 2 ^ 28 }
-    ensures { OnOk result (IsGathered found.old day_set.now from to found.new) }
+    ensures { OnOk result (IsGathered found.old.items day_set.now from to found.new.items) }
 {
     for (_, id) in day_set.range((from, 0)..(to + 1, 0)) {
-        found.insert(*id)?;
+        found.push(*id)?;
     }
     Ok(())
 }
 
 // Adds the ids that the set of days has on the days.
 pub(crate) fn gather(
-    found: &mut BTreeSet<u32>,
+    found: &mut Vec<u32>,
     day_set: &BTreeSet<(u32, u32)>,
     from: u32,
     to: u32,
 ) -> Result<(), AllocError>
     requires days { from ≤ to }
     requires at_most { to < 2 ^ 28 }
-    ensures keeps { OnOk result (Keeps found.old found.new) }
-    ensures adds { OnOk result (Adds day_set.now from to found.new) }
+    ensures keeps { OnOk result (Keeps found.old.items found.new.items) }
+    ensures adds { OnOk result (Adds day_set.now from to found.new.items) }
 {
     gather_all(found, day_set, from, to)
 }
 
 // The same from the first day on, if it is asked.
 pub(crate) fn gather_if(
-    found: &mut BTreeSet<u32>,
+    found: &mut Vec<u32>,
     day_set: &BTreeSet<(u32, u32)>,
     asked: bool,
     to: u32,
 ) -> Result<(), AllocError>
     requires at_most { to < 2 ^ 28 }
-    ensures keeps { OnOk result (Keeps found.old found.new) }
-    ensures adds { OnOk result (IsTrue asked → Adds day_set.now 0 to found.new) }
+    ensures keeps { OnOk result (Keeps found.old.items found.new.items) }
+    ensures adds { OnOk result (IsTrue asked → Adds day_set.now 0 to found.new.items) }
 {
     if asked {
         gather(found, day_set, 0, to)

@@ -179,9 +179,9 @@ impl DayIndex {
     {
         // For the proof alone: the ids of a map ascend.
         let _ordered = self.reaches.len();
-        let found = gather_ids(self, from, to, today)?;
+        let found = sorted_ids(self, from, to, today)?;
         let mut ids = Vec::new(self.alloc);
-        for id in &found {
+        for id in found.as_slice() {
             if self.is_candidate(from, to, today, *id) {
                 ids.push(*id)?;
             }
@@ -209,13 +209,33 @@ fn count_examined(meter: &mut Meter, count: usize)
     }
 }
 
-// The ids among which those of all near stamps are.
-fn gather_ids(index: &DayIndex, from: u32, to: u32, today: u32) -> Result<BTreeSet<u32>, AllocError>
+// The ids among which those of all near stamps are, ascending, each once.
+fn sorted_ids(index: &DayIndex, from: u32, to: u32, today: u32) -> Result<Vec<u32>, AllocError>
     requires days { (1 ≤ from) × (from ≤ to) × (to < DAY_LIMIT) × (today < DAY_LIMIT) }
-    ensures all { IfOk result (HasCandidates index.now from to today) }
+    ensures all { IfOk result (λ ids. HasCandidates index.now from to today ids.items) }
+    ensures once { IfOk result (λ ids. IsStrictlySortedBy nat_cmp ids.items) }
+{
+    let mut ids = gather_ids(index, from, to, today)?;
+    sort_once(&mut ids);
+    Ok(ids)
+}
+
+// Brings ids into their order; of equal ones one stays.
+fn sort_once(ids: &mut Vec<u32>)
+    ensures keeps { Keeps ids.old.items ids.new.items }
+    ensures once { IsStrictlySortedBy nat_cmp ids.new.items }
+{
+    ids.sort_unstable();
+    ids.dedup();
+}
+
+// The ids among which those of all near stamps are, some more than once.
+fn gather_ids(index: &DayIndex, from: u32, to: u32, today: u32) -> Result<Vec<u32>, AllocError>
+    requires days { (1 ≤ from) × (from ≤ to) × (to < DAY_LIMIT) × (today < DAY_LIMIT) }
+    ensures all { IfOk result (λ ids. HasCandidates index.now from to today ids.items) }
 {
     let asked = lies_in(from, to, today);
-    let mut found = BTreeSet::new(index.alloc);
+    let mut found = Vec::new(index.alloc);
     gather(&mut found, &index.day_sets.days, from, to)?;
     gather_if(
         &mut found,
@@ -232,13 +252,13 @@ fn gather_ids(index: &DayIndex, from: u32, to: u32, today: u32) -> Result<BTreeS
 
 // Adds the ids of ranges that began before the days and may reach into them.
 fn gather_ranges(
-    found: &mut BTreeSet<u32>,
+    found: &mut Vec<u32>,
     ranges: &BTreeSet<(u32, u32)>,
     from: u32,
 ) -> Result<(), AllocError>
     requires { from < DAY_LIMIT }
-    ensures keeps { OnOk result (Keeps found.old found.new) }
-    ensures adds { OnOk result (AddsRanges ranges.now from found.new) }
+    ensures keeps { OnOk result (Keeps found.old.items found.new.items) }
+    ensures adds { OnOk result (AddsRanges ranges.now from found.new.items) }
 {
     let mut class = 0;
     'classes: while class < 7 {

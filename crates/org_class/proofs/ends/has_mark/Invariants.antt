@@ -1,14 +1,14 @@
 use Rattle.std.proofs.Common.{◌≡◌, ◌-◌, ◌≤◌, false}
-use Rattle.std.specs.List.{list_any, slice_range}
-use Rattle.org_class.specs.Blocks.{is_hash}
-use Rattle.org_class.proofs.ends.has_hash.Given as goal
+use Rattle.std.specs.List.{slice_range}
+use Rattle.org_class.specs.Ends.{has_mark}
+use Rattle.org_class.proofs.ends.has_mark.Given as goal
 
 -- none so far
 abbrev pub invariant-loop-here : goal.invariant-loop-here
 invariant-loop-here g l = record {
   from : l.fn.part.at ≤ l.here;
   within : l.here ≤ l.end;
-  none : list_any is_hash (slice_range (g.T.Text.content l.text) l.fn.part.at l.here) ≡ false;
+  none : has_mark (slice_range (g.T.Text.content l.text) l.fn.part.at l.here) ≡ false;
 }
 
 abbrev pub decreases-loop-here : goal.decreases-loop-here

@@ -1,12 +1,10 @@
--- No `#` up to a place of a run, and none before it.
+-- No mark up to a place of a run, and none before it.
 use Rattle.std.proofs.Common.{◌≡◌, ◌∙◌, ◌+◌, ◌-◌, ◌≤◌, false, ap, sym, arith, length, take, drop, length-take}
-use Rattle.std.specs.Prelude.{◌||◌}
-use Rattle.std.specs.List.{list_any, slice_range}
-use Rattle.std.proofs.lemmas.List.Folds.{list_any-append}
+use Rattle.std.specs.List.{slice_range}
 use Rattle.org_lines.proofs.LineLemmas.{range_is, range_more}
-use Rattle.org_class.specs.Blocks.{is_hash}
-use Rattle.org_class.proofs.HashLemmas.{none_any}
-use Rattle.org_class.proofs.ends.has_hash.Goals as goal
+use Rattle.org_class.specs.Ends.{has_mark}
+use Rattle.org_class.proofs.HashLemmas.{marked_behind}
+use Rattle.org_class.proofs.ends.has_mark.Goals as goal
 
 pub loop-here-init : goal.loop-here-init
 loop-here-init g c =
@@ -16,7 +14,7 @@ loop-here-init g c =
     record {
       from = omega arith;
       within = omega arith;
-      none = ap (list_any is_hash) (ap (slice_range t at) (sym same) ∙ range_is t at 0);
+      none = ap has_mark (ap (slice_range t at) (sym same) ∙ range_is t at 0);
     }
 
 pub loop-here-preserved : goal.loop-here-preserved
@@ -33,15 +31,14 @@ loop-here-preserved g c =
     let end : here + length (take m run) ≡ at + (n + m) = omega (arith, count, behind) in
     let run_is = ap (λ k. take (length run) k) (ap (λ k. drop k t) (sym behind)) in
     let joined = range_more t run at n m (c.piece_at-piece.ensures.value ∙ run_is) short in
-    let before : list_any is_hash (slice_range t at (at + n)) ≡ false = rw behind c.loop-here.invariant.none in
-    let after : list_any is_hash (take m run) ≡ false = none_any (take m run) c.in-None.ensures in
+    let before : has_mark (slice_range t at (at + n)) ≡ false = rw behind c.loop-here.invariant.none in
+    let after : has_mark (take m run) ≡ false = sym c.is_marked.ensures.value ∙ c.if-is_marked.false in
     record {
       from = omega (arith, c.loop-here.invariant.from);
       within = omega (arith, count, c.min.ensures, c.loop-here.invariant.within);
-      none = ap (λ e. list_any is_hash (slice_range t at e)) end
-          ∙ ap (list_any is_hash) (sym joined)
-          ∙ list_any-append is_hash (slice_range t at (at + n)) (take m run)
-          ∙ ap (λ b. b || list_any is_hash (take m run)) before
+      none = ap (λ e. has_mark (slice_range t at e)) end
+          ∙ ap has_mark (sym joined)
+          ∙ marked_behind (slice_range t at (at + n)) (take m run) before
           ∙ after;
     }
 
@@ -50,4 +47,4 @@ returns g c =
     let t = g.T.Text.content c.args.text.now in
     let at = c.args.part.at in
     let end : c.loop-here.here ≡ at + c.args.part.len = omega (arith, c.loop-here.invariant.within) in
-    record { none = λ _. ap (λ e. list_any is_hash (slice_range t at e)) (sym end) ∙ c.loop-here.invariant.none }
+    record { none = λ _. ap (λ e. has_mark (slice_range t at e)) (sym end) ∙ c.loop-here.invariant.none }
