@@ -1,17 +1,16 @@
 -- Headings in order, and the stamps of each.
 use Rattle.std.proofs.Common.{◌≡◌, ◌∙◌, ◌⊎◌, ℕ, zero, suc, ◌+◌, ◌<◌, ◌≤◌, Bool, true, false, List, [], ◌∷◌, ◌++◌, inl, inr, length, drop, get_or, cond, sym, ap, ap₂, refl, subst, arith, append-nil, append_assoc, true≢false}
-use Rattle.std.specs.Prelude.{Option, None, Some, filter, slice_get}
-use Rattle.std.specs.List.{flat_map, list_any, range_with_len}
+use Rattle.std.specs.Prelude.{Contains, Option, None, Some, filter, slice_get}
+use Rattle.std.specs.List.{flat_map, range_with_len}
 use Rattle.std.specs.List.Sorted.{IsStrictlySortedBy}
-use Rattle.std.specs.BTreeMap.{is_at}
 use Rattle.std.specs.Ordering.{nat_cmp}
-use Rattle.std.proofs.lemmas.Bool.{cases_lt, or_cases}
-use Rattle.std.proofs.lemmas.Bool.Decides.{nat_tests}
+use Rattle.std.proofs.lemmas.Bool.{cases_lt}
 use Rattle.std.proofs.lemmas.List.{drop_more, drop_all}
 use Rattle.std.proofs.lemmas.Option.{get_or_from_slice_get}
 use Rattle.std.proofs.lemmas.List.Concat.{flat_map-cons}
 use Rattle.org_entry.specs.declared.entry.Entry.{Entry}
 use Rattle.org_index.proofs.CandidateLemmas.{Rise, rises}
+use Rattle.org_index.proofs.FilterLemmas.{contains_cases}
 use Rattle.org_inherit.specs.Scope.{Scope}
 use Rattle.org_agenda.specs.Sources.{file_sources, sources_at, sources_from, sources_of}
 use Rattle.org_agenda.specs.declared.source.HeadingStamp.{HeadingStamp}
@@ -88,15 +87,15 @@ module _ (a : NearQuery) (scope : Scope) (file : ℕ) where
       merged (asked_in a scope file) hs 0 (length scope.entries) up (λ j le. none_past j (omega (arith, le))) (λ j low high out. none j out)
       ∙ entries_near scope.entries 0 (λ k. ap (λ j. slice_get scope.entries j) (let z : 0 + k ≡ k = omega arith in z))
 
--- a place of the set is among those that it gives
-pub among_places : (j : ℕ) (ks : List ℕ) → list_any (is_at (nat_cmp j)) ks ≡ true → Among j ks
-among_places j [] h = absurd (true≢false (sym h))
-among_places j (k ∷ ks) h = elim (or_cases (is_at (nat_cmp j) k) (list_any (is_at (nat_cmp j)) ks) h) [
-  | inl here ↦ inl (grind (arith, nat_tests, here))
+-- a place that is there is among them
+pub among_places : (j : ℕ) (ks : List ℕ) → Contains ks j → Among j ks
+among_places j [] h = absurd (omega (arith, h.1))
+among_places j (k ∷ ks) h = elim (contains_cases k j ks h.0 h.1 h.2) [
+  | inl here ↦ inl (sym here)
   | inr more ↦ inr (among_places j ks more)
 ]
 
--- places of a set rise
+-- places in their order, each once, rise
 pub rise : (ks : List ℕ) → IsStrictlySortedBy nat_cmp ks → Rise 0 ks
 rise ks up = rises ks up
 

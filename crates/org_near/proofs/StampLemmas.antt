@@ -2,7 +2,6 @@
 use Rattle.std.proofs.Common.{◌≡◌, ◌∙◌, ℕ, zero, suc, ◌+◌, ◌<◌, ◌≤◌, List, [], ◌∷◌, ◌++◌, length, take, sym, ap, ap₂, refl, arith}
 use Rattle.std.specs.Prelude.{Option, Some, None, get_or, slice_get}
 use Rattle.std.specs.List.{AllZip, sum_by}
-use Rattle.std.specs.BTreeSet.{BTreeSet}
 use Rattle.std.proofs.lemmas.List.{length-append, take_all, take_more}
 use Rattle.std.proofs.lemmas.List.Sums.{sum_by-cons, sum_by_push}
 use Rattle.org_base.specs.Counts.{Counts}
@@ -39,7 +38,7 @@ zip_at (e ∷ ds) (t ∷ ss) zero d s z lt at there =
     (ap (λ (x : Scope). x.entries) (sym same) ∙ z.0.0 ∙ ap (λ (x : OutlineView). x.entries) (sym at), ap (λ (x : Scope). x.settings) (sym same) ∙ z.0.1 ∙ ap (λ (x : OutlineView). x.settings) (sym at))
 zip_at (e ∷ ds) (t ∷ ss) (suc i) d s z lt at there = zip_at ds ss i d s z.1 (omega (arith, lt)) at there
 
-hold_by : (a : NearQuery) (places : BTreeSet ℕ) (file : ℕ) (d : OutlineView) (scope : Scope) → IsOf d scope → HoldNear a d.settings d.entries places → (i : ℕ) → (HasPlace places i → ⊥) → (o : Option Entry) → slice_get scope.entries i ≡ o → asked_in a scope file i ≡ []
+hold_by : (a : NearQuery) (places : List ℕ) (file : ℕ) (d : OutlineView) (scope : Scope) → IsOf d scope → HoldNear a d.settings d.entries places → (i : ℕ) → (HasPlace places i → ⊥) → (o : Option Entry) → slice_get scope.entries i ≡ o → asked_in a scope file i ≡ []
 hold_by a places file d scope same hold i out None is = ap (λ (x : Option Entry). asked_of a (sources_if scope file i x)) is
 hold_by a places file d scope same hold i out (Some e) is =
     let there : slice_get d.entries i ≡ Some e = ap (λ es. slice_get es i) (sym same.0) ∙ is in
@@ -47,7 +46,7 @@ hold_by a places file d scope same hold i out (Some e) is =
     ap (λ (x : Option Entry). asked_of a (sources_if scope file i x)) is ∙ none_there a scope file i e none
 
 -- what holds of a file holds of what its headings inherit
-pub hold_there : (a : NearQuery) (places : BTreeSet ℕ) (file : ℕ) (d : OutlineView) (scope : Scope) → IsOf d scope → HoldNear a d.settings d.entries places → HoldAskedIn a places file scope
+pub hold_there : (a : NearQuery) (places : List ℕ) (file : ℕ) (d : OutlineView) (scope : Scope) → IsOf d scope → HoldNear a d.settings d.entries places → HoldAskedIn a places file scope
 hold_there a places file d scope same hold i out = hold_by a places file d scope same hold i out (slice_get scope.entries i) refl
 
 -- the near stamps of one file more are counted

@@ -1,6 +1,5 @@
 -- The stamps of headings that are near the days that are asked (profile).
 use Rattle.std.specs.Prelude.{◌≡◌, ℕ, Bool, List, [], Option, None, Some, slice_get}
-use Rattle.std.specs.BTreeSet.{BTreeSet}
 use Rattle.org_entry.specs.declared.entry.Entry.{Entry}
 use Rattle.org_inherit.specs.Scope.{Scope}
 use Rattle.org_agenda.specs.Near.{is_near, near_sources}
@@ -30,6 +29,6 @@ asked_in a scope file i = asked_of a (sources_if scope file i (slice_get scope.e
 abbrev pub asked_of_file : NearQuery → Scope → ℕ → List HeadingStamp
 asked_of_file a scope file = asked_of a (file_sources scope file)
 
--- a heading whose place isn't in the set has no stamp that is near
-abbrev pub HoldAskedIn : NearQuery → BTreeSet ℕ → ℕ → Scope → Type 0
+-- a heading whose place isn't among these has no stamp that is near
+abbrev pub HoldAskedIn : NearQuery → List ℕ → ℕ → Scope → Type 0
 HoldAskedIn a places file scope = (i : ℕ) → (HasPlace places i → ⊥) → asked_in a scope file i ≡ []

@@ -1,10 +1,12 @@
 //! The stamps of files that are near some days.
 ghost use Rattle.std.specs.Prelude.{◌≡◌, [], OnOk};
+ghost use Rattle.std.specs.List.Sorted.{IsStrictlySortedBy};
+ghost use Rattle.std.specs.Ordering.{nat_cmp};
 ghost use Rattle.org_base.specs.Results.{Adds};
 ghost use Rattle.org_agenda.specs.Facts.{HasOwnHead, stamps_at};
 ghost use Rattle.org_agenda.specs.Headings.{HaveHeads};
 ghost use Rattle.org_agenda.specs.Near.{is_reminding};
-ghost use Rattle.org_near.specs.Near.{HoldAskedIn, asked_of, asked_of_file, is_asked};
+ghost use Rattle.org_near.specs.Near.{HoldAskedIn, asked_in, asked_of, asked_of_file, is_asked};
 
 use org_agenda::{HeadingFacts, HeadingStamp, heading_at, write_stamps};
 use org_entry::{EntryStamp, Role};
@@ -12,7 +14,6 @@ use org_index::Reach;
 use org_inherit::Inherit;
 use org_stamp_index::NearQuery;
 use std::alloc::{AllocError, Global};
-use std::collections::BTreeSet;
 
 // The stamps that are near the days, as far as they are found, and those of one heading.
 #[derive(Drop)]
@@ -34,24 +35,38 @@ impl NearStamps {
         }
     }
 
-    // Puts those of a file after others: of the headings in the set, outside which none has any.
+    // Puts those of a file after others: of the headings at these places, beside which none has any.
     pub(crate) fn push_file(
         &mut self,
         file: usize,
         inherit: &Inherit<'_>,
-        places: &BTreeSet<usize>,
+        places: &[usize],
         asked: &NearQuery,
     ) -> Result<(), AllocError>
         requires heads { HaveHeads inherit.now.settings inherit.now.entries }
+        requires once { IsStrictlySortedBy nat_cmp places.now }
         requires all { HoldAskedIn asked.now places.now file inherit.now }
         ensures ok { Adds result self.old.found self.new.found (asked_of_file asked.now inherit.now file) }
     {
-        // For the proof alone: the places of a set rise.
-        let _ordered = places.len();
         for heading in places {
-            if let Some(facts) = heading_at(inherit, file, *heading) {
-                self.push_heading(&facts, asked)?;
-            }
+            self.push_place(file, inherit, *heading, asked)?;
+        }
+        Ok(())
+    }
+
+    // Puts those of the heading at a place after others, if there is one.
+    fn push_place(
+        &mut self,
+        file: usize,
+        inherit: &Inherit<'_>,
+        heading: usize,
+        asked: &NearQuery,
+    ) -> Result<(), AllocError>
+        requires heads { HaveHeads inherit.now.settings inherit.now.entries }
+        ensures ok { Adds result self.old.found self.new.found (asked_in asked.now inherit.now file heading) }
+    {
+        if let Some(facts) = heading_at(inherit, file, heading) {
+            self.push_heading(&facts, asked)?;
         }
         Ok(())
     }

@@ -44,7 +44,7 @@ impl<'a> Stamps for DatedStamps<'a> {
         let mut near = NearStamps::new(alloc);
         for (file, dated) in self.files.iter().enumerate() {
             let places = dated.near(alloc, meter, &asked)?;
-            near.push_file(file, self.inherits.get(file), &places, &asked)?;
+            near.push_file(file, self.inherits.get(file), places.as_slice(), &asked)?;
         }
         Ok(near.found)
     }

@@ -3,7 +3,6 @@ use Rattle.std.proofs.Common.{◌≡◌, ◌∙◌, ℕ, suc, ◌+◌, ◌-◌, 
 use Rattle.std.specs.Prelude.{Some, Contains, filter, nat_le, nat_lt, not, slice_get}
 use Rattle.std.specs.List.{sum_by}
 use Rattle.std.specs.Map.{keys_of}
-use Rattle.std.specs.BTreeSet.{BTreeSet}
 use Rattle.std.proofs.lemmas.Bool.{cases_Bool}
 use Rattle.std.proofs.lemmas.Bool.Decides.{nat_tests}
 use Rattle.std.proofs.lemmas.List.Sums.{sum_by-cons, sum_by-append}
@@ -18,7 +17,7 @@ use Rattle.org_stamp_index.specs.NearQuery.{is_reminding}
 use Rattle.org_entry.specs.declared.active.EntryStamp.{EntryStamp}
 use Rattle.org_stamp_index.specs.NearQuery.{asked_of, is_asked}
 use Rattle.org_stamp_index.specs.Index.{AreHeadingsOf, AreHoused, HaveSame, IsIndexOf, all_ids, ids_of, is_waiting}
-use Rattle.org_stamp_index.specs.Near.{AddHeadings, HasPlace, HoldNear, KeepPlaces, near_in, near_of_entry}
+use Rattle.org_stamp_index.specs.Near.{AddHeadings, HasPlace, HoldNear, HoldNearOf, KeepPlaces, near_in, near_of_entry}
 use Rattle.org_stamp_index.specs.declared.near_query.NearQuery.{NearQuery}
 use Rattle.org_stamp_index.specs.declared.index.StampIndex.{StampIndex}
 use Rattle.org_stamp_index.proofs.HeadingIdLemmas.{housed_at, housed_long, sum_at}
@@ -165,7 +164,7 @@ heading_there heading_of first count place id h l =
     ap (slice_get heading_of) (let z : id ≡ first + (id - first) = omega (arith, low) in z) ∙ h.1 (id - first) (omega (arith, low, high))
 
 -- a heading whose place isn't among those of the ids that pass has no stamp that does
-no_ids : (q : Profile) (wanted : EntryStamp → Bool) (settings : FileSettings) (m : Reach → Bool) (heading_of fs : List ℕ) (es : List Entry) (index : List (ℕ × Reach)) (places : BTreeSet ℕ) (i : ℕ) (e : Entry) →
+no_ids : (q : Profile) (wanted : EntryStamp → Bool) (settings : FileSettings) (m : Reach → Bool) (heading_of fs : List ℕ) (es : List Entry) (index : List (ℕ × Reach)) (places : List ℕ) (i : ℕ) (e : Entry) →
     AreHoused settings heading_of 0 fs es → HaveSame (all_ids q wanted settings fs es) index → AddHeadings heading_of (keys_of (filter (λ (p : ℕ × Reach). m p.1) index)) places → slice_get es i ≡ Some e → (HasPlace places i → ⊥) →
     sum_by (one_if m) (ids_of q wanted (get_or fs i 0) (active_stamps settings e)) ≡ 0
 no_ids q wanted settings m heading_of fs es index places i e housed same adds there out =
@@ -182,7 +181,7 @@ empty : (ss : List EntryStamp) → length ss ≡ 0 → ss ≡ []
 empty [] none = refl
 empty (s ∷ ss) none = absurd (omega (arith, none))
 
-pub hold_near : (a : NearQuery) (x : StampIndex) (one two : BTreeSet ℕ) → x.profile ≡ a.profile → AddHeadings x.heading_of.items (candidate_ids a.from a.to a.today x.reminding) one → KeepPlaces one two → AddHeadings x.heading_of.items (touching_ids a.from a.to x.plain) two →
+pub hold_near : (a : NearQuery) (x : StampIndex) (one two : List ℕ) → x.profile ≡ a.profile → AddHeadings x.heading_of.items (candidate_ids a.from a.to a.today x.reminding) one → KeepPlaces one two → AddHeadings x.heading_of.items (touching_ids a.from a.to x.plain) two →
     (settings : FileSettings) (es : List Entry) → IsIndexOf settings es x → HoldNear a settings es two
 hold_near a x one two same first keeps second settings es is i e there out =
     let q = a.profile in
@@ -193,3 +192,7 @@ hold_near a x one two same first keeps second settings es is i e there out =
     let none = no_ids q is_reminding settings (meets_days a) x.heading_of.items x.first_id_of.items es x.reminding one i e is.housed reminding first there (λ has. out (keeps i has)) in
     let neither = no_ids q is_waiting settings (touches_days a) x.heading_of.items x.first_id_of.items es x.plain two i e is.housed plain second there out in
     empty (asked_of a ss) (let all = stamps_counted a f ss in omega (arith, none, neither, all))
+
+-- places that keep those
+pub hold_kept : (a : NearQuery) (x : StampIndex) (one two : List ℕ) → HoldNearOf a x one → KeepPlaces one two → HoldNearOf a x two
+hold_kept a x one two hold keeps settings es is i e there out = hold settings es is i e there (λ has. out (keeps i has))

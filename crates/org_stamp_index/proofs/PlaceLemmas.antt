@@ -3,48 +3,39 @@ use Rattle.std.proofs.Common.{◌≡◌, ◌∙◌, ℕ, zero, suc, ◌+◌, ◌
 use Rattle.std.specs.Prelude.{None, Some, Contains, Result, Ok, Err, OnErr, slice_get}
 use Rattle.std.specs.Ordering.{nat_cmp}
 use Rattle.std.specs.BTreeMap.{is_at}
-use Rattle.std.specs.BTreeSet.{BTreeSet, contains}
 use Rattle.std.proofs.lemmas.Bool.Decides.{nat_tests}
 use Rattle.std.proofs.lemmas.List.{take_all, take_more}
-use Rattle.std.proofs.lemmas.List.Elements.{Contains-push_cases}
+use Rattle.std.proofs.lemmas.List.Elements.{Contains-append_left, Contains-push, Contains-push_cases}
 use Rattle.org_base.specs.Counts.{Counts, ticked}
 use Rattle.org_base.specs.declared.meter.Tick.TheVariants.{Examine}
 use Rattle.org_index.specs.Ticks.{Examines, examined}
 use Rattle.org_stamp_index.specs.Near.{AddHeadings, AddsHeading, KeepPlaces}
 
-kept_by : (b old new : Bool) → new ≡ cond b true old → old ≡ true → new ≡ true
-kept_by true old new is was = is
-kept_by false old new is was = is ∙ was
-
 -- one place is put in
-pub put_keeps : (k : ℕ) (old new : BTreeSet ℕ) → ((q : ℕ) → contains nat_cmp new q ≡ cond (is_at (nat_cmp k) q) true (contains nat_cmp old q)) → KeepPlaces old new
-put_keeps k old new updates i was = kept_by (is_at (nat_cmp k) i) (contains nat_cmp old i) (contains nat_cmp new i) (updates i) was
+pub put_keeps : (k : ℕ) (old new : List ℕ) → new ≡ old ++ k ∷ [] → KeepPlaces old new
+put_keeps k old new is i was = subst (λ (ys : List ℕ). Contains ys i) (sym is) (Contains-append_left old (k ∷ []) i was)
 
-at_itself : (i : ℕ) → is_at (nat_cmp i) i ≡ true
-at_itself i = grind (arith, nat_tests)
-
-pub put_adds : (heading_of : List ℕ) (id k : ℕ) (old new : BTreeSet ℕ) → slice_get heading_of id ≡ Some k → ((q : ℕ) → contains nat_cmp new q ≡ cond (is_at (nat_cmp k) q) true (contains nat_cmp old q)) → AddsHeading heading_of id new
-put_adds heading_of id k old new is updates i at =
+pub put_adds : (heading_of : List ℕ) (id k : ℕ) (old new : List ℕ) → slice_get heading_of id ≡ Some k → new ≡ old ++ k ∷ [] → AddsHeading heading_of id new
+put_adds heading_of id k old new is more i at =
     let same : k ≡ i = cc in
-    let hit : is_at (nat_cmp k) i ≡ true = ap (λ n. is_at (nat_cmp n) i) same ∙ at_itself i in
-    updates i ∙ ap (λ b. cond b true (contains nat_cmp old i)) hit
+    subst (λ (n : ℕ). Contains new n) same (subst (λ (ys : List ℕ). Contains ys k) (sym more) (Contains-push old k))
 
-pub none_adds : (heading_of : List ℕ) (id : ℕ) (new : BTreeSet ℕ) → slice_get heading_of id ≡ None → AddsHeading heading_of id new
+pub none_adds : (heading_of : List ℕ) (id : ℕ) (new : List ℕ) → slice_get heading_of id ≡ None → AddsHeading heading_of id new
 none_adds heading_of id new is i at = absurd (cc)
 
 -- the places of one id more
-pub adds_more : (heading_of ids : List ℕ) (n id : ℕ) (old new : BTreeSet ℕ) → n < length ids → id ≡ get_or ids n id → AddHeadings heading_of (take n ids) old → KeepPlaces old new → AddsHeading heading_of id new → AddHeadings heading_of (take (n + 1) ids) new
+pub adds_more : (heading_of ids : List ℕ) (n id : ℕ) (old new : List ℕ) → n < length ids → id ≡ get_or ids n 0 → AddHeadings heading_of (take n ids) old → KeepPlaces old new → AddsHeading heading_of id new → AddHeadings heading_of (take (n + 1) ids) new
 adds_more heading_of ids n id old new lt is had keeps one x i at there =
-    let more : take (n + 1) ids ≡ take n ids ++ id ∷ [] = take_more ids n id lt ∙ ap (λ y. take n ids ++ y ∷ []) (sym is) in
+    let more : take (n + 1) ids ≡ take n ids ++ id ∷ [] = take_more ids n 0 lt ∙ ap (λ y. take n ids ++ y ∷ []) (sym is) in
     elim (Contains-push_cases (take n ids) id x (subst (λ (ys : List ℕ). Contains ys x) more at)) [
       | inl before ↦ keeps i (had x i before there)
       | inr now' ↦ one i (ap (slice_get heading_of) now' ∙ there)
     ]
 
-pub adds_whole : (heading_of ids : List ℕ) (n : ℕ) (new : BTreeSet ℕ) → length ids ≤ n → AddHeadings heading_of (take n ids) new → AddHeadings heading_of ids new
+pub adds_whole : (heading_of ids : List ℕ) (n : ℕ) (new : List ℕ) → length ids ≤ n → AddHeadings heading_of (take n ids) new → AddHeadings heading_of ids new
 adds_whole heading_of ids n new le adds = subst (λ (ys : List ℕ). AddHeadings heading_of ys new) (take_all n ids le) adds
 
-pub adds_none : (heading_of ids : List ℕ) (new : BTreeSet ℕ) → AddHeadings heading_of (take 0 ids) new
+pub adds_none : (heading_of ids : List ℕ) (new : List ℕ) → AddHeadings heading_of (take 0 ids) new
 adds_none heading_of ids new id i at there = absurd (let none : take 0 ids ≡ [] = refl in omega (arith, at.1))
 
 pub examined_sum : (a b : ℕ) (counts : Counts) → examined b (examined a counts) ≡ examined (a + b) counts

@@ -1,8 +1,6 @@
 -- The headings that own a stamp near the days that are asked (profile).
-use Rattle.std.specs.Prelude.{◌≡◌, ℕ, List, [], Some, IsTrue, Contains, length, slice_get}
-use Rattle.std.specs.BTreeSet.{BTreeSet, contains}
+use Rattle.std.specs.Prelude.{◌≡◌, ℕ, List, [], Some, Contains, length, slice_get}
 use Rattle.std.specs.List.{sum_by}
-use Rattle.std.specs.Ordering.{nat_cmp}
 use Rattle.org_base.specs.Counts.{Counts}
 use Rattle.org_entry.specs.declared.entry.Entry.{Entry}
 use Rattle.org_index.specs.Ticks.{examined}
@@ -13,12 +11,12 @@ use Rattle.org_stamp_index.specs.Index.{IsIndexOf}
 use Rattle.org_stamp_index.specs.declared.near_query.NearQuery.{NearQuery}
 use Rattle.org_stamp_index.specs.declared.index.StampIndex.{StampIndex}
 
--- the set has the place
-abbrev pub HasPlace : BTreeSet ℕ → ℕ → Type 0
-HasPlace places i = IsTrue (contains nat_cmp places i)
+-- the place is among these
+abbrev pub HasPlace : List ℕ → ℕ → Type 0
+HasPlace places i = Contains places i
 
--- an entry whose place isn't in the set has no stamp that is near
-abbrev pub HoldNear : NearQuery → FileSettings → List Entry → BTreeSet ℕ → Type 0
+-- an entry whose place isn't among these has no stamp that is near
+abbrev pub HoldNear : NearQuery → FileSettings → List Entry → List ℕ → Type 0
 HoldNear a settings es places =
     (i : ℕ) (e : Entry) → slice_get es i ≡ Some e → (HasPlace places i → ⊥) → asked_of a (active_stamps settings e) ≡ []
 
@@ -35,20 +33,20 @@ abbrev pub CountsNear : NearQuery → FileSettings → List Entry → Counts →
 CountsNear a settings es old new = new ≡ examined (near_in a settings es) old
 
 -- the same of the entries whose stamps indexes have
-abbrev pub HoldNearOf : NearQuery → StampIndex → BTreeSet ℕ → Type 0
+abbrev pub HoldNearOf : NearQuery → StampIndex → List ℕ → Type 0
 HoldNearOf a x places = (settings : FileSettings) (es : List Entry) → IsIndexOf settings es x → HoldNear a settings es places
 
 abbrev pub CountsNearOf : NearQuery → StampIndex → Counts → Counts → Type 0
 CountsNearOf a x old new = (settings : FileSettings) (es : List Entry) → IsIndexOf settings es x → CountsNear a settings es old new
 
 -- nothing is lost
-abbrev pub KeepPlaces : BTreeSet ℕ → BTreeSet ℕ → Type 0
+abbrev pub KeepPlaces : List ℕ → List ℕ → Type 0
 KeepPlaces old new = (i : ℕ) → HasPlace old i → HasPlace new i
 
 -- the place of an id is there
-abbrev pub AddsHeading : List ℕ → ℕ → BTreeSet ℕ → Type 0
+abbrev pub AddsHeading : List ℕ → ℕ → List ℕ → Type 0
 AddsHeading heading_of id new = (i : ℕ) → slice_get heading_of id ≡ Some i → HasPlace new i
 
 -- the places of these ids are there
-abbrev pub AddHeadings : List ℕ → List ℕ → BTreeSet ℕ → Type 0
+abbrev pub AddHeadings : List ℕ → List ℕ → List ℕ → Type 0
 AddHeadings heading_of ids new = (id i : ℕ) → Contains ids id → slice_get heading_of id ≡ Some i → HasPlace new i

@@ -1,22 +1,23 @@
 //! The places of headings by the ids of their stamps.
 ghost use Rattle.std.specs.Prelude.{◌≡◌, ◌≤◌, length, map, OnOk};
 ghost use Rattle.std.specs.List.{splice};
+ghost use Rattle.std.specs.List.Sorted.{IsStrictlySortedBy};
+ghost use Rattle.std.specs.Ordering.{nat_cmp};
 ghost use Rattle.org_base.specs.Results.{GivesItems};
 ghost use Rattle.org_stamp_index.specs.Index.{moved};
 ghost use Rattle.org_stamp_index.specs.Near.{AddHeadings, AddsHeading, KeepPlaces};
 
 use std::alloc::{AllocError, Global};
-use std::collections::BTreeSet;
 use std::ops::Range;
 
 // The places of these ids, with those that are there already.
 pub(crate) fn add_headings(
-    places: &mut BTreeSet<usize>,
+    places: &mut Vec<usize>,
     heading_of: &[usize],
     ids: &[u32],
 ) -> Result<(), AllocError>
-    ensures keeps { OnOk result (KeepPlaces places.old places.new) }
-    ensures adds { OnOk result (AddHeadings heading_of.now ids.now places.new) }
+    ensures keeps { OnOk result (KeepPlaces places.old.items places.new.items) }
+    ensures adds { OnOk result (AddHeadings heading_of.now ids.now places.new.items) }
 {
     for id in ids {
         add_heading(places, heading_of, *id)?;
@@ -25,18 +26,23 @@ pub(crate) fn add_headings(
 }
 
 // The place of an id, if it has one, with those that are there already.
-fn add_heading(
-    places: &mut BTreeSet<usize>,
-    heading_of: &[usize],
-    id: u32,
-) -> Result<(), AllocError>
-    ensures keeps { OnOk result (KeepPlaces places.old places.new) }
-    ensures adds { OnOk result (AddsHeading heading_of.now id places.new) }
+fn add_heading(places: &mut Vec<usize>, heading_of: &[usize], id: u32) -> Result<(), AllocError>
+    ensures keeps { OnOk result (KeepPlaces places.old.items places.new.items) }
+    ensures adds { OnOk result (AddsHeading heading_of.now id places.new.items) }
 {
     if let Some(heading) = heading_of.get(id as usize) {
-        places.insert(*heading)?;
+        places.push(*heading)?;
     }
     Ok(())
+}
+
+// Brings places into their order; of equal ones one stays.
+pub(crate) fn sort_once(places: &mut Vec<usize>)
+    ensures keeps { KeepPlaces places.old.items places.new.items }
+    ensures once { IsStrictlySortedBy nat_cmp places.new.items }
+{
+    places.sort_unstable();
+    places.dedup();
 }
 
 // Gives places their new numbers, where what stands at an end and after it begins at another place.

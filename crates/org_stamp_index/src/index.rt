@@ -1,11 +1,13 @@
 //! The stamps of a file's headings, found by days.
 ghost use Rattle.std.specs.Prelude.{◌≡◌, ◌≤◌, ◌<◌, ◌+◌, ◌^◌, ◌∷◌, [], true, get_or, length, IfOk, OnErr, OnOk, IsOkUnless};
+ghost use Rattle.std.specs.List.Sorted.{IsStrictlySortedBy};
+ghost use Rattle.std.specs.Ordering.{nat_cmp};
 ghost use Rattle.org_base.specs.Codes.{memory_fault};
 ghost use Rattle.org_index.specs.Ticks.{Examines};
 ghost use Rattle.org_stamp_index.specs.Index.{AreFresh, HasPut, HasSet, HasTaken, HaveTaken, IsCopy, IsIndexOf, IsReplaced, PutsIds};
 ghost use Rattle.org_stamp_index.specs.Near.{CountsNearOf, HoldNearOf};
 
-use crate::heading_ids::{add_headings, renumber_headings, splice_ids};
+use crate::heading_ids::{add_headings, renumber_headings, sort_once, splice_ids};
 use crate::near_query::{NearQuery, is_reminding};
 use org_base::{Code, Fault, Meter, Profile};
 use org_entry::{Entry, EntryStamp, write_active};
@@ -13,7 +15,6 @@ use org_index::DayIndex;
 use org_outline::Outline;
 use org_settings::Settings;
 use std::alloc::Global;
-use std::collections::BTreeSet;
 use std::ops::Range;
 use std::rc::Rc;
 
@@ -263,17 +264,18 @@ impl StampIndex {
         })
     }
 
-    // The places of the headings that own a stamp near the days; each such stamp is examined, as the meter counts. Out of memory
-    // is the only refusal, and then some may have been counted.
+    // The places of the headings that own a stamp near the days, ascending; each such stamp is examined, as the meter counts. Out
+    // of memory is the only refusal, and then some may have been counted.
     pub(crate) fn near(
         &self,
         alloc: Global,
         meter: &mut Meter,
         asked: &NearQuery,
-    ) -> Result<BTreeSet<usize>, Fault>
+    ) -> Result<Vec<usize>, Fault>
         requires order { asked.now.from ≤ asked.now.to }
         requires profile { asked.now.profile ≡ self.now.profile }
-        ensures value { IfOk result (HoldNearOf asked.now self.now) }
+        ensures value { IfOk result (λ places. HoldNearOf asked.now self.now places.items) }
+        ensures once { IfOk result (λ places. IsStrictlySortedBy nat_cmp places.items) }
         ensures counts { OnOk result (CountsNearOf asked.now self.now meter.old meter.new) }
         ensures partial { OnErr result (Examines meter.old meter.new) }
         ensures memory { IsOkUnless result memory_fault }
@@ -281,13 +283,14 @@ impl StampIndex {
         let (from, to) = (asked.from, asked.to);
         let reminding = self.reminding.candidates(meter, from, to, asked.today)?;
         let plain = self.plain.ids_touching(meter, from, to)?;
-        let mut places = BTreeSet::new(alloc);
+        let mut places = Vec::new(alloc);
         add_headings(
             &mut places,
             self.heading_of.as_slice(),
             reminding.as_slice(),
         )?;
         add_headings(&mut places, self.heading_of.as_slice(), plain.as_slice())?;
+        sort_once(&mut places);
         Ok(places)
     }
 }

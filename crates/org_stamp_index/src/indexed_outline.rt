@@ -1,6 +1,8 @@
 //! An outline with its stamps by days.
 ghost use Rattle.std.specs.Prelude.{◌≡◌, ◌<◌, ◌≤◌, length, slice_set, IfOk, OnErr, OnOk, IsOkUnless};
 ghost use Rattle.std.specs.List.{splice};
+ghost use Rattle.std.specs.List.Sorted.{IsStrictlySortedBy};
+ghost use Rattle.std.specs.Ordering.{nat_cmp};
 ghost use Rattle.org_base.specs.Codes.{memory_fault};
 ghost use Rattle.org_base.specs.Results.{Gives};
 ghost use Rattle.org_stamp_index.specs.Held.{KeepsIndexOf};
@@ -15,7 +17,6 @@ use org_entry::Entry;
 use org_outline::{Entries, Outline};
 use org_settings::Settings;
 use std::alloc::Global;
-use std::collections::BTreeSet;
 use std::marker::Model;
 use std::ops::Range;
 use std::rc::Rc;
@@ -166,8 +167,8 @@ impl IndexedOutline {
         Ok(())
     }
 
-    // The places of the headings that own a stamp near the days, as it is read by settings; each such stamp is examined, as the
-    // meter counts. Where the stamps aren't kept so by days, they are brought so for this call. Out of memory is the only
+    // The places of the headings that own a stamp near the days, as it is read by settings, ascending; each such stamp is examined,
+    // as the meter counts. Where the stamps aren't kept so by days, they are brought so for this call. Out of memory is the only
     // refusal, and then some may have been counted.
     pub(crate) fn near(
         &self,
@@ -175,9 +176,10 @@ impl IndexedOutline {
         meter: &mut Meter,
         settings: &Rc<Settings>,
         asked: &NearQuery,
-    ) -> Result<BTreeSet<usize>, Fault>
+    ) -> Result<Vec<usize>, Fault>
         requires order { asked.now.from ≤ asked.now.to }
-        ensures value { IfOk result (HoldNear asked.now settings.now.value self.now) }
+        ensures value { IfOk result (λ places. HoldNear asked.now settings.now.value self.now places.items) }
+        ensures once { IfOk result (λ places. IsStrictlySortedBy nat_cmp places.items) }
         ensures counts { OnOk result (CountsNear asked.now settings.now.value self.now meter.old meter.new) }
         ensures partial { OnErr result (Examines meter.old meter.new) }
         ensures memory { IsOkUnless result memory_fault }

@@ -1,5 +1,7 @@
 //! What a file says.
 ghost use Rattle.std.specs.Prelude.{◌≡◌, ◌≤◌, IfOk, OnErr, OnOk, IsOkUnless};
+ghost use Rattle.std.specs.List.Sorted.{IsStrictlySortedBy};
+ghost use Rattle.std.specs.Ordering.{nat_cmp};
 ghost use Rattle.org_base.specs.Codes.{memory_fault};
 ghost use Rattle.org_base.specs.Results.{Gives};
 ghost use Rattle.org_stamp_index.specs.Held.{scope_in};
@@ -12,7 +14,6 @@ use org_base::{Fault, Meter, Texts};
 use org_inherit::Inherit;
 use org_settings::Settings;
 use std::alloc::Global;
-use std::collections::BTreeSet;
 use std::marker::Model;
 use std::rc::Rc;
 
@@ -71,16 +72,17 @@ impl ParsedFile {
         Inherit::by_ancestors(alloc, outline, self.settings.as_ref(), name, inherited)
     }
 
-    /// The places of the headings that own a stamp near the days; each such stamp is examined, as the meter counts. Want of
-    /// memory is the only refusal, and then some may have been counted.
+    /// The places of the headings that own a stamp near the days, ascending, each once; each such stamp is examined, as the meter
+    /// counts. Want of memory is the only refusal, and then some may have been counted.
     pub fn near(
         &self,
         alloc: Global,
         meter: &mut Meter,
         asked: &NearQuery,
-    ) -> Result<BTreeSet<usize>, Fault>
+    ) -> Result<Vec<usize>, Fault>
         requires order { asked.now.from ≤ asked.now.to }
-        ensures value { IfOk result (HoldNear asked.now self.now.settings self.now.entries) }
+        ensures value { IfOk result (λ places. HoldNear asked.now self.now.settings self.now.entries places.items) }
+        ensures once { IfOk result (λ places. IsStrictlySortedBy nat_cmp places.items) }
         ensures counts { OnOk result (CountsNear asked.now self.now.settings self.now.entries meter.old meter.new) }
         ensures partial { OnErr result (Examines meter.old meter.new) }
         ensures memory { IsOkUnless result memory_fault }

@@ -4,6 +4,6 @@ use Rattle.org_stamp_index.proofs.heading_ids.add_headings.Given as goal
 
 abbrev pub invariant-loop-id : goal.invariant-loop-id
 invariant-loop-id l = record {
-  keeps : KeepPlaces l.fn.places l.places;
-  adds : AddHeadings l.heading_of (take l.id-index l.ids) l.places;
+  keeps : KeepPlaces l.fn.places.items l.places.items;
+  adds : AddHeadings l.heading_of (take l.id-index l.ids) l.places.items;
 }

@@ -1,4 +1,5 @@
-use Rattle.std.proofs.Common.{◌∙◌, ◌<◌, ◌≤◌, List, arith, ap, length, take}
+use Rattle.std.proofs.Common.{◌∙◌, ◌<◌, ◌≤◌, ℕ, List, arith, ap, length, subst, sym, take}
+use Rattle.org_near.specs.Near.{HoldAskedIn}
 use Rattle.org_index.specs.Ticks.{examined}
 use Rattle.org_inherit.specs.Scope.{Scope}
 use Rattle.org_agenda.specs.Days.{day_rows}
@@ -24,8 +25,9 @@ get-requires c = omega (arith, c.loop-file-test.true, zip_long c.args.self.now.f
 pub push_file-requires-clause-all : goal.push_file-requires-clause-all
 push_file-requires-clause-all c =
     let a : NearQuery = record { profile = c.args.as_of.now.profile; today = c.args.as_of.now.today; from = c.args.from; to = c.args.to } in
-    hold_there a c.in_ok-places.places c.loop-file.file c.dated-item.result c.get.result.now
-    (zip_at c.args.self.now.files.now c.args.self.now.inherits.now c.loop-file.file c.dated-item.result c.get.result.now c.requires.stands.same c.loop-file-test.true c.dated-item.is c.get.ensures.value) c.in_ok-places.ensures.value
+    let hold = hold_there a c.in_ok-places.places.items c.loop-file.file c.dated-item.result c.get.result.now
+    (zip_at c.args.self.now.files.now c.args.self.now.inherits.now c.loop-file.file c.dated-item.result c.get.result.now c.requires.stands.same c.loop-file-test.true c.dated-item.is c.get.ensures.value) c.in_ok-places.ensures.value in
+    subst (λ (hs : List ℕ). HoldAskedIn a hs c.loop-file.file c.get.result.now) (sym c.as_slice.ensures.value) hold
 
 pub returns-in_err-push_file-clause-partial : goal.returns-in_err-push_file-clause-partial
 returns-in_err-push_file-clause-partial c =
