@@ -1,15 +1,16 @@
 //! Weeks of rows: which bars lie in which lanes, and what each cell shows.
 ghost use Rattle.std.specs.Prelude.{◌≡◌, ◌<◌, ◌-◌, IfOk, map, vec_len};
 ghost use Rattle.org_look.specs.Ranges.{AddsBars, bar_of, bars_for, bars_from, bars_of_lengths, day_bars, entry_bars};
-ghost use Rattle.org_look.specs.Weeks.{HoldsRows, LiesApart, spans_of};
+ghost use Rattle.org_look.specs.Weeks.{HoldsLabels, HoldsRows, LiesApart, spans_of};
 
-use crate::cell::{Cell, Shape};
+use crate::cell::{Cell, Note, Shape};
 use crate::day::GridDay;
-use crate::entry::{Entry, Share, Stand, copy, own_labels};
+use crate::entry::{Entry, Share, Stand, copy, own_labels, own_tones};
 use crate::lanes::lanes_of;
+use crate::sheet::Tone;
 use crate::span::{Bar, Span};
 use crate::week::Week;
-use crate::wrap::broken_labels;
+use crate::wrap::{Labels, broken_labels};
 use std::alloc::{AllocError, Global};
 
 /// How cells are filled: the most lines of a cell, and of how many columns the lines of a row are that is broken into several;
@@ -150,6 +151,7 @@ fn push_bar(
         is_begun: day > 1,
         goes_on: column + ahead > 6,
         label,
+        tone: entry.tone,
     })?;
     Ok(())
 }
@@ -226,14 +228,11 @@ fn set_heights(cells: &mut Vec<Cell>, height: usize)
 fn cell_of(alloc: Global, day: &GridDay, cover: Cover, plan: &Plan) -> Result<Cell, AllocError>
     ensures labels { HoldsRows result plan.now.breaks day.now.entries.items }
 {
-    let labels = match plan.breaks {
-        Some(columns) => broken_labels(alloc, day.entries.as_slice(), columns)?,
-        None => own_labels(alloc, day.entries.as_slice())?,
-    };
+    let labels = labels_of(alloc, day.entries.as_slice(), plan)?;
     let notes = notes_of(alloc, day.entries.as_slice())?;
     let taken = cover.lanes.saturating_add(notes.len());
     let share = Share::of(
-        labels.len(),
+        labels.texts.len(),
         cover.bars,
         plan.lines.saturating_sub(taken).max(1),
     );
@@ -246,37 +245,47 @@ fn cell_of(alloc: Global, day: &GridDay, cover: Cover, plan: &Plan) -> Result<Ce
     };
     Ok(Cell {
         number: copy(alloc, day.number.as_str())?,
-        labels,
+        tone: day.tone(),
+        labels: labels.texts,
+        tones: labels.tones,
         notes,
         shape,
     })
 }
 
+// What is shown of the rows that the cell of a day holds.
+fn labels_of(alloc: Global, entries: &[Entry], plan: &Plan) -> Result<Labels, AllocError>
+    ensures { HoldsLabels result plan.now.breaks entries.now }
+{
+    if let Some(columns) = plan.breaks {
+        return broken_labels(alloc, entries, columns);
+    }
+    Ok(Labels {
+        texts: own_labels(alloc, entries)?,
+        tones: own_tones(alloc, entries)?,
+    })
+}
+
 /// How many rows of a day are late, and how many are due soon.
-pub fn notes_of(alloc: Global, entries: &[Entry]) -> Result<Vec<String>, AllocError> {
+pub fn notes_of(alloc: Global, entries: &[Entry]) -> Result<Vec<Note>, AllocError> {
+    let late = count_of(entries, Stand::Late);
+    let soon = count_of(entries, Stand::Soon);
     let mut notes = Vec::new(alloc);
-    push_note(alloc, &mut notes, count_of(entries, Stand::Late), "late")?;
-    push_note(
-        alloc,
-        &mut notes,
-        count_of(entries, Stand::Soon),
-        "due soon",
-    )?;
+    if late > 0 {
+        notes.push(Note {
+            text: format!(in alloc; "{late} late")?,
+            tone: Tone::Late,
+        })?;
+    }
+    if soon > 0 {
+        notes.push(Note {
+            text: format!(in alloc; "{soon} due soon")?,
+            tone: Tone::Soon,
+        })?;
+    }
     Ok(notes)
 }
 
 fn count_of(entries: &[Entry], stand: Stand) -> usize {
     entries.iter().filter(|entry| entry.stand == stand).count()
-}
-
-fn push_note(
-    alloc: Global,
-    notes: &mut Vec<String>,
-    count: usize,
-    name: &str,
-) -> Result<(), AllocError> {
-    if count > 0 {
-        notes.push(format!(in alloc; "{count} {name}")?)?;
-    }
-    Ok(())
 }

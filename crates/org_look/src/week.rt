@@ -82,7 +82,7 @@ impl Week {
     {
         let mut strips = Vec::new(alloc);
         for cell in &self.cells {
-            strips.push(fill_text(alloc, cell.number.as_str(), grid.cell, grid.signs)?)?;
+            strips.push(cell.head(alloc, grid.cell, grid.signs)?)?;
         }
         let front = fill_text(alloc, self.number.as_str(), 3, grid.signs)?;
         join_strips(alloc, &front, strips.as_slice(), grid.signs)
