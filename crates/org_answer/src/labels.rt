@@ -7,7 +7,7 @@ use org_base::Fault;
 use org_cal::push_time;
 use org_client::title_words;
 use org_inherit::{Heading, Inherits};
-use org_look::{Entry, Signs, Stand};
+use org_look::{Entry, Signs, Stand, Tone};
 use std::alloc::{AllocError, Global};
 
 /// How rows are said: with their times and keywords or without, and by which signs.
@@ -33,6 +33,7 @@ pub(crate) fn entries_of(
         entries.push(Entry {
             stand: stand_of(row),
             label,
+            tone: tone_of(inherits, row),
         })?;
     }
     Ok(entries)
@@ -46,6 +47,23 @@ fn stand_of(row: &Row) -> Stand
         RowKind::LateSchedule | RowKind::LateDeadline => Stand::Late,
         RowKind::Warning => Stand::Soon,
         RowKind::Listed | RowKind::OnDay | RowKind::OnSchedule | RowKind::OnDeadline => Stand::Own,
+    }
+}
+
+/// The colour of a row: that of its file, unless it is late or due.
+pub(crate) fn tone_of(inherits: &Inherits<'_>, row: &Row) -> Tone {
+    match row.kind {
+        RowKind::LateSchedule | RowKind::LateDeadline => Tone::Late,
+        RowKind::Warning => Tone::Soon,
+        RowKind::OnDeadline if !is_done(inherits, row) => Tone::Soon,
+        _ => Tone::File(row.file),
+    }
+}
+
+fn is_done(inherits: &Inherits<'_>, row: &Row) -> bool {
+    match Heading::find(inherits, row.file, row.heading) {
+        Some(heading) => heading.is_done(),
+        None => false,
     }
 }
 

@@ -1,10 +1,11 @@
 -- Weeks and their bars.
-use Rattle.std.specs.Prelude.{◌≡◌, ℕ, List, Option, None, Result, IfOk, map}
+use Rattle.std.specs.Prelude.{◌≡◌, ℕ, ◌+◌, ◌-◌, max, List, Option, None, Result, IfOk, map, vec_len}
 use Rattle.std.specs.String.{string_bytes}
-use Rattle.org_look.specs.Entries.{own_labels}
+use Rattle.org_look.specs.Entries.{left_count, own_labels, shown_count}
 use Rattle.org_look.specs.Lanes.{AreApart}
 use Rattle.org_look.specs.declared.span.Bar.{Bar}
 use Rattle.org_look.specs.declared.cell.Cell.{Cell}
+use Rattle.org_look.specs.declared.cell.Shape.{Shape}
 use Rattle.org_look.specs.declared.entry.Entry.{Entry}
 use Rattle.org_look.specs.declared.span.Span.{Span}
 use Rattle.org_look.specs.declared.week.Week.{Week}
@@ -25,3 +26,13 @@ HoldsLabels result breaks entries = breaks ≡ None → IfOk result (λ labels. 
 -- a cell has the labels of a day's own rows, unless they are broken into lines or memory is refused
 abbrev pub HoldsRows : {E : Type 0} → Result Cell E → Option ℕ → List Entry → Type 0
 HoldsRows result breaks entries = breaks ≡ None → IfOk result (λ cell. map string_bytes cell.labels.items ≡ own_labels entries)
+
+-- the lines that are left for the rows of a cell, at least one
+abbrev pub room_of : ℕ → Shape → ℕ
+room_of lines shape = max (lines - (shape.lanes + shape.notes)) 1
+
+-- a cell shows as many of its rows as have room, and counts all others with the bars that have no line, unless memory is refused
+abbrev pub SharesRows : {E : Type 0} → Result Cell E → ℕ → ℕ → Type 0
+SharesRows result bars lines = IfOk result (λ cell.
+    (cell.shape.shown ≡ shown_count (vec_len cell.labels) bars (room_of lines cell.shape))
+    × (cell.shape.left ≡ left_count (vec_len cell.labels) bars (room_of lines cell.shape)))

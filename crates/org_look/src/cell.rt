@@ -110,7 +110,7 @@ impl Cell {
         requires room { 2 ≤ columns }
         ensures wide { GivesWide result columns }
     {
-        fill_text(alloc, self.number.as_str(), columns, signs)?.toned(self.tone)
+        fill_text(alloc, self.number.as_str(), columns, signs)?.in_tone(self.tone)
     }
 
     /// A line of the cell in so many columns.
@@ -147,7 +147,7 @@ impl Cell {
             None => "",
         };
         let tone = self.tones.get(place).copied().unwrap_or(Tone::Plain);
-        row_strip(alloc, label, columns, signs)?.toned(tone)
+        row_strip(alloc, label, columns, signs)?.in_tone(tone)
     }
 
     fn note(
@@ -161,7 +161,7 @@ impl Cell {
         ensures wide { GivesWide result columns }
     {
         match self.notes.get(place) {
-            Some(note) => fill_text(alloc, note.text.as_str(), columns, signs)?.toned(note.tone),
+            Some(note) => fill_text(alloc, note.text.as_str(), columns, signs)?.in_tone(note.tone),
             None => fill_text(alloc, "", columns, signs),
         }
     }
@@ -187,5 +187,5 @@ fn others_strip(
     ensures wide { GivesWide result columns }
 {
     let text = format!(in alloc; "+{left} more")?;
-    fill_text(alloc, text.as_str(), columns, signs)?.toned(Tone::Faint)
+    fill_text(alloc, text.as_str(), columns, signs)?.in_tone(Tone::Faint)
 }

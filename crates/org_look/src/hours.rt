@@ -177,7 +177,7 @@ impl Hours<'_, '_, '_, '_> {
                 self.look.signs,
             )?;
             let strip = fill_text(alloc, text.as_str(), width.max(1), self.look.signs)?;
-            out.push_strip(&strip.toned(tone_of(row))?)?;
+            out.push_strip(&strip.in_tone(tone_of(row))?)?;
         }
         Ok(())
     }

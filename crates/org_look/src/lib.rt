@@ -15,8 +15,8 @@
 //! planned.push(Week::of(alloc, number, week.days.as_slice(), &plan)?)?;
 //! // ..
 //! for line in &grid_lines(alloc, planned.as_slice(), grid)? {
-//!     out.push_str(line.text.as_str())?;
-//!     out.push('\n')?;
+//!     out.push_strip(line)?;
+//!     out.text.push('\n')?;
 //! }
 //! ```
 //!

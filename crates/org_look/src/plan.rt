@@ -1,7 +1,7 @@
 //! Weeks of rows: which bars lie in which lanes, and what each cell shows.
 ghost use Rattle.std.specs.Prelude.{◌≡◌, ◌<◌, ◌-◌, IfOk, map, vec_len};
 ghost use Rattle.org_look.specs.Ranges.{AddsBars, bar_of, bars_for, bars_from, bars_of_lengths, day_bars, entry_bars};
-ghost use Rattle.org_look.specs.Weeks.{HoldsLabels, HoldsRows, LiesApart, spans_of};
+ghost use Rattle.org_look.specs.Weeks.{HoldsLabels, HoldsRows, LiesApart, SharesRows, spans_of};
 
 use crate::cell::{Cell, Note, Shape};
 use crate::day::GridDay;
@@ -227,6 +227,7 @@ fn set_heights(cells: &mut Vec<Cell>, height: usize)
 
 fn cell_of(alloc: Global, day: &GridDay, cover: Cover, plan: &Plan) -> Result<Cell, AllocError>
     ensures labels { HoldsRows result plan.now.breaks day.now.entries.items }
+    ensures share { SharesRows result cover.bars plan.now.lines }
 {
     let labels = labels_of(alloc, day.entries.as_slice(), plan)?;
     let notes = notes_of(alloc, day.entries.as_slice())?;

@@ -111,7 +111,7 @@ impl Stain {
 
 impl Strip {
     /// The strip in a colour.
-    pub fn toned(self, tone: Tone) -> Result<Strip, AllocError>
+    pub fn in_tone(self, tone: Tone) -> Result<Strip, AllocError>
         ensures text { IfOk result (λ strip. strip.text ≡ self.text) }
         ensures wide { GivesWide result self.columns }
     {

@@ -237,7 +237,7 @@ fn printed_of(
     }
     if look.form == Form::Plain {
         if let Some(picture) = picture_of(alloc, inherits, question)? {
-            let text = picture_bytes(alloc, picture.text.as_str(), look.is_seen)?;
+            let text = picture_bytes(alloc, &picture.sheet, look)?;
             return Ok((picture.has_row, text));
         }
     }

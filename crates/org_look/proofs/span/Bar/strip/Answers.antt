@@ -11,4 +11,4 @@ returns c =
     let wide : c.of.result.columns ≡ c.args.columns =
     sym c.of.result.is_wide ∙ ap (λ t. columns_of (string_bytes t)) c.of.ensures.value ∙ ap columns_of c.in_ok-text.ensures.value
     ∙ bars_are_wide c.args.signs bar.is_begun bar.goes_on c.args.columns (string_bytes bar.label) c.requires.room (IsUtf8-string_bytes bar.label) in
-    record { wide = subst (GivesWide c.toned.result) wide c.toned.ensures.wide }
+    record { wide = subst (GivesWide c.in_tone.result) wide c.in_tone.ensures.wide }
