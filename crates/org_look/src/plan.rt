@@ -48,6 +48,7 @@ impl Week {
             cells,
             bars,
             lanes,
+            most,
         })
     }
 }
