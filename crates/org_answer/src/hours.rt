@@ -184,7 +184,14 @@ impl Page<'_, '_> {
         if part == Part::Soon {
             own.sort_by_key(|row| row.number)?;
         }
-        push_name(out, if part == Part::Late { "Late" } else { "Due soon" })?;
+        push_name(
+            out,
+            if part == Part::Late {
+                "Late"
+            } else {
+                "Due soon"
+            },
+        )?;
         for row in &own {
             self.push_row(alloc, out, row)?;
         }
@@ -208,6 +215,7 @@ impl Page<'_, '_> {
             has_time: false,
             has_keyword: true,
             signs: self.look.signs,
+            most: None,
         };
         label_of(alloc, self.inherits, row, &wording)
     }

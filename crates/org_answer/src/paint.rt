@@ -99,12 +99,7 @@ fn cut_at(text: &str, place: usize) -> (&str, &str)
 }
 
 // Appends a part of a line in its colour.
-fn push_part(
-    out: &mut Vec<u8>,
-    tone: Tone,
-    text: &str,
-    is_seen: bool,
-) -> Result<(), AllocError>
+fn push_part(out: &mut Vec<u8>, tone: Tone, text: &str, is_seen: bool) -> Result<(), AllocError>
     ensures { OnOk result (IsPainted is_seen text.now out.old.items out.new.items) }
 {
     if text.is_empty() {

@@ -45,6 +45,7 @@ pub fn calendar_picture(
             has_keyword: calendar.view == View::Week || grid.is_none(),
             has_time: true,
             signs: calendar.canvas.signs,
+            most: (calendar.view == View::Month && grid.is_some()).then_some(calendar.lines),
         },
     };
     let weeks = all_weeks(alloc, inherits, &agenda, &drawing)?;
@@ -221,12 +222,7 @@ impl Drawing<'_> {
     }
 
     // Appends the name of the month or the week in the middle of so many columns.
-    fn push_title(
-        &self,
-        alloc: Global,
-        out: &mut Sheet,
-        columns: usize,
-    ) -> Result<(), AllocError> {
+    fn push_title(&self, alloc: Global, out: &mut Sheet, columns: usize) -> Result<(), AllocError> {
         let title = self.title(alloc)?;
         let before = columns.saturating_sub(title.len()) / 2;
         write!(out.text, "{:before$}", "")?;

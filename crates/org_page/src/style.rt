@@ -89,14 +89,14 @@ table.list { margin-bottom: 1.4rem; }
 .month td.weekend { background: var(--sheet); }
 .month td.other { opacity: 1; background: repeating-linear-gradient(135deg, var(--sheet) 0 4px, var(--paper) 4px 8px); }
 .month td.today { box-shadow: inset 0 0 0 2px var(--today); }
-.month td.today > time { color: var(--today); font-weight: 700; }
+.month td.today time { color: var(--today); font-weight: 700; }
 .month ul { list-style: none; margin: 0; padding: 0; }
 .month li { padding: 0 .4rem; white-space: nowrap; overflow: hidden; text-overflow: ellipsis; }
 .month td li time { display: inline; padding: 0; }
-.month td li time, .month li .sign { color: var(--own); font-weight: 600; }
+.month td li time, .month td.today li time, .month li .sign { color: var(--own); font-weight: 600; }
 .month ul.bars { display: grid; grid-template-columns: minmax(0, 1fr); grid-auto-rows: 1.3rem; }
 .month li.bar { grid-row: var(--row); grid-column: 1; background: var(--own); color: var(--paper); margin: 1px -1px 0 0; height: 1.2rem; padding: 0 .45rem; position: relative; z-index: 1; }
-.month li.bar > a { display: block; max-width: calc(var(--days) * (100% + .9rem) - .9rem); width: max-content; overflow: hidden; text-overflow: ellipsis; }
+.month li.named a { display: block; max-width: calc(var(--days) * (100% + .9rem) - .9rem); width: max-content; overflow: hidden; text-overflow: ellipsis; }
 .month li.bar.named { overflow: visible; z-index: 2; }
 .bar .hidden:focus-within { position: static; width: auto; height: auto; clip-path: none; }
 .month li.bar.first { border-radius: .5rem 0 0 .5rem; margin-left: .25rem; }
@@ -130,7 +130,7 @@ footer { max-width: 80rem; margin: 2.5rem auto 2rem; padding: 0 1.5rem; color: v
   h2 { break-after: avoid; }
   .days section, tr, figure { break-inside: avoid; }
   .month td { height: 20mm; }
-  .month li, .month li.bar > a, .sums td.name, .hours li.entry { white-space: normal; overflow-wrap: anywhere; }
+  .month li, .month li.named a, .sums td.name, .hours li.entry { white-space: normal; overflow-wrap: anywhere; }
   .month ul.bars { grid-auto-rows: minmax(1.3rem, auto); }
   .month li.bar { height: auto; min-height: 1.2rem; }
   .hours { --minute: .04rem; break-inside: avoid; }
