@@ -1,11 +1,13 @@
 -- Weeks and their bars.
-use Rattle.std.specs.Prelude.{◌≡◌, ℕ, ◌+◌, ◌-◌, max, List, Option, None, Result, IfOk, map, vec_len}
+use Rattle.std.specs.Prelude.{◌≡◌, ℕ, ◌+◌, ◌-◌, max, List, [], Option, None, Some, Result, IfOk, map, slice_get, vec_len}
+use Rattle.std.specs.List.{range_with_len}
 use Rattle.std.specs.String.{string_bytes}
 use Rattle.org_look.specs.Entries.{left_count, own_labels, shown_count}
 use Rattle.org_look.specs.Lanes.{AreApart}
 use Rattle.org_look.specs.declared.span.Bar.{Bar}
 use Rattle.org_look.specs.declared.cell.Cell.{Cell}
 use Rattle.org_look.specs.declared.cell.Shape.{Shape}
+use Rattle.org_look.specs.declared.day.GridDay.{GridDay}
 use Rattle.org_look.specs.declared.entry.Entry.{Entry}
 use Rattle.org_look.specs.declared.span.Span.{Span}
 use Rattle.org_look.specs.declared.week.Week.{Week}
@@ -36,3 +38,24 @@ abbrev pub SharesRows : {E : Type 0} → Result Cell E → ℕ → ℕ → Type 
 SharesRows result bars lines = IfOk result (λ cell.
     (cell.shape.shown ≡ shown_count (vec_len cell.labels) bars (room_of lines cell.shape))
     × (cell.shape.left ≡ left_count (vec_len cell.labels) bars (room_of lines cell.shape)))
+
+-- the labels that a cell has
+abbrev pub cell_labels : Cell → List (List ℕ)
+cell_labels cell = map string_bytes cell.labels.items
+
+-- those of the rows of a day itself; a day that isn't there has none
+abbrev pub day_labels : Option GridDay → List (List ℕ)
+day_labels None = []
+day_labels (Some day) = own_labels day.entries.items
+
+-- a cell has them, unless they are broken into lines or memory is refused
+abbrev pub HoldsDay : {E : Type 0} → Result Cell E → Option ℕ → Option GridDay → Type 0
+HoldsDay result breaks day = breaks ≡ None → IfOk result (λ cell. cell_labels cell ≡ day_labels day)
+
+-- those of so many days
+abbrev pub days_labels : List GridDay → ℕ → List (List (List ℕ))
+days_labels days count = map (λ column. day_labels (slice_get days column)) (range_with_len 0 count)
+
+-- seven cells have them, unless they are broken into lines
+abbrev pub AreCells : Option ℕ → List Cell → List GridDay → Type 0
+AreCells breaks cells days = breaks ≡ None → map cell_labels cells ≡ days_labels days 7

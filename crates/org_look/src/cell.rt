@@ -1,5 +1,5 @@
 //! Cells of days.
-ghost use Rattle.std.specs.Prelude.{◌≡◌, ◌≤◌};
+ghost use Rattle.std.specs.Prelude.{◌≡◌, ◌≤◌, []};
 ghost use Rattle.org_look.specs.Cells.{content_of, foot_of};
 ghost use Rattle.org_look.specs.Cuts.{row_text};
 ghost use Rattle.org_look.specs.Gives.{GivesStrip, GivesWide};
@@ -88,7 +88,9 @@ pub struct Cell {
 
 impl Cell {
     /// A cell of no day.
-    pub fn empty(alloc: Global) -> Cell {
+    pub fn empty(alloc: Global) -> Cell
+        ensures { result.labels.items ≡ [] }
+    {
         Cell {
             number: String::new(alloc),
             tone: Tone::Plain,

@@ -1,7 +1,7 @@
 //! Weeks of rows: which bars lie in which lanes, and what each cell shows.
-ghost use Rattle.std.specs.Prelude.{◌≡◌, ◌<◌, ◌-◌, IfOk, map, vec_len};
+ghost use Rattle.std.specs.Prelude.{◌≡◌, ◌<◌, ◌-◌, IfOk, map, slice_get, vec_len};
 ghost use Rattle.org_look.specs.Ranges.{AddsBars, bar_of, bars_for, bars_from, bars_of_lengths, day_bars, entry_bars};
-ghost use Rattle.org_look.specs.Weeks.{HoldsLabels, HoldsRows, LiesApart, SharesRows, spans_of};
+ghost use Rattle.org_look.specs.Weeks.{AreCells, HoldsDay, HoldsLabels, HoldsRows, LiesApart, SharesRows, cell_labels, spans_of};
 
 use crate::cell::{Cell, Note, Shape};
 use crate::day::GridDay;
@@ -30,6 +30,7 @@ impl Week {
         plan: &Plan,
     ) -> Result<Week, AllocError>
         ensures apart { LiesApart result (plan.now.lines - 1) }
+        ensures cells { IfOk result (λ week. AreCells plan.now.breaks week.cells.items days.now) }
     {
         let bars = bars_of(alloc, days)?;
         let spans = spans_of(alloc, bars.as_slice())?;
@@ -196,17 +197,31 @@ fn cells_of(
     covers: &Covers<'_, '_>,
     plan: &Plan,
 ) -> Result<Vec<Cell>, AllocError>
-    ensures { IfOk result (λ cells. vec_len cells ≡ 7) }
+    ensures seven { IfOk result (λ cells. vec_len cells ≡ 7) }
+    ensures labels { IfOk result (λ cells. AreCells plan.now.breaks cells.items days.now) }
 {
     let mut cells = Vec::new(alloc);
     for column in 0..7 {
-        let cell = match days.get(column) {
-            Some(day) => cell_of(alloc, day, covers.of(column), plan)?,
-            None => Cell::empty(alloc),
-        };
+        let cell = cell_at(alloc, days, column, covers, plan)?;
         cells.push(cell)?;
     }
     Ok(cells)
+}
+
+// The cell of the day at a place, an empty one where there is none.
+fn cell_at(
+    alloc: Global,
+    days: &[GridDay],
+    column: usize,
+    covers: &Covers<'_, '_>,
+    plan: &Plan,
+) -> Result<Cell, AllocError>
+    ensures labels { HoldsDay result plan.now.breaks (slice_get days.now column) }
+{
+    match days.get(column) {
+        Some(day) => cell_of(alloc, day, covers.of(column), plan),
+        None => Ok(Cell::empty(alloc)),
+    }
 }
 
 // How many lines a week takes below the numbers of its days, at least one.
@@ -219,7 +234,8 @@ fn height_of(cells: &[Cell]) -> usize {
 }
 
 fn set_heights(cells: &mut Vec<Cell>, height: usize)
-    ensures { vec_len cells.new ≡ vec_len cells.old }
+    ensures seven { vec_len cells.new ≡ vec_len cells.old }
+    ensures labels { map cell_labels cells.new.items ≡ map cell_labels cells.old.items }
 {
     for cell in cells.iter_mut() {
         cell.shape.height = height;
