@@ -30,14 +30,15 @@ joined is_seen one two old between new a b = record {
 -- behind a front that is painted, two parts of the rest, of which something is left
 pub goes_on : (is_seen : Bool) (line front rest before behind own left old out between new : List ℕ) → front ++ rest ≡ line → IsPainted is_seen front old out → before ++ behind ≡ rest → own ++ left ≡ behind →
     IsPainted is_seen before out between → IsPainted is_seen own between new → (painted : List ℕ) × ((painted ++ left ≡ line) × IsPainted is_seen painted old new)
-goes_on is_seen line front rest before behind own left old out between new whole painted one two first second =
-    (front ++ (before ++ own)) ,
-    (append_assoc front (before ++ own) left ∙ ap (λ t. front ++ t) (append_assoc before own left ∙ ap (λ t. before ++ t) two ∙ one) ∙ whole) ,
-    joined is_seen front (before ++ own) old out new painted (joined is_seen before own out between new first second)
+goes_on is_seen line front rest before behind own left old out between new whole painted one two first second = (
+  front ++ (before ++ own),
+  append_assoc front (before ++ own) left ∙ ap (λ t. front ++ t) (append_assoc before own left ∙ ap (λ t. before ++ t) two ∙ one) ∙ whole,
+  joined is_seen front (before ++ own) old out new painted (joined is_seen before own out between new first second),
+)
 
 -- the rest of a line behind a front that is painted
 pub ends : (is_seen : Bool) (line rest old out new : List ℕ) → ((front : List ℕ) × ((front ++ rest ≡ line) × IsPainted is_seen front old out)) → IsPainted is_seen rest out new → IsPainted is_seen line old new
-ends is_seen line rest old out new (front , whole , painted) last = subst (λ t. IsPainted is_seen t old new) whole (joined is_seen front rest old out new painted last)
+ends is_seen line rest old out new (front, whole, painted) last = subst (λ t. IsPainted is_seen t old new) whole (joined is_seen front rest old out new painted last)
 
 pub no_lines : (is_seen : Bool) → ArePaintedLines is_seen []
 no_lines is_seen = no_line is_seen
