@@ -261,7 +261,7 @@ is_clean() {
         colors != "" && escape && $1 == 91 { escape = 0; number = 1; next }
         escape { exit 1 }
         number && $1 == 109 { number = 0; next }
-        number && ($1 == 48 || $1 == 49 || $1 == 51) { next }
+        number && $1 >= 48 && $1 <= 57 { next }
         number { exit 1 }
         colors != "" && $1 == 27 { escape = 1; next }
         ($1 < 32 && $1 != 10) || $1 == 127 || (last == 194 && $1 >= 128 && $1 < 160) { exit 1 }

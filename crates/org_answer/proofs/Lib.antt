@@ -2,6 +2,7 @@ pub mod AheadLemmas
 pub mod AskedLemmas
 pub mod IcalLemmas
 pub mod LimitLemmas
+pub mod PaintedLemmas
 pub mod PictureLemmas
 pub mod ShownLemmas
 pub mod WordLemmas

@@ -58,10 +58,6 @@ keeps_row text old new clean added =
       made = ap (λ s. s ++ 10 ∷ []) (sym (append-nil text));
     }) added
 
--- a text without its control characters, where they are to be seen
-pub keeps_seen : (text old new : List ℕ) (is_seen : Bool) → is_seen ≡ true → new ≡ old ++ (shown_text is_seen text ++ 10 ∷ []) → AreCleanLines old → AreCleanLines new
-keeps_seen text old new is_seen on added = keeps_row (shown_text is_seen text) old new (subst (λ t. IsClean (shown_text t text)) (sym on) (visible_is_clean Caret text)) added
-
 -- the number of a line, after a name or alone
 number_clean : (number : ℕ) (is_spaced : Bool) → number < 2 ^ 64 → IsClean (number_text number is_spaced)
 number_clean number is_spaced small =

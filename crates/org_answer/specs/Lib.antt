@@ -3,6 +3,7 @@ pub mod Asked
 pub mod Chosen
 pub mod Ical
 pub mod Limits
+pub mod Painted
 pub mod Pictures
 pub mod Shown
 pub mod Tables

@@ -2,7 +2,7 @@
 ghost use Rattle.org_client.specs.Files.{AreRead};
 
 use crate::calendar::Canvas;
-use crate::labels::{Wording, label_of, push_shown};
+use crate::labels::{Wording, label_of, push_shown, tone_of};
 use crate::names::{full_day_name, month_name};
 use crate::picture::Picture;
 use crate::view::{Chosen, Days, agenda_over};
@@ -10,7 +10,7 @@ use org_agenda::{Row, RowKind};
 use org_base::Fault;
 use org_cal::{Day, push_time};
 use org_inherit::{Heading, Inherits};
-use org_look::{DayLook, Timed, cut, half_hours, push_hours};
+use org_look::{DayLook, Sheet, Timed, Tone, cut, half_hours, push_hours};
 use std::alloc::{AllocError, Global};
 
 // The most columns of a day's picture.
@@ -41,22 +41,32 @@ pub fn day_picture(
             now: (days.first == chosen.as_of.today).then_some(minute),
         },
     };
-    let mut text = String::new(alloc);
-    push_title(&mut text, days.first)?;
-    page.push(alloc, &mut text, rows.as_slice())?;
+    let mut sheet = Sheet::new(alloc);
+    push_title(&mut sheet, days.first)?;
+    page.push(alloc, &mut sheet, rows.as_slice())?;
     let has_row = !rows.is_empty();
-    Ok(Picture { text, has_row })
+    Ok(Picture { sheet, has_row })
 }
 
-fn push_title(out: &mut String, day: Day) -> Result<(), AllocError> {
+fn push_title(out: &mut Sheet, day: Day) -> Result<(), AllocError> {
     let (year, month, of_month) = day.parts();
     let (_, week) = day.iso_week();
     let name = full_day_name(day);
-    writeln!(
-        out,
-        "{name}, {of_month} {} {year}, week {week}\n",
+    let first = out.text.len();
+    write!(
+        out.text,
+        "{name}, {of_month} {} {year}, week {week}",
         month_name(month)
-    )
+    )?;
+    out.stain(first, Tone::Strong)?;
+    out.text.push_str("\n\n")
+}
+
+// Appends the name of rows that stand below the hours.
+fn push_name(out: &mut Sheet, name: &str) -> Result<(), AllocError> {
+    out.text.push('\n')?;
+    out.push(Tone::Strong, name)?;
+    out.text.push('\n')
 }
 
 // Where a row of a day stands in the picture.
@@ -85,16 +95,16 @@ struct Page<'a, 'b> {
 }
 
 impl Page<'_, '_> {
-    fn push(&self, alloc: Global, out: &mut String, rows: &[Row]) -> Result<(), Fault> {
+    fn push(&self, alloc: Global, out: &mut Sheet, rows: &[Row]) -> Result<(), Fault> {
         self.push_all_day(alloc, out, rows)?;
         let timed = self.rows_by_hours(alloc, rows)?;
         let beside = push_hours(alloc, out, timed.as_slice(), &self.look)?;
-        self.push_beside(alloc, out, timed.as_slice(), beside.as_slice())?;
+        self.push_beside(out, timed.as_slice(), beside.as_slice())?;
         self.push_section(alloc, out, rows, Part::Late)?;
         self.push_section(alloc, out, rows, Part::Soon)
     }
 
-    fn push_all_day(&self, alloc: Global, out: &mut String, rows: &[Row]) -> Result<(), Fault> {
+    fn push_all_day(&self, alloc: Global, out: &mut Sheet, rows: &[Row]) -> Result<(), Fault> {
         let mut has_any = false;
         for row in rows {
             if part_of(row) == Part::AllDay {
@@ -103,12 +113,12 @@ impl Page<'_, '_> {
                     write!(line, "{}/{} ", row.number, row.of)?;
                 }
                 line.push_str(self.label(alloc, row)?.as_str())?;
-                self.push_cut(alloc, out, "  all day  ", line.as_str())?;
+                self.push_cut(out, "  all day  ", line.as_str(), self.tone(row))?;
                 has_any = true;
             }
         }
         if has_any {
-            out.push('\n')?;
+            out.text.push('\n')?;
         }
         Ok(())
     }
@@ -129,6 +139,7 @@ impl Page<'_, '_> {
                 timed.push(Timed {
                     span: half_hours(start.minutes(), end),
                     label,
+                    tone: self.tone(row),
                 })?;
             }
         }
@@ -138,18 +149,17 @@ impl Page<'_, '_> {
     // Appends the rows that have no lane beside the others.
     fn push_beside(
         &self,
-        alloc: Global,
-        out: &mut String,
+        out: &mut Sheet,
         timed: &[Timed],
         places: &[usize],
     ) -> Result<(), AllocError> {
         if places.is_empty() {
             return Ok(());
         }
-        out.push_str("\nBeside these\n")?;
+        push_name(out, "Beside these")?;
         for place in places {
             if let Some(row) = timed.get(*place) {
-                self.push_cut(alloc, out, "  ", row.label.as_str())?;
+                self.push_cut(out, "  ", row.label.as_str(), row.tone)?;
             }
         }
         Ok(())
@@ -158,7 +168,7 @@ impl Page<'_, '_> {
     fn push_section(
         &self,
         alloc: Global,
-        out: &mut String,
+        out: &mut Sheet,
         rows: &[Row],
         part: Part,
     ) -> Result<(), Fault> {
@@ -174,18 +184,21 @@ impl Page<'_, '_> {
         if part == Part::Soon {
             own.sort_by_key(|row| row.number)?;
         }
-        out.push_str(if part == Part::Late {
-            "\nLate\n"
-        } else {
-            "\nDue soon\n"
-        })?;
+        push_name(
+            out,
+            if part == Part::Late {
+                "Late"
+            } else {
+                "Due soon"
+            },
+        )?;
         for row in &own {
             self.push_row(alloc, out, row)?;
         }
         Ok(())
     }
 
-    fn push_row(&self, alloc: Global, out: &mut String, row: &Row) -> Result<(), Fault> {
+    fn push_row(&self, alloc: Global, out: &mut Sheet, row: &Row) -> Result<(), Fault> {
         let number = format!(in alloc; "{} d.", row.number)?;
         let mut line = format!(in alloc; "{:>5}  ", number.as_str())?;
         line.push_str(self.label(alloc, row)?.as_str())?;
@@ -193,7 +206,7 @@ impl Page<'_, '_> {
             line.push_str("  ")?;
             push_shown(&mut line, heading.category())?;
         }
-        Ok(self.push_cut(alloc, out, "  ", line.as_str())?)
+        Ok(self.push_cut(out, "  ", line.as_str(), self.tone(row))?)
     }
 
     // A row without its time.
@@ -202,21 +215,27 @@ impl Page<'_, '_> {
             has_time: false,
             has_keyword: true,
             signs: self.look.signs,
+            most: None,
         };
         label_of(alloc, self.inherits, row, &wording)
     }
 
+    fn tone(&self, row: &Row) -> Tone {
+        tone_of(self.inherits, row)
+    }
+
+    // Appends the line of a row behind a front.
     fn push_cut(
         &self,
-        alloc: Global,
-        out: &mut String,
+        out: &mut Sheet,
         front: &str,
         text: &str,
+        tone: Tone,
     ) -> Result<(), AllocError> {
         let room = self.look.columns.saturating_sub(front.len());
-        let text = cut(alloc, text, room, self.look.signs)?;
-        out.push_str(front)?;
-        out.push_str(text.as_str())?;
-        out.push('\n')
+        let text = cut(out.alloc(), text, room, self.look.signs)?;
+        out.push(Tone::Plain, front)?;
+        out.push(tone, text.as_str())?;
+        out.text.push('\n')
     }
 }

@@ -1,5 +1,5 @@
 //! What a picture says of a row.
-ghost use Rattle.std.specs.Prelude.{◌≡◌};
+ghost use Rattle.std.specs.Prelude.{◌≡◌, IfOk};
 ghost use Rattle.org_answer.specs.Pictures.{GivesEntries, stand_of};
 
 use org_agenda::{Row, RowKind};
@@ -7,18 +7,30 @@ use org_base::Fault;
 use org_cal::push_time;
 use org_client::title_words;
 use org_inherit::{Heading, Inherits};
-use org_look::{Entry, Signs, Stand};
+use org_look::{Entry, Signs, Stand, Tone};
 use std::alloc::{AllocError, Global};
 
-/// How rows are said: with their times and keywords or without, and by which signs.
+/// How rows are said: with their times and keywords or without, by which signs, and of how many rows of a day at most.
 #[derive(Clone, Copy, Debug)]
 pub(crate) struct Wording {
     pub has_time: bool,
     pub has_keyword: bool,
     pub signs: Signs,
+    pub most: Option<usize>,
 }
 
-/// The rows of a day as a picture has them, an entry for each in their order.
+impl Wording {
+    // Whether a row is said that stands after so many others of its day; what is late or comes near is only counted.
+    fn says(&self, stand: Stand, before: usize) -> bool {
+        match stand {
+            Stand::Own => self.most.is_none_or(|most| before < most),
+            Stand::Range(..) => true,
+            Stand::Late | Stand::Soon => false,
+        }
+    }
+}
+
+/// The rows of a day as a picture has them, an entry for each in their order; those that aren't said have no label.
 pub(crate) fn entries_of(
     alloc: Global,
     inherits: &Inherits<'_>,
@@ -28,14 +40,38 @@ pub(crate) fn entries_of(
     ensures value { GivesEntries result rows.now }
 {
     let mut entries = Vec::new(alloc);
+    let mut own: usize = 0;
     for row in rows {
-        let label = label_of(alloc, inherits, row, wording)?;
-        entries.push(Entry {
-            stand: stand_of(row),
-            label,
-        })?;
+        let entry = entry_of(alloc, inherits, row, wording, own)?;
+        own = own.saturating_add(usize::from(entry.stand == Stand::Own));
+        entries.push(entry)?;
     }
     Ok(entries)
+}
+
+// The entry of a row after so many others that are of the day itself.
+fn entry_of(
+    alloc: Global,
+    inherits: &Inherits<'_>,
+    row: &Row,
+    wording: &Wording,
+    before: usize,
+) -> Result<Entry, Fault>
+    ensures value { IfOk result (λ entry. entry.stand ≡ stand_of row.now) }
+{
+    let stand = stand_of(row);
+    if !wording.says(stand, before) {
+        return Ok(Entry {
+            stand,
+            label: String::new(alloc),
+            tone: Tone::Plain,
+        });
+    }
+    Ok(Entry {
+        stand,
+        label: label_of(alloc, inherits, row, wording)?,
+        tone: tone_of(inherits, row),
+    })
 }
 
 fn stand_of(row: &Row) -> Stand
@@ -46,6 +82,23 @@ fn stand_of(row: &Row) -> Stand
         RowKind::LateSchedule | RowKind::LateDeadline => Stand::Late,
         RowKind::Warning => Stand::Soon,
         RowKind::Listed | RowKind::OnDay | RowKind::OnSchedule | RowKind::OnDeadline => Stand::Own,
+    }
+}
+
+/// The colour of a row: that of its file, unless it is late or due.
+pub(crate) fn tone_of(inherits: &Inherits<'_>, row: &Row) -> Tone {
+    match row.kind {
+        RowKind::LateSchedule | RowKind::LateDeadline => Tone::Late,
+        RowKind::Warning => Tone::Soon,
+        RowKind::OnDeadline if !is_done(inherits, row) => Tone::Soon,
+        _ => Tone::File(row.file),
+    }
+}
+
+fn is_done(inherits: &Inherits<'_>, row: &Row) -> bool {
+    match Heading::find(inherits, row.file, row.heading) {
+        Some(heading) => heading.is_done(),
+        None => false,
     }
 }
 

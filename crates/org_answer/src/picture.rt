@@ -12,7 +12,8 @@ use org_base::Fault;
 use org_cal::Day;
 use org_inherit::Inherits;
 use org_look::{
-    Entry, Grid, GridDay, Narrow, Plan, Week, grid_lines, push_listed_day, push_small_week,
+    Entry, Grid, GridDay, Narrow, Plan, Sheet, Tone, Week, grid_lines, push_listed_day,
+    push_small_week,
 };
 use std::alloc::{AllocError, Global};
 
@@ -22,7 +23,7 @@ const WEEK_LINES: usize = 60;
 /// A picture, and whether there is a row in it.
 #[derive(Debug, Drop)]
 pub struct Picture {
-    pub text: String,
+    pub sheet: Sheet,
     pub has_row: bool,
 }
 
@@ -44,13 +45,14 @@ pub fn calendar_picture(
             has_keyword: calendar.view == View::Week || grid.is_none(),
             has_time: true,
             signs: calendar.canvas.signs,
+            most: (calendar.view == View::Month && grid.is_some()).then_some(calendar.lines),
         },
     };
     let weeks = all_weeks(alloc, inherits, &agenda, &drawing)?;
-    let mut text = String::new(alloc);
-    drawing.push(alloc, &mut text, weeks.as_slice())?;
+    let mut sheet = Sheet::new(alloc);
+    drawing.push(alloc, &mut sheet, weeks.as_slice())?;
     let has_row = weeks.iter().any(has_row);
-    Ok(Picture { text, has_row })
+    Ok(Picture { sheet, has_row })
 }
 
 // A calendar as it is drawn: on which day, and how rows are said.
@@ -147,7 +149,7 @@ impl Drawing<'_> {
     }
 
     // A grid where it has room, else a list.
-    fn push(&self, alloc: Global, out: &mut String, weeks: &[WeekDays]) -> Result<(), AllocError> {
+    fn push(&self, alloc: Global, out: &mut Sheet, weeks: &[WeekDays]) -> Result<(), AllocError> {
         match Grid::within(self.calendar.canvas.columns, self.calendar.canvas.signs) {
             Some(grid) => self.push_grid(alloc, out, weeks, &grid),
             None => self.push_list(alloc, out, weeks),
@@ -157,11 +159,11 @@ impl Drawing<'_> {
     fn push_list(
         &self,
         alloc: Global,
-        out: &mut String,
+        out: &mut Sheet,
         weeks: &[WeekDays],
     ) -> Result<(), AllocError> {
         self.push_title(alloc, out, 31)?;
-        out.push_str("    Mo  Tu  We  Th  Fr  Sa  Su\n")?;
+        out.text.push_str("    Mo  Tu  We  Th  Fr  Sa  Su\n")?;
         let look = Narrow {
             columns: usize::from(self.calendar.canvas.columns),
             signs: self.calendar.canvas.signs,
@@ -169,7 +171,7 @@ impl Drawing<'_> {
         for week in weeks {
             push_small_week(out, week.number.as_str(), week.days.as_slice(), look.signs)?;
         }
-        out.push('\n')?;
+        out.text.push('\n')?;
         for week in weeks {
             for day in &week.days {
                 push_listed_day(alloc, out, day, &look)?;
@@ -181,16 +183,16 @@ impl Drawing<'_> {
     fn push_grid(
         &self,
         alloc: Global,
-        out: &mut String,
+        out: &mut Sheet,
         weeks: &[WeekDays],
         grid: &Grid,
     ) -> Result<(), AllocError> {
         self.push_title(alloc, out, grid.columns())?;
-        push_heads(out, grid.cell)?;
+        push_heads(&mut out.text, grid.cell)?;
         let planned = self.plan_weeks(alloc, weeks, grid.cell)?;
         for line in &grid_lines(alloc, planned.as_slice(), grid)? {
-            out.push_str(line.text.as_str())?;
-            out.push('\n')?;
+            out.push_strip(line)?;
+            out.text.push('\n')?;
         }
         Ok(())
     }
@@ -220,15 +222,12 @@ impl Drawing<'_> {
     }
 
     // Appends the name of the month or the week in the middle of so many columns.
-    fn push_title(
-        &self,
-        alloc: Global,
-        out: &mut String,
-        columns: usize,
-    ) -> Result<(), AllocError> {
+    fn push_title(&self, alloc: Global, out: &mut Sheet, columns: usize) -> Result<(), AllocError> {
         let title = self.title(alloc)?;
         let before = columns.saturating_sub(title.len()) / 2;
-        writeln!(out, "{:before$}{title}", "")
+        write!(out.text, "{:before$}", "")?;
+        out.push(Tone::Strong, title.as_str())?;
+        out.text.push('\n')
     }
 
     fn title(&self, alloc: Global) -> Result<String, AllocError> {

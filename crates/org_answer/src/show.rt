@@ -88,28 +88,6 @@ pub fn answer_bytes<T: Text>(
     Ok(out)
 }
 
-/// The bytes of a picture, line by line.
-#[tactic(auto, using(crate::proofs::ShownLemmas::no_lines))]
-pub fn picture_bytes(alloc: Global, picture: &str, is_seen: bool) -> Result<Vec<u8>, AllocError>
-    ensures clean { is_seen ≡ true → IfOk result (λ out. AreCleanLines out.items) }
-{
-    let mut out = Vec::new(alloc);
-    for line in picture.split_inclusive('\n') {
-        push_seen_line(&mut out, line.trim_end_matches('\n'), is_seen)?;
-    }
-    Ok(out)
-}
-
-// Appends a line of a picture.
-#[tactic(auto, using(crate::proofs::ShownLemmas::keeps_seen))]
-fn push_seen_line(out: &mut Vec<u8>, line: &str, is_seen: bool) -> Result<(), AllocError>
-    ensures clean { is_seen ≡ true → KeepsClean result out.old out.new }
-{
-    push_seen(out, line, is_seen)?;
-    out.push(b'\n')?;
-    Ok(())
-}
-
 // The days of the clock table that a line is of: its own where it begins one, else those of the line before.
 fn days_at(line: &Line, before: Option<(Day, Day)>) -> Option<(Day, Day)> {
     match line {

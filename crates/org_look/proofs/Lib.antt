@@ -7,3 +7,4 @@ pub mod LaneLemmas
 pub mod BarLemmas
 pub mod RangeLemmas
 pub mod CellLemmas
+pub mod WeekLemmas

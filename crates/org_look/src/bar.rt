@@ -22,7 +22,7 @@ impl Bar {
         ensures wide { GivesWide result columns }
     {
         let text = self.text(alloc, columns, signs)?;
-        Ok(Strip::of(text))
+        Strip::of(alloc, text).in_tone(self.tone)
     }
 
     fn text(&self, alloc: Global, columns: usize, signs: Signs) -> Result<String, AllocError>

@@ -1,10 +1,11 @@
 //! Cells of days.
-ghost use Rattle.std.specs.Prelude.{◌≡◌, ◌≤◌};
+ghost use Rattle.std.specs.Prelude.{◌≡◌, ◌≤◌, []};
 ghost use Rattle.org_look.specs.Cells.{content_of, foot_of};
 ghost use Rattle.org_look.specs.Cuts.{row_text};
 ghost use Rattle.org_look.specs.Gives.{GivesStrip, GivesWide};
 
 use crate::fill::{cut, fill_text};
+use crate::sheet::Tone;
 use crate::sign::Signs;
 use crate::strip::Strip;
 use std::alloc::{AllocError, Global};
@@ -67,21 +68,34 @@ impl Shape {
     }
 }
 
-/// The cell of a day: its number, the labels of its rows, and the notes at its foot.
+/// How many rows stand on a day without being of it, and their colour.
+#[derive(Debug, Drop)]
+pub struct Note {
+    pub text: String,
+    pub tone: Tone,
+}
+
+/// The cell of a day: its number with its colour, the labels of its rows with theirs, and the notes at its foot.
 #[derive(Debug, Drop)]
 pub struct Cell {
     pub number: String,
+    pub tone: Tone,
     pub labels: Vec<String>,
-    pub notes: Vec<String>,
+    pub tones: Vec<Tone>,
+    pub notes: Vec<Note>,
     pub shape: Shape,
 }
 
 impl Cell {
     /// A cell of no day.
-    pub fn empty(alloc: Global) -> Cell {
+    pub fn empty(alloc: Global) -> Cell
+        ensures { result.labels.items ≡ [] }
+    {
         Cell {
             number: String::new(alloc),
+            tone: Tone::Plain,
             labels: Vec::new(alloc),
+            tones: Vec::new(alloc),
             notes: Vec::new(alloc),
             shape: Shape {
                 lanes: 0,
@@ -91,6 +105,14 @@ impl Cell {
                 height: 0,
             },
         }
+    }
+
+    /// The number of the day, in so many columns.
+    pub fn head(&self, alloc: Global, columns: usize, signs: Signs) -> Result<Strip, AllocError>
+        requires room { 2 ≤ columns }
+        ensures wide { GivesWide result columns }
+    {
+        fill_text(alloc, self.number.as_str(), columns, signs)?.in_tone(self.tone)
     }
 
     /// A line of the cell in so many columns.
@@ -105,18 +127,45 @@ impl Cell {
         ensures wide { GivesWide result columns }
     {
         match self.shape.content(place) {
-            Content::Row(row) => row_strip(alloc, text_at(&self.labels, row), columns, signs),
-            Content::Note(note) => fill_text(alloc, text_at(&self.notes, note), columns, signs),
+            Content::Row(row) => self.row(alloc, row, columns, signs),
+            Content::Note(note) => self.note(alloc, note, columns, signs),
             Content::Others => others_strip(alloc, self.shape.left, columns, signs),
             Content::Blank => fill_text(alloc, "", columns, signs),
         }
     }
-}
 
-fn text_at(texts: &Vec<String>, place: usize) -> &str {
-    match texts.get(place) {
-        Some(text) => text.as_str(),
-        None => "",
+    fn row(
+        &self,
+        alloc: Global,
+        place: usize,
+        columns: usize,
+        signs: Signs,
+    ) -> Result<Strip, AllocError>
+        requires room { 2 ≤ columns }
+        ensures wide { GivesWide result columns }
+    {
+        let label = match self.labels.get(place) {
+            Some(label) => label.as_str(),
+            None => "",
+        };
+        let tone = self.tones.get(place).copied().unwrap_or(Tone::Plain);
+        row_strip(alloc, label, columns, signs)?.in_tone(tone)
+    }
+
+    fn note(
+        &self,
+        alloc: Global,
+        place: usize,
+        columns: usize,
+        signs: Signs,
+    ) -> Result<Strip, AllocError>
+        requires room { 2 ≤ columns }
+        ensures wide { GivesWide result columns }
+    {
+        match self.notes.get(place) {
+            Some(note) => fill_text(alloc, note.text.as_str(), columns, signs)?.in_tone(note.tone),
+            None => fill_text(alloc, "", columns, signs),
+        }
     }
 }
 
@@ -140,5 +189,5 @@ fn others_strip(
     ensures wide { GivesWide result columns }
 {
     let text = format!(in alloc; "+{left} more")?;
-    fill_text(alloc, text.as_str(), columns, signs)
+    fill_text(alloc, text.as_str(), columns, signs)?.in_tone(Tone::Faint)
 }

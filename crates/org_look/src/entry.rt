@@ -2,6 +2,7 @@
 ghost use Rattle.std.specs.Prelude.{◌≡◌, ◌+◌, ◌^◌, ◌<◌, IfOk, map, string_bytes};
 ghost use Rattle.org_look.specs.Entries.{is_own, left_count, own_labels, shown_count};
 
+use crate::sheet::Tone;
 use std::alloc::{AllocError, Global};
 
 /// How a row stands on its day.
@@ -17,11 +18,12 @@ pub enum Stand {
     Soon,
 }
 
-/// A row of a day: how it stands there, and what is shown of it.
+/// A row of a day: how it stands there, what is shown of it, and in which colour.
 #[derive(Debug, Drop)]
 pub struct Entry {
     pub stand: Stand,
     pub label: String,
+    pub tone: Tone,
 }
 
 impl Entry {
@@ -48,6 +50,17 @@ pub fn own_labels(alloc: Global, entries: &[Entry]) -> Result<Vec<String>, Alloc
         }
     }
     Ok(labels)
+}
+
+/// The colours of these rows.
+pub(crate) fn own_tones(alloc: Global, entries: &[Entry]) -> Result<Vec<Tone>, AllocError> {
+    let mut tones = Vec::new(alloc);
+    for entry in entries {
+        if entry.is_own() {
+            tones.push(entry.tone)?;
+        }
+    }
+    Ok(tones)
 }
 
 // A text of its own.

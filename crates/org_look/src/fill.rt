@@ -24,7 +24,7 @@ pub fn fill_text(
     let mut cut = cut(alloc, text, columns, signs)?;
     let spaces = columns.saturating_sub(cut.as_str().width());
     push_spaces(&mut cut, spaces)?;
-    Ok(Strip::of(cut))
+    Ok(Strip::of(alloc, cut))
 }
 
 /// A text in at most so many columns: the whole where it fits, else a front of it with the sign of a cut.

@@ -3,15 +3,17 @@
 use crate::fill::{cut, fill_text};
 use crate::lanes::lanes_of;
 use crate::overlap::{HALF_HOURS, lane_counts};
+use crate::sheet::{Sheet, Tone};
 use crate::sign::Signs;
 use crate::span::Span;
 use std::alloc::{AllocError, Global};
 
-/// A row with a time: the half hours that it touches, and its text.
+/// A row with a time: the half hours that it touches, its text, and its colour.
 #[derive(Debug, Drop)]
 pub struct Timed {
     pub span: Span,
     pub label: String,
+    pub tone: Tone,
 }
 
 /// How a day is drawn: in how many columns, with which signs, and the minute of the day that is now, if it is the day's.
@@ -36,7 +38,7 @@ const END: usize = 36;
 /// hour stand beside one another in lanes of equal width. Gives the places of rows that have no lane.
 pub fn push_hours(
     alloc: Global,
-    out: &mut String,
+    out: &mut Sheet,
     rows: &[Timed],
     look: &DayLook,
 ) -> Result<Vec<usize>, AllocError> {
@@ -81,7 +83,7 @@ struct Hours<'a, 'b, 'c, 'd> {
 }
 
 impl Hours<'_, '_, '_, '_> {
-    fn push(&self, alloc: Global, out: &mut String) -> Result<(), AllocError> {
+    fn push(&self, alloc: Global, out: &mut Sheet) -> Result<(), AllocError> {
         for half_hour in 0..HALF_HOURS {
             if self.is_shown(half_hour) {
                 self.push_now(out, half_hour)?;
@@ -102,7 +104,7 @@ impl Hours<'_, '_, '_, '_> {
     }
 
     // Appends the line of the moment, in the half hour that holds it.
-    fn push_now(&self, out: &mut String, half_hour: usize) -> Result<(), AllocError> {
+    fn push_now(&self, out: &mut Sheet, half_hour: usize) -> Result<(), AllocError> {
         let Some(now) = self.look.now else {
             return Ok(());
         };
@@ -113,34 +115,36 @@ impl Hours<'_, '_, '_, '_> {
             Signs::Drawn => ('▶', '╌'),
             Signs::Ascii => ('>', '-'),
         };
-        write!(out, " {:02}:{:02} {sign}", now / 60, now % 60)?;
+        let first = out.text.len();
+        write!(out.text, " {:02}:{:02} {sign}", now / 60, now % 60)?;
         for _column in 4..self.room {
-            out.push(line)?;
+            out.text.push(line)?;
         }
-        out.push_str(" now\n")
+        out.text.push_str(" now")?;
+        out.stain(first, Tone::Strong)?;
+        out.text.push('\n')
     }
 
     fn push_half_hour(
         &self,
         alloc: Global,
-        out: &mut String,
+        out: &mut Sheet,
         half_hour: usize,
     ) -> Result<(), AllocError> {
-        let mut line = String::new(alloc);
         if half_hour % 2 == 0 {
-            write!(line, " {:02}:00  ", half_hour / 2)?;
+            write!(out.text, " {:02}:00  ", half_hour / 2)?;
         } else {
-            line.push_str("        ")?;
+            out.text.push_str("        ")?;
         }
         match self.counts.get(half_hour) {
-            Some(count) if *count > 0 => self.push_lanes(alloc, &mut line, half_hour, *count)?,
-            _ => self.push_empty(&mut line, half_hour)?,
+            Some(count) if *count > 0 => self.push_lanes(alloc, out, half_hour, *count)?,
+            _ => self.push_empty(out, half_hour)?,
         }
-        out.push_str(line.as_str().trim_end_matches(' '))?;
-        out.push('\n')
+        out.trim();
+        out.text.push('\n')
     }
 
-    fn push_empty(&self, line: &mut String, half_hour: usize) -> Result<(), AllocError> {
+    fn push_empty(&self, out: &mut Sheet, half_hour: usize) -> Result<(), AllocError> {
         if half_hour % 2 > 0 {
             return Ok(());
         }
@@ -148,22 +152,24 @@ impl Hours<'_, '_, '_, '_> {
             Signs::Drawn => '┈',
             Signs::Ascii => '.',
         };
+        let first = out.text.len();
         for _column in 0..self.room {
-            line.push(dot)?;
+            out.text.push(dot)?;
         }
-        Ok(())
+        out.stain(first, Tone::Faint)
     }
 
     fn push_lanes(
         &self,
         alloc: Global,
-        line: &mut String,
+        out: &mut Sheet,
         half_hour: usize,
         count: usize,
     ) -> Result<(), AllocError> {
         let width = self.room / count.max(1);
         for lane in 0..count {
-            let text = self.text_at(alloc, half_hour, lane)?;
+            let row = self.row_at(half_hour, lane);
+            let text = self.text_at(alloc, half_hour, row)?;
             let text = cut(
                 alloc,
                 text.as_str(),
@@ -171,25 +177,45 @@ impl Hours<'_, '_, '_, '_> {
                 self.look.signs,
             )?;
             let strip = fill_text(alloc, text.as_str(), width.max(1), self.look.signs)?;
-            line.push_str(strip.text.as_str())?;
+            out.push_strip(&strip.in_tone(tone_of(row))?)?;
         }
         Ok(())
     }
 
-    // What a lane has in a half hour: a row where it begins, and a stroke where it goes on.
-    fn text_at(&self, alloc: Global, half_hour: usize, lane: usize) -> Result<String, AllocError> {
-        let mut text = String::new(alloc);
+    // The row that a lane has in a half hour.
+    fn row_at(&self, half_hour: usize, lane: usize) -> Option<&Timed> {
         for (row, own) in self.rows.iter().zip(self.lanes) {
             if *own == lane && row.span.first <= half_hour && half_hour <= row.span.last {
-                text.push_str(stroke(self.look.signs))?;
-                if row.span.first == half_hour {
-                    text.push(' ')?;
-                    text.push_str(row.label.as_str())?;
-                }
-                return Ok(text);
+                return Some(row);
             }
         }
+        None
+    }
+
+    // What a lane has in a half hour: a row where it begins, and a stroke where it goes on.
+    fn text_at(
+        &self,
+        alloc: Global,
+        half_hour: usize,
+        row: Option<&Timed>,
+    ) -> Result<String, AllocError> {
+        let mut text = String::new(alloc);
+        let Some(row) = row else {
+            return Ok(text);
+        };
+        text.push_str(stroke(self.look.signs))?;
+        if row.span.first == half_hour {
+            text.push(' ')?;
+            text.push_str(row.label.as_str())?;
+        }
         Ok(text)
+    }
+}
+
+fn tone_of(row: Option<&Timed>) -> Tone {
+    match row {
+        Some(row) => row.tone,
+        None => Tone::Plain,
     }
 }
 

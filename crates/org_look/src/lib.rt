@@ -15,8 +15,8 @@
 //! planned.push(Week::of(alloc, number, week.days.as_slice(), &plan)?)?;
 //! // ..
 //! for line in &grid_lines(alloc, planned.as_slice(), grid)? {
-//!     out.push_str(line.text.as_str())?;
-//!     out.push('\n')?;
+//!     out.push_strip(line)?;
+//!     out.text.push('\n')?;
 //! }
 //! ```
 //!
@@ -37,13 +37,14 @@ mod narrow;
 mod overlap;
 mod plan;
 mod rule;
+mod sheet;
 mod sign;
 mod span;
 mod strip;
 mod week;
 mod wrap;
 
-pub use cell::{Cell, Content, Shape};
+pub use cell::{Cell, Content, Note, Shape};
 pub use day::GridDay;
 pub use entry::{Entry, Share, Stand, own_labels};
 pub use fill::{cut, fill_text};
@@ -54,6 +55,7 @@ pub use line::join_strips;
 pub use narrow::{Narrow, push_listed_day, push_small_week};
 pub use overlap::half_hours;
 pub use plan::{Plan, notes_of};
+pub use sheet::{Sheet, Stain, Tone};
 pub use sign::{Sign, Signs};
 pub use span::{Bar, Span};
 pub use strip::Strip;

@@ -3,6 +3,7 @@ ghost use Rattle.org_look.specs.Gives.{GivesStrip, GivesWide};
 ghost use Rattle.org_look.specs.Results.{Writes};
 ghost use Rattle.org_look.specs.Strips.{line_columns, line_text, strips_text};
 
+use crate::sheet::{Sheet, Tone};
 use crate::sign::{Sign, Signs};
 use crate::strip::Strip;
 use std::alloc::{AllocError, Global};
@@ -17,19 +18,19 @@ pub fn join_strips(
     ensures value { GivesStrip result (line_text signs front.now strips.now) }
     ensures wide { GivesWide result (line_columns front.now strips.now) }
 {
-    let mut text = String::new(alloc);
-    text.push_str(front.text.as_str())?;
-    push_strips(&mut text, strips, signs)?;
-    text.push_str(Sign::Side.text(signs))?;
-    Ok(Strip::of(text))
+    let mut sheet = Sheet::new(alloc);
+    sheet.push_strip(front)?;
+    push_strips(&mut sheet, strips, signs)?;
+    sheet.push(Tone::Plain, Sign::Side.text(signs))?;
+    Ok(Strip::of_sheet(sheet))
 }
 
-fn push_strips(out: &mut String, strips: &[Strip], signs: Signs) -> Result<(), AllocError>
-    ensures { Writes result out.old out.new (strips_text signs strips.now) }
+fn push_strips(out: &mut Sheet, strips: &[Strip], signs: Signs) -> Result<(), AllocError>
+    ensures { Writes result out.old.text out.new.text (strips_text signs strips.now) }
 {
     for strip in strips {
-        out.push_str(Sign::Side.text(signs))?;
-        out.push_str(strip.text.as_str())?;
+        out.push(Tone::Plain, Sign::Side.text(signs))?;
+        out.push_strip(strip)?;
     }
     Ok(())
 }

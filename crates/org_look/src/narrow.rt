@@ -5,6 +5,7 @@ use crate::day::GridDay;
 use crate::entry::{Entry, Stand};
 use crate::fill::cut;
 use crate::plan::notes_of;
+use crate::sheet::{Sheet, Tone};
 use crate::sign::Signs;
 use std::alloc::{AllocError, Global};
 
@@ -18,22 +19,31 @@ pub struct Narrow {
 /// Appends a week of a small month: its number, and the numbers of its days, today's in brackets, with a dot behind each other
 /// one that has rows of its own.
 pub fn push_small_week(
-    out: &mut String,
+    out: &mut Sheet,
     number: &str,
     days: &[GridDay],
     signs: Signs,
 ) -> Result<(), AllocError> {
-    out.push_str(number)?;
+    out.push(Tone::Plain, number)?;
     for day in days {
-        let (before, after) = if day.is_today {
-            ('[', ']')
-        } else {
-            (' ', mark_of(day, signs))
-        };
-        let number = day.of_month;
-        write!(out, "{before}{number:>2}{after}")?;
+        push_small_day(out, day, signs)?;
     }
-    out.push('\n')
+    out.text.push('\n')
+}
+
+fn push_small_day(out: &mut Sheet, day: &GridDay, signs: Signs) -> Result<(), AllocError> {
+    let first = out.text.len();
+    let (before, after) = if day.is_today {
+        ('[', ']')
+    } else {
+        (' ', mark_of(day, signs))
+    };
+    let number = day.of_month;
+    write!(out.text, "{before}{number:>2}{after}")?;
+    if day.is_today {
+        out.stain(first, Tone::Today)?;
+    }
+    Ok(())
 }
 
 fn mark_of(day: &GridDay, signs: Signs) -> char {
@@ -58,29 +68,29 @@ fn is_of_day(entry: &Entry) -> bool {
 /// none of its own.
 pub fn push_listed_day(
     alloc: Global,
-    out: &mut String,
+    out: &mut Sheet,
     day: &GridDay,
     look: &Narrow,
 ) -> Result<(), AllocError> {
     if !day.is_of_month || !day.entries.iter().any(is_of_day) {
         return Ok(());
     }
-    out.push_str(day.name.as_str())?;
-    out.push('\n')?;
+    out.push(Tone::Strong, day.name.as_str())?;
+    out.text.push('\n')?;
     for entry in &day.entries {
         if is_of_day(entry) {
             push_listed(alloc, out, entry, look)?;
         }
     }
     for note in &notes_of(alloc, day.entries.as_slice())? {
-        push_indented(alloc, out, note.as_str(), look)?;
+        push_indented(alloc, out, note.text.as_str(), note.tone, look)?;
     }
     Ok(())
 }
 
 fn push_listed(
     alloc: Global,
-    out: &mut String,
+    out: &mut Sheet,
     entry: &Entry,
     look: &Narrow,
 ) -> Result<(), AllocError> {
@@ -89,17 +99,18 @@ fn push_listed(
     if let Stand::Range(day, of) = entry.stand {
         write!(label, " ({day}/{of})")?;
     }
-    push_indented(alloc, out, label.as_str(), look)
+    push_indented(alloc, out, label.as_str(), entry.tone, look)
 }
 
 fn push_indented(
     alloc: Global,
-    out: &mut String,
+    out: &mut Sheet,
     text: &str,
+    tone: Tone,
     look: &Narrow,
 ) -> Result<(), AllocError> {
     let line = cut(alloc, text, look.columns.saturating_sub(2), look.signs)?;
-    out.push_str("  ")?;
-    out.push_str(line.as_str())?;
-    out.push('\n')
+    out.push(Tone::Plain, "  ")?;
+    out.push(tone, line.as_str())?;
+    out.text.push('\n')
 }

@@ -1,15 +1,16 @@
 //! Weeks of rows: which bars lie in which lanes, and what each cell shows.
-ghost use Rattle.std.specs.Prelude.{◌≡◌, ◌<◌, ◌-◌, IfOk, map, vec_len};
+ghost use Rattle.std.specs.Prelude.{◌≡◌, ◌<◌, ◌-◌, IfOk, map, slice_get, vec_len};
 ghost use Rattle.org_look.specs.Ranges.{AddsBars, bar_of, bars_for, bars_from, bars_of_lengths, day_bars, entry_bars};
-ghost use Rattle.org_look.specs.Weeks.{HoldsRows, LiesApart, spans_of};
+ghost use Rattle.org_look.specs.Weeks.{AreCells, HoldsDay, HoldsLabels, HoldsRows, LiesApart, SharesRows, cell_labels, spans_of};
 
-use crate::cell::{Cell, Shape};
+use crate::cell::{Cell, Note, Shape};
 use crate::day::GridDay;
-use crate::entry::{Entry, Share, Stand, copy, own_labels};
+use crate::entry::{Entry, Share, Stand, copy, own_labels, own_tones};
 use crate::lanes::lanes_of;
+use crate::sheet::Tone;
 use crate::span::{Bar, Span};
 use crate::week::Week;
-use crate::wrap::broken_labels;
+use crate::wrap::{Labels, broken_labels};
 use std::alloc::{AllocError, Global};
 
 /// How cells are filled: the most lines of a cell, and of how many columns the lines of a row are that is broken into several;
@@ -29,6 +30,7 @@ impl Week {
         plan: &Plan,
     ) -> Result<Week, AllocError>
         ensures apart { LiesApart result (plan.now.lines - 1) }
+        ensures cells { IfOk result (λ week. AreCells plan.now.breaks week.cells.items days.now) }
     {
         let bars = bars_of(alloc, days)?;
         let spans = spans_of(alloc, bars.as_slice())?;
@@ -47,6 +49,7 @@ impl Week {
             cells,
             bars,
             lanes,
+            most,
         })
     }
 }
@@ -150,6 +153,7 @@ fn push_bar(
         is_begun: day > 1,
         goes_on: column + ahead > 6,
         label,
+        tone: entry.tone,
     })?;
     Ok(())
 }
@@ -193,17 +197,31 @@ fn cells_of(
     covers: &Covers<'_, '_>,
     plan: &Plan,
 ) -> Result<Vec<Cell>, AllocError>
-    ensures { IfOk result (λ cells. vec_len cells ≡ 7) }
+    ensures seven { IfOk result (λ cells. vec_len cells ≡ 7) }
+    ensures labels { IfOk result (λ cells. AreCells plan.now.breaks cells.items days.now) }
 {
     let mut cells = Vec::new(alloc);
     for column in 0..7 {
-        let cell = match days.get(column) {
-            Some(day) => cell_of(alloc, day, covers.of(column), plan)?,
-            None => Cell::empty(alloc),
-        };
+        let cell = cell_at(alloc, days, column, covers, plan)?;
         cells.push(cell)?;
     }
     Ok(cells)
+}
+
+// The cell of the day at a place, an empty one where there is none.
+fn cell_at(
+    alloc: Global,
+    days: &[GridDay],
+    column: usize,
+    covers: &Covers<'_, '_>,
+    plan: &Plan,
+) -> Result<Cell, AllocError>
+    ensures labels { HoldsDay result plan.now.breaks (slice_get days.now column) }
+{
+    match days.get(column) {
+        Some(day) => cell_of(alloc, day, covers.of(column), plan),
+        None => Ok(Cell::empty(alloc)),
+    }
 }
 
 // How many lines a week takes below the numbers of its days, at least one.
@@ -216,7 +234,8 @@ fn height_of(cells: &[Cell]) -> usize {
 }
 
 fn set_heights(cells: &mut Vec<Cell>, height: usize)
-    ensures { vec_len cells.new ≡ vec_len cells.old }
+    ensures seven { vec_len cells.new ≡ vec_len cells.old }
+    ensures labels { map cell_labels cells.new.items ≡ map cell_labels cells.old.items }
 {
     for cell in cells.iter_mut() {
         cell.shape.height = height;
@@ -225,15 +244,13 @@ fn set_heights(cells: &mut Vec<Cell>, height: usize)
 
 fn cell_of(alloc: Global, day: &GridDay, cover: Cover, plan: &Plan) -> Result<Cell, AllocError>
     ensures labels { HoldsRows result plan.now.breaks day.now.entries.items }
+    ensures share { SharesRows result cover.bars plan.now.lines }
 {
-    let labels = match plan.breaks {
-        Some(columns) => broken_labels(alloc, day.entries.as_slice(), columns)?,
-        None => own_labels(alloc, day.entries.as_slice())?,
-    };
+    let labels = labels_of(alloc, day.entries.as_slice(), plan)?;
     let notes = notes_of(alloc, day.entries.as_slice())?;
     let taken = cover.lanes.saturating_add(notes.len());
     let share = Share::of(
-        labels.len(),
+        labels.texts.len(),
         cover.bars,
         plan.lines.saturating_sub(taken).max(1),
     );
@@ -246,37 +263,47 @@ fn cell_of(alloc: Global, day: &GridDay, cover: Cover, plan: &Plan) -> Result<Ce
     };
     Ok(Cell {
         number: copy(alloc, day.number.as_str())?,
-        labels,
+        tone: day.tone(),
+        labels: labels.texts,
+        tones: labels.tones,
         notes,
         shape,
     })
 }
 
+// What is shown of the rows that the cell of a day holds.
+fn labels_of(alloc: Global, entries: &[Entry], plan: &Plan) -> Result<Labels, AllocError>
+    ensures { HoldsLabels result plan.now.breaks entries.now }
+{
+    if let Some(columns) = plan.breaks {
+        return broken_labels(alloc, entries, columns);
+    }
+    Ok(Labels {
+        texts: own_labels(alloc, entries)?,
+        tones: own_tones(alloc, entries)?,
+    })
+}
+
 /// How many rows of a day are late, and how many are due soon.
-pub fn notes_of(alloc: Global, entries: &[Entry]) -> Result<Vec<String>, AllocError> {
+pub fn notes_of(alloc: Global, entries: &[Entry]) -> Result<Vec<Note>, AllocError> {
+    let late = count_of(entries, Stand::Late);
+    let soon = count_of(entries, Stand::Soon);
     let mut notes = Vec::new(alloc);
-    push_note(alloc, &mut notes, count_of(entries, Stand::Late), "late")?;
-    push_note(
-        alloc,
-        &mut notes,
-        count_of(entries, Stand::Soon),
-        "due soon",
-    )?;
+    if late > 0 {
+        notes.push(Note {
+            text: format!(in alloc; "{late} late")?,
+            tone: Tone::Late,
+        })?;
+    }
+    if soon > 0 {
+        notes.push(Note {
+            text: format!(in alloc; "{soon} due soon")?,
+            tone: Tone::Soon,
+        })?;
+    }
     Ok(notes)
 }
 
 fn count_of(entries: &[Entry], stand: Stand) -> usize {
     entries.iter().filter(|entry| entry.stand == stand).count()
-}
-
-fn push_note(
-    alloc: Global,
-    notes: &mut Vec<String>,
-    count: usize,
-    name: &str,
-) -> Result<(), AllocError> {
-    if count > 0 {
-        notes.push(format!(in alloc; "{count} {name}")?)?;
-    }
-    Ok(())
 }

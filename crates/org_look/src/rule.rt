@@ -31,7 +31,7 @@ pub(crate) fn rule(alloc: Global, crossings: &Crossings, grid: &Grid) -> Result<
     }
     push_times(&mut text, Sign::Level, grid.cell, grid.signs)?;
     push_times(&mut text, crossings.right, 1, grid.signs)?;
-    Ok(Strip::of(text))
+    Ok(Strip::of(alloc, text))
 }
 
 // Appends a sign so many times.

@@ -45,13 +45,15 @@ impl Grid {
 /// The fewest columns of a day in a grid: a time and five more.
 pub const LEAST_CELL: usize = 11;
 
-/// A week of a grid: its number, its seven cells, and its bars with their lanes.
+/// A week of a grid: its number, its seven cells, its bars with their lanes, and how many lanes there are at most; a bar whose
+/// lane is none of these isn't drawn.
 #[derive(Debug, Drop)]
 pub struct Week {
     pub number: String,
     pub cells: Vec<Cell>,
     pub bars: Vec<Bar>,
     pub lanes: Vec<usize>,
+    pub most: usize,
     pub ghost seven: { vec_len cells ≡ 7 },
 }
 
@@ -82,7 +84,7 @@ impl Week {
     {
         let mut strips = Vec::new(alloc);
         for cell in &self.cells {
-            strips.push(fill_text(alloc, cell.number.as_str(), grid.cell, grid.signs)?)?;
+            strips.push(cell.head(alloc, grid.cell, grid.signs)?)?;
         }
         let front = fill_text(alloc, self.number.as_str(), 3, grid.signs)?;
         join_strips(alloc, &front, strips.as_slice(), grid.signs)
@@ -119,10 +121,14 @@ impl Week {
         Ok(Part { strip, days })
     }
 
-    // The bar that begins at a spot.
+    // The bar that begins at a spot; none where a line is no lane.
     fn bar_at(&self, spot: &Spot) -> Option<&Bar>
-        ensures { IfSome result (λ bar. bar.now.span.first ≡ spot.now.column) }
+        ensures column { IfSome result (λ bar. bar.now.span.first ≡ spot.now.column) }
+        ensures lane { IfSome result (λ _. spot.now.place < self.now.most) }
     {
+        if spot.place >= self.most {
+            return None;
+        }
         for place in 0..self.bars.len() {
             let bar = &self.bars[place];
             let lane = self.lanes.get(place);

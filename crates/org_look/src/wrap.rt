@@ -2,6 +2,7 @@
 
 use crate::entry::{Entry, Stand};
 use crate::fill::weight;
+use crate::sheet::Tone;
 use std::alloc::{AllocError, Global};
 use unicode_width::UnicodeWidthStr;
 
@@ -14,21 +15,40 @@ struct Wrap {
     columns: usize,
 }
 
+/// The lines of rows, each with its colour.
+#[derive(Debug, Drop)]
+pub struct Labels {
+    pub texts: Vec<String>,
+    pub tones: Vec<Tone>,
+}
+
 /// The labels of the rows that the cell of a day holds, broken into lines at spaces, and within a word that is longer than a
 /// line. A row goes on behind one space.
 pub fn broken_labels(
     alloc: Global,
     entries: &[Entry],
     columns: usize,
-) -> Result<Vec<String>, AllocError> {
-    let mut lines = Vec::new(alloc);
+) -> Result<Labels, AllocError> {
+    let mut labels = Labels {
+        texts: Vec::new(alloc),
+        tones: Vec::new(alloc),
+    };
     for entry in entries {
         if entry.stand == Stand::Own {
-            let mut broken = broken(alloc, entry.label.as_str(), columns)?;
-            lines.append(&mut broken)?;
+            labels.push_lines(entry.tone, broken(alloc, entry.label.as_str(), columns)?)?;
         }
     }
-    Ok(lines)
+    Ok(labels)
+}
+
+impl Labels {
+    fn push_lines(&mut self, tone: Tone, lines: Vec<String>) -> Result<(), AllocError> {
+        for line in lines {
+            self.texts.push(line)?;
+            self.tones.push(tone)?;
+        }
+        Ok(())
+    }
 }
 
 /// A text in lines of so many columns.

@@ -159,7 +159,7 @@ fn put_range(draft: &mut Draft, row: &Row, bars: &Bars, column: usize) -> Result
     };
     let first = column.saturating_sub(day.saturating_sub(1) as usize);
     match bars.lane(row.stamp, first) {
-        Some(lane) => put_bar(draft, row, lane, column == first),
+        Some(lane) => put_bar(draft, row, &Piece::of(lane, row.stand, column, first)),
         None => put_range_row(draft, row, day, of),
     }
 }
@@ -176,18 +176,42 @@ fn put_range_row(draft: &mut Draft, row: &Row, day: u32, of: u32) -> Result<(), 
     Ok(())
 }
 
+// A day of a bar: its lane, and over how many days its title is seen, where the bar begins on it.
+#[derive(Clone, Copy)]
+struct Piece {
+    lane: usize,
+    seen: Option<usize>,
+}
+
+impl Piece {
+    // The day in a column of a range whose bar begins in another.
+    fn of(lane: usize, stand: Stand, column: usize, first: usize) -> Piece {
+        let seen = match stand {
+            Stand::Range(day, of) if column == first => {
+                let ahead = of.saturating_sub(day) as usize;
+                Some(ahead.min(LAST_COLUMN.saturating_sub(column)) + 1)
+            }
+            _ => None,
+        };
+        Piece { lane, seen }
+    }
+}
+
+// The column of the last day of a week.
+pub(crate) const LAST_COLUMN: usize = 6;
+
 // Puts a day of a range as a part of its bar; its title is seen where the bar begins, and heard on each day.
-fn put_bar(draft: &mut Draft, row: &Row, lane: usize, is_seen: bool) -> Result<(), AllocError>
+fn put_bar(draft: &mut Draft, row: &Row, piece: &Piece) -> Result<(), AllocError>
     ensures titles { AddsTitles result draft.old draft.new (row_title row.now ∷ []) }
 {
-    put_bar_begin(draft, row, lane)?;
-    put_bar_title(draft, row, is_seen)?;
+    put_bar_begin(draft, row, piece)?;
+    put_bar_title(draft, row, piece.seen.is_some())?;
     put_bar_day(draft, row.stand)?;
     draft.tag("/li")?;
     Ok(())
 }
 
-fn put_bar_begin(draft: &mut Draft, row: &Row, lane: usize) -> Result<(), AllocError>
+fn put_bar_begin(draft: &mut Draft, row: &Row, piece: &Piece) -> Result<(), AllocError>
     ensures titles { KeepsTitles result draft.old draft.new }
 {
     let (first, last) = match row.stand {
@@ -196,10 +220,12 @@ fn put_bar_begin(draft: &mut Draft, row: &Row, lane: usize) -> Result<(), AllocE
     };
     let first = if first { " first" } else { "" };
     let last = if last { " last" } else { "" };
+    let named = if piece.seen.is_some() { " named" } else { "" };
     let color = color_class(row.color);
-    let class = format!(in draft.alloc(); "bar {color}{first}{last}")?;
-    let line = lane.saturating_add(1);
-    let style = format!(in draft.alloc(); "--row:{line}")?;
+    let class = format!(in draft.alloc(); "bar {color}{first}{last}{named}")?;
+    let line = piece.lane.saturating_add(1);
+    let days = piece.seen.unwrap_or(1);
+    let style = format!(in draft.alloc(); "--row:{line};--days:{days}")?;
     draft.open(
         "li",
         &[with("class", class.as_str()), with("style", style.as_str())],

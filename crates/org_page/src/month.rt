@@ -4,7 +4,7 @@ ghost use Rattle.org_page.specs.Days.{cell_titles, cells_titles, week_titles, we
 ghost use Rattle.org_page.specs.Drafts.{AddsTitles, KeepsTitles};
 ghost use Rattle.org_page.specs.Rows.{row_title, rows_titles};
 
-use crate::bars::{Bars, bars_of, put_ranges};
+use crate::bars::{Bars, LAST_COLUMN, bars_of, put_ranges};
 use crate::day::{Month, MonthDay, Week};
 use crate::draft::{Draft, with};
 use crate::heading::{put_sign, put_span, put_start, put_time, put_title};
@@ -146,9 +146,6 @@ fn put_cells(draft: &mut Draft, days: &[MonthDay], bars: &Bars) -> Result<(), Al
     }
     Ok(())
 }
-
-// The column of the last day of a week.
-const LAST_COLUMN: usize = 6;
 
 fn put_cell(draft: &mut Draft, day: &MonthDay, bars: &Bars, column: usize) -> Result<(), AllocError>
     ensures titles { AddsTitles result draft.old draft.new (cell_titles day.now) }

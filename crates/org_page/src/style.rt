@@ -49,10 +49,11 @@ nav ul { list-style: none; display: flex; flex-wrap: wrap; gap: 1rem; margin: 0;
 .whole { list-style: none; margin: 0 0 .5rem 3.4rem; padding: 0; }
 .whole li, .hours li.entry { background: var(--tint); border-left: 3px solid var(--own); border-radius: .3rem; padding: .12rem .5rem; overflow: hidden; }
 .whole li { margin-bottom: .25rem; }
-.hours { list-style: none; position: relative; margin: .8rem 0 .8rem 3.4rem; min-width: calc((var(--most) - 1) * 7rem); padding: 0; height: calc((var(--last) - var(--first)) * .05rem);
-  background: repeating-linear-gradient(var(--hour) 0 1px, transparent 1px 3rem); }
-.hours li { position: absolute; top: calc((var(--from) - var(--first)) * .05rem); }
-.hours li.entry { height: calc((var(--to) - var(--from)) * .05rem - 2px); padding-block: 0; line-height: 1.35rem; white-space: nowrap; text-overflow: ellipsis;
+.hours { --minute: .05rem; list-style: none; position: relative; margin: .8rem 0 .8rem 3.4rem; min-width: calc((var(--most) - 1) * 7rem); padding: 0;
+  height: calc((var(--last) - var(--first)) * var(--minute));
+  background: repeating-linear-gradient(var(--hour) 0 1px, transparent 1px calc(60 * var(--minute))); }
+.hours li { position: absolute; top: calc((var(--from) - var(--first)) * var(--minute)); }
+.hours li.entry { height: calc((var(--to) - var(--from)) * var(--minute) - 2px); padding-block: 0; line-height: 1.35rem; white-space: nowrap; text-overflow: ellipsis;
   left: calc(100% * var(--lane) / var(--lanes)); width: calc(100% / var(--lanes) - 4px); }
 .hours li.entry time { font-variant-numeric: tabular-nums; color: var(--own); font-weight: 600; }
 .hours li.hour { left: -3.4rem; width: 3rem; text-align: right; color: var(--faint); font-size: .8rem; transform: translateY(-.6rem); }
@@ -69,6 +70,7 @@ table.list { margin-bottom: 1.4rem; }
 .list thead .number { text-align: right; }
 .late .number { color: var(--late); font-weight: 600; }
 .soon .number { color: var(--soon); font-weight: 600; }
+.list td.late { color: var(--late); font-weight: 600; }
 .days { display: grid; grid-template-columns: repeat(auto-fill, minmax(17rem, 1fr)); gap: .8rem; }
 .days section { border: 1px solid var(--line); border-radius: .6rem; padding: .6rem .8rem; }
 .days ul { list-style: none; margin: 0; padding: 0; }
@@ -91,9 +93,12 @@ table.list { margin-bottom: 1.4rem; }
 .month ul { list-style: none; margin: 0; padding: 0; }
 .month li { padding: 0 .4rem; white-space: nowrap; overflow: hidden; text-overflow: ellipsis; }
 .month td li time { display: inline; padding: 0; }
-.month td li time, .month li .sign { color: var(--own); font-weight: 600; }
+.month td li time, .month td.today li time, .month li .sign { color: var(--own); font-weight: 600; }
 .month ul.bars { display: grid; grid-template-columns: minmax(0, 1fr); grid-auto-rows: 1.3rem; }
 .month li.bar { grid-row: var(--row); grid-column: 1; background: var(--own); color: var(--paper); margin: 1px -1px 0 0; height: 1.2rem; padding: 0 .45rem; position: relative; z-index: 1; }
+.month li.named a { display: block; max-width: calc(var(--days) * (100% + .9rem) - .9rem); width: max-content; overflow: hidden; text-overflow: ellipsis; }
+.month li.bar.named { overflow: visible; z-index: 2; }
+.bar .hidden:focus-within { position: static; width: auto; height: auto; clip-path: none; }
 .month li.bar.first { border-radius: .5rem 0 0 .5rem; margin-left: .25rem; }
 .month li.bar.last { border-radius: 0 .5rem .5rem 0; margin-right: .25rem; }
 .month li.bar.first.last { border-radius: .5rem; }
@@ -114,7 +119,7 @@ svg rect { stroke: var(--paper); stroke-width: .6; vector-effect: non-scaling-st
 .sums td.bar span.some { min-width: 2px; }
 h3.sums { margin-top: 1.6rem; }
 .sums tr.file td, .sums tr.total td { font-weight: 650; }
-@media (max-width: 40rem) { .sums td.name, .where { white-space: normal; overflow-wrap: anywhere; } .sums td.bar { width: 25%; } }
+@media (max-width: 40rem) { figure { overflow-x: auto; } svg { min-width: 44rem; } .sums td.name, .where { white-space: normal; overflow-wrap: anywhere; } .sums td.bar { width: 25%; } }
 details { margin-top: .6rem; }
 summary { cursor: pointer; color: var(--faint); }
 footer { max-width: 80rem; margin: 2.5rem auto 2rem; padding: 0 1.5rem; color: var(--faint); font-size: .85rem; }
@@ -125,7 +130,11 @@ footer { max-width: 80rem; margin: 2.5rem auto 2rem; padding: 0 1.5rem; color: v
   h2 { break-after: avoid; }
   .days section, tr, figure { break-inside: avoid; }
   .month td { height: 20mm; }
-  .month li, .sums td.name, .hours li.entry { white-space: normal; overflow-wrap: anywhere; }
+  .month li, .month li.named a, .sums td.name, .hours li.entry { white-space: normal; overflow-wrap: anywhere; }
+  .month ul.bars { grid-auto-rows: minmax(1.3rem, auto); }
+  .month li.bar { height: auto; min-height: 1.2rem; }
+  .hours { --minute: .04rem; break-inside: avoid; }
+  .hours li.entry { height: auto; min-height: calc((var(--to) - var(--from)) * var(--minute) - 2px); line-height: 1.1rem; }
   .scroll .month { min-width: 0; }
   .scroll { overflow: visible; }
   .hours, .whole li, .hours li.entry, .month li.bar, .legend li, .sums td.bar span, svg rect { print-color-adjust: exact; -webkit-print-color-adjust: exact; }

@@ -8,5 +8,5 @@ use Rattle.org_look.proofs.line.join_strips.Goals as goal
 
 pub returns-clause-wide : goal.returns-clause-wide
 returns-clause-wide c =
-    let e : string_bytes c.of.result.text ≡ line_text c.args.signs c.args.front.now c.args.strips.now = grind (arith, common_steps) in
-    sym c.of.result.is_wide ∙ ap columns_of e ∙ lines_add_up c.args.signs c.args.front.now c.args.strips.now
+    let e : string_bytes c.of_sheet.result.text ≡ line_text c.args.signs c.args.front.now c.args.strips.now = grind (arith, common_steps) in
+    sym c.of_sheet.result.is_wide ∙ ap columns_of e ∙ lines_add_up c.args.signs c.args.front.now c.args.strips.now
