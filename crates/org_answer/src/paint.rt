@@ -87,7 +87,8 @@ fn push_parts(
         rest = left;
         first = stain.end;
     }
-    push_part(out, Tone::Plain, rest, place.is_seen)
+    push_part(out, Tone::Plain, rest, place.is_seen)?;
+    Ok(())
 }
 
 // A text up to a byte, and from it on; the whole where it has no character that begins there.
