@@ -33,9 +33,12 @@ pub record Part : Type 0 where
 abbrev pub part_text : Part → List ℕ
 part_text part = part.text
 
--- a part as it is printed: its colour, its text, without control characters where they are to be seen, and the colour's end
+-- a text as it is printed: its colour, the text, without control characters where they are to be seen, and the colour's end
+abbrev pub painted_text : Bool → Tone → List ℕ → List ℕ
+painted_text is_seen tone text = tone_color tone ++ shown_text is_seen text ++ (if length (tone_color tone) == 0 then [] else 27 ∷ codes "[0m")
+
 abbrev pub part_bytes : Bool → Part → List ℕ
-part_bytes is_seen part = tone_color part.tone ++ (shown_text is_seen part.text ++ (if length (tone_color part.tone) == 0 then [] else 27 ∷ codes "[0m"))
+part_bytes is_seen part = painted_text is_seen part.tone part.text
 
 -- parts whose texts are a text, one behind the other, come after other bytes
 pub record IsPainted (is_seen : Bool) (text old new : List ℕ) : Type 0 where

@@ -1,6 +1,7 @@
 //! Pictures as they are printed, in colours where these are wanted.
 ghost use Rattle.std.specs.Prelude.{◌≡◌, ◌++◌, [], IfOk, OnOk};
-ghost use Rattle.org_answer.specs.Painted.{ArePaintedLines, IsPainted, IsPaintedLine, file_color, tone_color};
+ghost use Rattle.org_base.specs.Results.{Adds};
+ghost use Rattle.org_answer.specs.Painted.{ArePaintedLines, IsPainted, IsPaintedLine, file_color, painted_text, tone_color};
 
 use crate::show::{PrintOptions, push_seen};
 use org_look::{Sheet, Stain, Tone};
@@ -67,6 +68,7 @@ fn push_line(
     Ok(())
 }
 
+#[tactic(auto, using(crate::proofs::PaintedLemmas::begins, crate::proofs::PaintedLemmas::goes_on, crate::proofs::PaintedLemmas::ends))]
 fn push_parts(
     out: &mut Vec<u8>,
     line: &str,
@@ -79,13 +81,14 @@ fn push_parts(
     let mut first = place.first;
     for stain in stains {
         let (before, behind) = cut_at(rest, stain.first.saturating_sub(first));
-        let (own, behind) = cut_at(behind, stain.end.saturating_sub(stain.first));
+        let (own, left) = cut_at(behind, stain.end.saturating_sub(stain.first));
         push_part(out, Tone::Plain, before, place.is_seen)?;
         push_part(out, stain.tone, own, place.is_seen)?;
-        rest = behind;
+        rest = left;
         first = stain.end;
     }
-    push_part(out, Tone::Plain, rest, place.is_seen)
+    push_part(out, Tone::Plain, rest, place.is_seen)?;
+    Ok(())
 }
 
 // A text up to a byte, and from it on; the whole where it has no character that begins there.
@@ -98,13 +101,20 @@ fn cut_at(text: &str, place: usize) -> (&str, &str)
     }
 }
 
-// Appends a part of a line in its colour.
+// Appends a part of a line in its colour, if it has any text.
+#[tactic(auto, using(crate::proofs::PaintedLemmas::nothing, crate::proofs::PaintedLemmas::one_part))]
 fn push_part(out: &mut Vec<u8>, tone: Tone, text: &str, is_seen: bool) -> Result<(), AllocError>
     ensures { OnOk result (IsPainted is_seen text.now out.old.items out.new.items) }
 {
     if text.is_empty() {
         return Ok(());
     }
+    push_painted(out, tone, text, is_seen)
+}
+
+fn push_painted(out: &mut Vec<u8>, tone: Tone, text: &str, is_seen: bool) -> Result<(), AllocError>
+    ensures { Adds result out.old out.new (painted_text is_seen tone text.now) }
+{
     let color = color_of(tone);
     out.extend_from_slice(color.as_bytes())?;
     push_seen(out, text, is_seen)?;
