@@ -59,13 +59,13 @@ impl NearStamps {
         &mut self,
         file: usize,
         inherit: &Inherit<'_>,
-        heading: usize,
+        place: usize,
         asked: &NearQuery,
     ) -> Result<(), AllocError>
         requires heads { HaveHeads inherit.now.settings inherit.now.entries }
-        ensures ok { Adds result self.old.found self.new.found (asked_in asked.now inherit.now file heading) }
+        ensures ok { Adds result self.old.found self.new.found (asked_in asked.now inherit.now file place) }
     {
-        if let Some(facts) = heading_at(inherit, file, heading) {
+        if let Some(facts) = heading_at(inherit, file, place) {
             self.push_heading(&facts, asked)?;
         }
         Ok(())

@@ -178,7 +178,7 @@ impl IndexedOutline {
         asked: &NearQuery,
     ) -> Result<Vec<usize>, Fault>
         requires order { asked.now.from ≤ asked.now.to }
-        ensures value { IfOk result (λ places. HoldNear asked.now settings.now.value self.now places.items) }
+        ensures value { IfOk result (λ found. HoldNear asked.now settings.now.value self.now found.items) }
         ensures once { IfOk result (λ places. IsStrictlySortedBy nat_cmp places.items) }
         ensures counts { OnOk result (CountsNear asked.now settings.now.value self.now meter.old meter.new) }
         ensures partial { OnErr result (Examines meter.old meter.new) }

@@ -81,7 +81,7 @@ impl ParsedFile {
         asked: &NearQuery,
     ) -> Result<Vec<usize>, Fault>
         requires order { asked.now.from ≤ asked.now.to }
-        ensures value { IfOk result (λ places. HoldNear asked.now self.now.settings self.now.entries places.items) }
+        ensures value { IfOk result (λ ps. HoldNear asked.now self.now.settings self.now.entries ps.items) }
         ensures once { IfOk result (λ places. IsStrictlySortedBy nat_cmp places.items) }
         ensures counts { OnOk result (CountsNear asked.now self.now.settings self.now.entries meter.old meter.new) }
         ensures partial { OnErr result (Examines meter.old meter.new) }
