@@ -1,1 +1,0 @@
-printf '* Walk <2024-02-28 Wed +1d>\n' > plan.org

@@ -1,1 +1,0 @@
-printf '* TODO Pay\n' > plan.org

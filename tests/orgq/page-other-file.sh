@@ -1,1 +1,0 @@
-echo 'My own notes' > notes.txt

@@ -1,1 +1,0 @@
-printf '* Note\n* TODO Pay\n' > 'a b.org'
