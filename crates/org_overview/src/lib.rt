@@ -15,7 +15,7 @@
 //! Ok(put_together(seen.wish, named, dated, clocked, groups))
 //! ```
 //!
-//! Lines of `org_overview/src/page.rt`. No program writes such a page yet. Tests: its laws and examples, `org_overview/src/laws.rt`.
+//! Lines of `org_overview/src/page.rt`. Tests: cases `tests/orgq/page-*`.
 #![tactic(auto)]
 
 mod asked;

@@ -12,7 +12,7 @@
 //! let text = page_text(alloc, draft.pieces.as_slice())?;
 //! ```
 //!
-//! Lines of `org_page/src/page.rt`. No program writes a page yet. Tests: its laws and examples, `org_page/src/laws.rt`.
+//! Lines of `org_page/src/page.rt`. Tests: cases `tests/orgq/page-*`.
 #![tactic(auto)]
 
 mod bars;

@@ -63,6 +63,11 @@ const OF_CLOCKS: &str = "\
 
 const OF_ICAL: &str = "d;days;N;How many days from today on, 1 to 366; without it 30";
 
+const OF_PAGE: &str = "\
+d;days;N;How many days after today, 1 to 366; without it 7
+;link;TEXT;Where links lead, with {file}, {name}, {line} and {before}
+o;output;FILE;The file that it is written into, in place of an older page";
+
 const OF_NEXT: &str = "\
 d;days;N;How many days from today on, 1 to 366; without it 30
 ;within;MINUTES;Only what begins in so many minutes, 0 to 100000
@@ -104,9 +109,9 @@ kit: rattle-kit-13f logic dac8208d650f15bf
 commit: not known to a build; where a package has the file PROOF, that names it";
 
 // The commands.
-const COMMANDS: [&str; 18] = [
-    "agenda", "calendar", "todo", "match", "clock", "clocks", "next", "ical", "keywords", "tags",
-    "check", "follow", "done", "set", "schedule", "deadline", "add", "config",
+const COMMANDS: [&str; 19] = [
+    "agenda", "calendar", "todo", "match", "clock", "clocks", "next", "ical", "page", "keywords",
+    "tags", "check", "follow", "done", "set", "schedule", "deadline", "add", "config",
 ];
 
 /// Whether a word is the name of a command.
@@ -140,7 +145,7 @@ fn has_value(line: &str) -> bool {
 pub fn command<'a>(alloc: Global) -> Result<Command<'a>, AllocError> {
     let clock = with_clock_acts(alloc, clock(alloc)?)?;
     let command = with_commands(alloc, program(alloc)?, clock)?;
-    let command = command.subcommand(ical(alloc)?)?;
+    let command = command.subcommand(ical(alloc)?)?.subcommand(page(alloc)?)?;
     let command = command.subcommand(config(alloc)?)?;
     with_acts(alloc, command.subcommand(follow(alloc)?)?)
 }
@@ -306,6 +311,13 @@ fn ical<'a>(alloc: Global) -> Result<Command<'a>, AllocError> {
     let ical = Command::new(alloc, "ical").about("Some days and all deadlines as iCalendar");
     let ical = with_options(alloc, ical, OF_ICAL, false)?;
     with_options(alloc, ical, OF_ROWS, false)
+}
+
+fn page<'a>(alloc: Global) -> Result<Command<'a>, AllocError> {
+    let page = Command::new(alloc, "page").about(
+        "Some days, the month, clocks and open tasks as a page of HTML",
+    );
+    with_options(alloc, page, OF_PAGE, false)
 }
 
 fn config<'a>(alloc: Global) -> Result<Command<'a>, AllocError> {

@@ -30,6 +30,7 @@ pub mod laws;
 mod one_match;
 mod options;
 mod out;
+mod page;
 mod place;
 mod planning;
 mod problem;

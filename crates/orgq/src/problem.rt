@@ -55,6 +55,8 @@ pub enum Problem {
     /// A calendar for other programs is asked for in another form.
     Ical,
     Lead,
+    /// The template of a link has a brace alone, or a name that no place has.
+    Link,
     /// A form is asked for that what a command prints that changes files doesn't have.
     LineForm,
     LimitOf,
@@ -71,6 +73,8 @@ pub enum Problem {
     /// A word says no date that a heading can get.
     OneDate,
     Order,
+    /// A page is asked for in another form.
+    Page,
     /// A word is no place of a heading.
     Place,
     /// A heading is named twice.
@@ -131,7 +135,7 @@ impl Problem {
                 "no such date; there are today, tomorrow, yesterday, mon to sun, such as +3d, -1w, +2m, 2024-02-28, and the blocks thisweek, nextweek, lastweek, thismonth and so on, 2024-W09, 2024-02"
             }
             Problem::Days => "days past 9999-12-31",
-            Problem::DaysOf => "-d is an option of agenda, ical and next",
+            Problem::DaysOf => "-d is an option of agenda, ical, next and page",
             Problem::DaysToo => "--days-too is for --json",
             Problem::Environment(variable) => variable.why(),
             Problem::Fields => "--csv is no form of check, which has lines and --json",
@@ -151,6 +155,8 @@ impl Problem {
             Problem::Ical => "ical has one form, without -n, --json, --csv and --format",
             Problem::From => "--from names the first day in place of a block",
             Problem::Lead => "--lead wants --since",
+            Problem::Link =>
+                "--link has places in braces, {file}, {name}, {line} and {before}, and other braces twice",
             Problem::LineForm => "this command prints lines: --json and --csv are no forms of its",
             Problem::LimitOf => "--limit is an option of agenda, ical, next, todo and match",
             Problem::List => {
@@ -166,6 +172,7 @@ impl Problem {
             Problem::Place => "a heading is named by FILE:LINE, as -n prints it, or by --match",
             Problem::PlaceBeside => "a heading is named either by FILE:LINE or by --match",
             Problem::Order => "the day of --to is before that of --from",
+            Problem::Page => "page has one form, without -n, --json, --csv and --format",
             Problem::Properties => {
                 "--properties takes names with commas between them, and goes with --json"
             }

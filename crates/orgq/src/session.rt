@@ -17,6 +17,7 @@ use crate::options::{
     form, is_colored, named_form, profile, property_names, property_words, texts, without_rows,
 };
 use crate::out::print_all;
+use crate::page::print_page;
 use crate::problem::{Problem, report_problem};
 use crate::sources::{Reading, load_all, paths};
 use crate::words::print_words;
@@ -78,6 +79,7 @@ pub fn answer_query<
     };
     match matches.subcommand() {
         Some(("clocks", own)) => return print_clocks(rt, matches, own, moment.day, &look),
+        Some(("page", own)) => return print_page(rt, matches, own, moment, &look),
         Some(("clock", own)) if own.subcommand().is_some() => {
             return print_status(rt, matches, moment, &look);
         }

@@ -1,0 +1,1 @@
+printf '* TODO Pay\n' > plan.org

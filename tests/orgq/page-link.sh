@@ -1,0 +1,1 @@
+printf '* Note\n* TODO Pay\n' > plan.org

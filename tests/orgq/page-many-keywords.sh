@@ -1,0 +1,1 @@
+awk 'BEGIN { printf "#+TODO:"; for (i = 1; i <= 34; i++) printf " K%d", i; print " | DONE"; for (i = 1; i <= 34; i++) printf "* K%d Task %d\n", i, i; print "* K34 Another"; print "* K2 One more" }' > plan.org

@@ -1,0 +1,1 @@
+echo 'My own notes' > notes.txt
