@@ -6,6 +6,7 @@ use Rattle.org_clocktable.specs.declared.row.Of.TheVariants.{Heading}
 use Rattle.org_entry.specs.declared.entry.Entry.{Entry}
 use Rattle.org_head.specs.declared.head.Head.{Head}
 use Rattle.org_inherit.specs.Scope.{Scope}
+use Rattle.org_layout.specs.Columns.{padded}
 use Rattle.org_layout.specs.Days.{label_text}
 use Rattle.org_layout.specs.Lines.{entry_text}
 use Rattle.org_layout.specs.Tables.{name_text}
@@ -29,10 +30,11 @@ short = entry_of (codes "* B\n") (head_of None None (part 2 1))
 abbrev pub long : Entry
 long = entry_of (codes "* TODO [#A] Title\n") (head_of (Some (part 2 4)) (Some (part 7 4)) (part 12 5))
 
--- two spaces stand before a title for each level, and the tags after it. A range has the number of its day before that of
+-- a column counts wide characters twice. Two spaces stand before a title for each level, and the tags after it. A range has the number of its day before that of
 -- all its days, and a deadline ahead says in how many days it comes (Org manual 9.6, "The clock table"; Emacs 29,
 -- `org-agenda-deadline-leaders`; profile)
 pub record ExamplesHold : Type 0 where
+  pub wide_count_two : padded (codes "日本:") 12 ≡ codes "日本:       "
   pub two_a_level : (scope : Scope) → name_text (record scope { entries = short ∷ [] } ∷ []) (Heading 0 0 2) ≡ codes "    B"
   pub second_of_three : label_text InRange 2 3 ≡ codes "(2/3): "
   pub in_three_days : label_text Warning 3 0 ≡ codes "In 3 d.: "

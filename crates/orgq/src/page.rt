@@ -63,12 +63,7 @@ fn days_ahead(matches: &ArgMatches<'_>, own: &ArgMatches<'_>) -> u32 {
 // Prints the page of the files that are named, or writes it, and gives the exit status.
 fn print_files<
     R: AllocGlobal + Clock + Env + Files<File = File> + Input + Print + Eprint + Clone + Drop,
->(
-    rt: &R,
-    matches: &ArgMatches<'_>,
-    own: &ArgMatches<'_>,
-    wish: &Wish<'_>,
-) -> Result<u8, Problem> {
+>(rt: &R, matches: &ArgMatches<'_>, own: &ArgMatches<'_>, wish: &Wish<'_>) -> Result<u8, Problem> {
     let inherited = texts(rt.alloc(), matches.get_strs("inherit"))?;
     let mut file_set: FileSet<Whole> = FileSet::new(rt.alloc(), inherited);
     let paths = paths(rt, matches, &[])?;

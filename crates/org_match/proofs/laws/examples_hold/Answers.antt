@@ -8,6 +8,8 @@ returns c = record {
   of_a = λ moment. refl;
   of_b = λ moment. refl;
   of_both = λ moment. refl;
+  open_has_a_keyword = λ moment. refl;
+  no_time_is_false = λ op minute. refl;
   with_pattern = λ moment pattern text. refl;
   without_pattern = λ moment pattern text. refl;
 }

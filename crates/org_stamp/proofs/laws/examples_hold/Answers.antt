@@ -8,4 +8,4 @@ use Rattle.org_stamp.proofs.laws.examples_hold.Goals as goal
 
 pub returns : goal.returns
 unfolding digits inner_of single_of stamps_from words
-returns c = record { one_range = refl; other_brackets = refl; time_first = refl }
+returns c = record { one_range = refl; other_brackets = refl; no_thirtieth = refl; time_first = refl }
