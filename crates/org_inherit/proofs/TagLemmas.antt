@@ -51,6 +51,10 @@ closed_tags-more : (tags : List (List ℕ)) (tag : List ℕ) → closed_tags (ta
 closed_tags-more [] tag = append-nil _
 closed_tags-more (t ∷ tags) tag = ap (λ x. (t ++ (58 ∷ [])) ++ x) (closed_tags-more tags tag) ∙ sym (append_assoc (t ++ (58 ∷ [])) (closed_tags tags) (tag ++ (58 ∷ [])))
 
+-- a tag is written, and then those that are left
+pub closed_tags-next : (text tag : List ℕ) (left : List (List ℕ)) → ((text ++ tag) ++ 58 ∷ []) ++ closed_tags left ≡ text ++ closed_tags (tag ∷ left)
+closed_tags-next text tag left = ap (λ x. x ++ closed_tags left) (append_assoc text tag (58 ∷ [])) ∙ append_assoc text (tag ++ 58 ∷ []) (closed_tags left)
+
 some_is_not_none : {X Y : Type 0} (x : X) (xs : List X) (a b : Y) → cond (length (x ∷ xs) == 0) a b ≡ b
 some_is_not_none x xs a b = ap (λ t. cond t a b) (ne_eqb (length (x ∷ xs)) 0 (λ e. absurd (omega arith)))
 

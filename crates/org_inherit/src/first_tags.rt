@@ -6,25 +6,23 @@ ghost use Rattle.org_base.specs.Results.{Gives};
 ghost use Rattle.org_inherit.specs.Seen.{is_seen, AreSeen, IsSeenToo};
 ghost use Rattle.org_inherit.specs.Tags.{with_tag, with_tags, tags_in};
 
+use crate::lent_tags::{FEW, LentTags};
 use org_base::{Fault, Span, Texts};
 use org_entry::Entry;
 use std::alloc::{AllocError, Global};
 use std::collections::BTreeSet;
 use std::marker::Model;
 
-// So many tags are compared one by one.
-const FEW: usize = 8;
-
-// Tags, of equal ones the first; seen as their list. A set holds the same tags once they are more than a few; it is ordered,
-// since what tags hash to is the writer's to choose.
+// Tags where they stand, of equal ones the first; seen as their list. A few are compared one by one. Once they are more a set
+// holds the same tags; it is ordered, since what tags hash to is the writer's to choose.
 #[derive(Drop)]
-pub(crate) struct FirstTags {
+pub(crate) struct FirstTags<'a> {
     alloc: Global,
     seen: Option<BTreeSet<Vec<u8>>>,
-    tags: Texts,
+    tags: LentTags<'a>,
 }
 
-impl Model for FirstTags {
+impl<'a> Model for FirstTags<'a> {
     ghost use Rattle.std.specs.Prelude.{ℕ, List};
     ghost use Rattle.std.specs.Option.{option_map};
     ghost use Rattle.org_inherit.specs.Seen.{AreSeen};
@@ -36,27 +34,27 @@ impl Model for FirstTags {
     ghost invariant = { λ t. AreSeen (option_map (λ set. set.keys) t.seen) t.tags };
 }
 
-impl FirstTags {
+impl<'a> FirstTags<'a> {
     // No tags.
-    pub(crate) fn new(alloc: Global) -> FirstTags
+    pub(crate) fn new(alloc: Global) -> FirstTags<'a>
         ensures value { result ≡ [] }
     {
         FirstTags {
             alloc,
             seen: None,
-            tags: Texts::new(alloc),
+            tags: LentTags::new(alloc),
         }
     }
 
     // The tags.
-    pub(crate) fn into_texts(self) -> Texts
-        ensures value { result ≡ self }
+    pub(crate) fn tags(&self) -> &LentTags<'a>
+        ensures value { result.now ≡ self.now }
     {
-        self.tags
+        &self.tags
     }
 
     // Adds a tag, if it isn't there. Where memory is refused the set is gone, and tags are compared one by one from then on.
-    fn add(&mut self, tag: &[u8]) -> Result<(), Fault>
+    fn add(&mut self, tag: &'a [u8]) -> Result<(), Fault>
         ensures ok { OnOk result (self.new ≡ with_tag self.old tag.now) }
         ensures memory { IsOkUnless result memory_fault }
     {
@@ -78,7 +76,7 @@ impl FirstTags {
     }
 
     // Adds those tags that aren't there.
-    pub(crate) fn add_all(&mut self, tags: &Texts) -> Result<(), Fault>
+    pub(crate) fn add_all(&mut self, tags: &'a Texts) -> Result<(), Fault>
         ensures ok { OnOk result (self.new ≡ with_tags self.old tags.now) }
         ensures memory { IsOkUnless result memory_fault }
     {
@@ -89,7 +87,7 @@ impl FirstTags {
     }
 
     // Adds those tags that aren't there, each a part of an entry's text.
-    pub(crate) fn add_parts(&mut self, entry: &Entry, parts: &[Span]) -> Result<(), Fault>
+    pub(crate) fn add_parts(&mut self, entry: &'a Entry, parts: &[Span]) -> Result<(), Fault>
         ensures ok { OnOk result (self.new ≡ with_tags self.old (tags_in entry.now.text parts.now)) }
         ensures memory { IsOkUnless result memory_fault }
     {
@@ -101,16 +99,15 @@ impl FirstTags {
 }
 
 // Adds a tag to tags and to the set of them, if it isn't there.
-fn add_seen(
+fn add_seen<'a>(
     alloc: Global,
     seen: &mut BTreeSet<Vec<u8>>,
-    tags: &mut Texts,
-    tag: &[u8],
-) -> Result<(), Fault>
+    tags: &mut LentTags<'a>,
+    tag: &'a [u8],
+) -> Result<(), AllocError>
     requires known { AreSeen (Some seen.old.keys) tags.old }
     ensures tags { OnOk result (tags.new ≡ with_tag tags.old tag.now) }
     ensures seen { OnOk result (AreSeen (Some seen.new.keys) tags.new) }
-    ensures memory { IsOkUnless result memory_fault }
 {
     if is_new(alloc, seen, tag)? {
         tags.push(tag)?;
@@ -129,7 +126,7 @@ fn is_new(alloc: Global, seen: &mut BTreeSet<Vec<u8>>, tag: &[u8]) -> Result<boo
 }
 
 // Whether the tag is among these, by comparing it with each.
-fn contains(tags: &Texts, tag: &[u8]) -> bool
+fn contains(tags: &LentTags<'_>, tag: &[u8]) -> bool
     ensures value { result ≡ list_any (bytes_eq tag.now) tags.now }
 {
     for place in 0..tags.count() {
@@ -141,7 +138,7 @@ fn contains(tags: &Texts, tag: &[u8]) -> bool
 }
 
 // These tags as a set.
-fn set_of(alloc: Global, tags: &Texts) -> Result<BTreeSet<Vec<u8>>, AllocError>
+fn set_of(alloc: Global, tags: &LentTags<'_>) -> Result<BTreeSet<Vec<u8>>, AllocError>
     ensures seen { IfOk result (λ set. AreSeen (Some set.keys) tags.now) }
 {
     let mut set = BTreeSet::new(alloc);

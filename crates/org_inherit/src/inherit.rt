@@ -2,23 +2,24 @@
 ghost use Rattle.std.specs.Prelude.{◌≡◌, ◌<◌, length, IsOkUnless};
 ghost use Rattle.std.specs.Option.{option_copied};
 ghost use Rattle.org_base.specs.Codes.{memory_fault};
-ghost use Rattle.org_base.specs.Results.{Gives};
+ghost use Rattle.org_base.specs.Results.{Adds, Gives};
 ghost use Rattle.org_inherit.specs.Category.{category};
 ghost use Rattle.org_inherit.specs.Hidden.{is_hidden};
 ghost use Rattle.org_inherit.specs.Scope.{scope_with};
 ghost use Rattle.org_inherit.specs.Special.{special_value, value_of};
 ghost use Rattle.org_inherit.specs.declared.special.Special.TheVariants.{AllTags, Own};
 ghost use Rattle.org_inherit.specs.Tables.{has_tags, one_passes};
-ghost use Rattle.org_inherit.specs.Tags.{all_tags};
+ghost use Rattle.org_inherit.specs.Tags.{all_tags, tags_text};
 ghost use Rattle.org_inherit.specs.Values.{plain_value};
 
 use crate::ancestors::{Test, lineage_passes};
 use crate::categories::category_under;
 use crate::category::file_category;
+use crate::first_tags::FirstTags;
 use crate::heading::{copy_bytes, heading_value};
 use crate::special::{HeadingValue, Special};
 use crate::tables::Tables;
-use crate::tags::{all_tags, tags_value};
+use crate::tags::{all_tags, copy_tags, push_tags, tags_value};
 use crate::values::{file_value, is_inherited, nearest_value};
 use org_base::{Bytes, Fault, Texts};
 use org_outline::Outline;
@@ -140,9 +141,34 @@ impl<'a> Inherit<'a> {
         ensures value { Gives result (all_tags self.now place) }
         ensures memory { IsOkUnless result memory_fault }
     {
-        let file_tags = self.settings.file_tags();
+        let tags = self.first_tags(place)?;
+        copy_tags(self.alloc, tags.tags())
+    }
+
+    /// Appends all tags as they are written, `:a:b:`, from where they stand; of no tags nothing.
+    pub fn push_tags(&self, text: &mut Vec<u8>, place: usize) -> Result<(), Fault>
+        requires { place < length self.now.entries }
+        ensures ok { Adds result text.old text.new (tags_text (all_tags self.now place)) }
+        ensures memory { IsOkUnless result memory_fault }
+    {
+        let tags = self.first_tags(place)?;
+        Ok(push_tags(text, tags.tags())?)
+    }
+
+    // All tags, lent.
+    fn first_tags(&self, place: usize) -> Result<FirstTags<'_>, Fault>
+        requires { place < length self.now.entries }
+        ensures value { Gives result (all_tags self.now place) }
+        ensures memory { IsOkUnless result memory_fault }
+    {
         let tagged = self.has_any_tags(place);
-        all_tags(self.alloc, file_tags, self.outline, place, tagged)
+        all_tags(
+            self.alloc,
+            self.settings.file_tags(),
+            self.outline,
+            place,
+            tagged,
+        )
     }
 
     // Whether the entry or an ancestor of it has own tags.

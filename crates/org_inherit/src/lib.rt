@@ -31,6 +31,7 @@ mod hidden;
 mod inherit;
 mod inherits;
 pub mod laws;
+mod lent_tags;
 mod special;
 mod tables;
 mod tags;

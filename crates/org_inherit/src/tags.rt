@@ -1,12 +1,13 @@
 //! Tags of a heading.
 ghost use Rattle.std.specs.Prelude.{◌≡◌, ◌<◌, length, fold, map, OnOk, IsOkUnless, IfOk};
 ghost use Rattle.org_base.specs.Codes.{memory_fault};
-ghost use Rattle.org_base.specs.Results.{Gives};
+ghost use Rattle.org_base.specs.Results.{Adds, Gives};
 ghost use Rattle.org_base.specs.Spans.{bytes_in};
 ghost use Rattle.org_inherit.specs.Tables.{has_tags, one_passes};
-ghost use Rattle.org_inherit.specs.Tags.{own_tags, lineage, with_tag, tags_text, tags_value, with_shown, tags_at};
+ghost use Rattle.org_inherit.specs.Tags.{own_tags, lineage, with_tag, closed_tags, tags_text, tags_value, with_shown, tags_at};
 
 use crate::first_tags::FirstTags;
+use crate::lent_tags::LentTags;
 use org_base::{Bytes, Fault, Span, Texts};
 use org_entry::Entry;
 use org_outline::Outline;
@@ -14,7 +15,7 @@ use smallvec::SmallVec;
 use std::alloc::{AllocError, Global};
 
 // Adds those of an entry's own tags that aren't there.
-fn add_own(tags: &mut FirstTags, entry: &Entry) -> Result<(), Fault>
+fn add_own<'a>(tags: &mut FirstTags<'a>, entry: &'a Entry) -> Result<(), Fault>
     ensures ok { OnOk result (tags.new ≡ fold with_tag tags.old (own_tags entry.now)) }
     ensures memory { IsOkUnless result memory_fault }
 {
@@ -42,13 +43,13 @@ fn lineage(alloc: Global, outline: &Outline, place: usize) -> Result<SmallVec<us
 
 // A file's tags, the tags of the entry's ancestors from the outermost and its own; of equal ones the first. It is known
 // whether the entry and its ancestors have any.
-pub(crate) fn all_tags(
+pub(crate) fn all_tags<'a>(
     alloc: Global,
-    file_tags: &Texts,
-    outline: &Outline,
+    file_tags: &'a Texts,
+    outline: &'a Outline,
     place: usize,
     tagged: bool,
-) -> Result<Texts, Fault>
+) -> Result<FirstTags<'a>, Fault>
     requires within { place < length outline.now }
     requires tagged { tagged ≡ one_passes has_tags outline.now place }
     ensures value { Gives result (tags_at file_tags.now outline.now place) }
@@ -57,13 +58,47 @@ pub(crate) fn all_tags(
     let mut tags = FirstTags::new(alloc);
     tags.add_all(file_tags)?;
     if !tagged {
-        return Ok(tags.into_texts());
+        return Ok(tags);
     }
     let line = lineage(alloc, outline, place)?;
     for source in line.as_slice() {
         add_own(&mut tags, outline.entry(*source))?;
     }
-    Ok(tags.into_texts())
+    Ok(tags)
+}
+
+// Copies of tags.
+pub(crate) fn copy_tags(alloc: Global, tags: &LentTags<'_>) -> Result<Texts, Fault>
+    ensures value { Gives result tags.now }
+    ensures memory { IsOkUnless result memory_fault }
+{
+    let mut copies = Texts::new(alloc);
+    for place in 0..tags.count() {
+        copies.push(tags.get(place))?;
+    }
+    Ok(copies)
+}
+
+// Appends tags as they are written, `:a:b:`; of no tags nothing.
+pub(crate) fn push_tags(text: &mut Vec<u8>, tags: &LentTags<'_>) -> Result<(), AllocError>
+    ensures ok { Adds result text.old text.new (tags_text tags.now) }
+{
+    if tags.count() == 0 {
+        return Ok(());
+    }
+    text.push(b':')?;
+    push_closed(text, tags)
+}
+
+// Appends tags, each with a colon after it.
+fn push_closed(text: &mut Vec<u8>, tags: &LentTags<'_>) -> Result<(), AllocError>
+    ensures ok { Adds result text.old text.new (closed_tags tags.now) }
+{
+    for place in 0..tags.count() {
+        text.extend_from_slice(tags.get(place))?;
+        text.push(b':')?;
+    }
+    Ok(())
 }
 
 // Parts of an entry's text, copied.

@@ -39,13 +39,12 @@ returns-clause-value c =
     let k = c.loop-source.source-index in
     let l : c.as_slice-source-items.result.now ≡ line = c.as_slice-source-items.ensures ∙ c.in_ok-line.ensures.value in
     let n = ap length l in
-    c.into_texts-2.ensures.value
-    ∙ c.loop-source.invariant
+    c.loop-source.invariant
     ∙ ap (λ v. fold with_tag [] (file ++ flat_map (own_tags_at es) v)) (take_all k line (omega (arith, n, c.loop-source-test.false)))
 
 pub returns-then-not-tagged-clause-value : goal.returns-then-not-tagged-clause-value
 returns-then-not-tagged-clause-value c =
     let es = c.args.outline.now in
     let none = none_tagged es c.args.place (sym c.requires.tagged ∙ c.if-not-tagged.true) in
-    c.into_texts.ensures.value ∙ c.in_ok-add_all.ensures.ok ∙ ap (λ v. fold with_tag v c.args.file_tags.now) c.new-tags.ensures.value
+    c.in_ok-add_all.ensures.ok ∙ ap (λ v. fold with_tag v c.args.file_tags.now) c.new-tags.ensures.value
     ∙ ap firsts (sym (append-nil c.args.file_tags.now)) ∙ ap (λ v. firsts (c.args.file_tags.now ++ v)) (sym none)
