@@ -1,5 +1,5 @@
 -- Worked examples: what the definitions say of inputs at which a wrong rule says something else.
-use Rattle.std.specs.Prelude.{◌≡◌, ℕ, false, List, [], ◌∷◌, Option, None, Some, codes}
+use Rattle.std.specs.Prelude.{◌≡◌, ℕ, false, List, [], ◌∷◌, Option, None, Some, codes, encode_utf8_all}
 use Rattle.org_agenda.specs.declared.row.RowKind.TheVariants.{InRange, LateDeadline, Warning}
 use Rattle.org_base.specs.declared.span.Span.{Span}
 use Rattle.org_clocktable.specs.declared.row.Of.TheVariants.{Heading}
@@ -34,7 +34,7 @@ long = entry_of (codes "* TODO [#A] Title\n") (head_of (Some (part 2 4)) (Some (
 -- all its days, and a deadline ahead says in how many days it comes (Org manual 9.6, "The clock table"; Emacs 29,
 -- `org-agenda-deadline-leaders`; profile)
 pub record ExamplesHold : Type 0 where
-  pub wide_count_two : padded (codes "日本:") 12 ≡ codes "日本:       "
+  pub wide_count_two : padded (encode_utf8_all (codes "日本:")) 12 ≡ encode_utf8_all (codes "日本:       ")
   pub two_a_level : (scope : Scope) → name_text (record scope { entries = short ∷ [] } ∷ []) (Heading 0 0 2) ≡ codes "    B"
   pub second_of_three : label_text InRange 2 3 ≡ codes "(2/3): "
   pub in_three_days : label_text Warning 3 0 ≡ codes "In 3 d.: "
