@@ -6,7 +6,8 @@ use Rattle.std.proofs.lemmas.List.{map-append}
 use Rattle.org_act.specs.ClockEntries.{unplaced}
 use Rattle.org_class.specs.declared.class.Class.{Class}
 use Rattle.org_class.specs.declared.class.Class.TheVariants as class
-use Rattle.org_entry.specs.Entry.{head_after, head_from, if_active, placed, stamps_of}
+use Rattle.org_entry.specs.Entry.{head_after, if_active, placed, stamps_of}
+use Rattle.org_entry.proofs.EntryWords.{head_from}
 use Rattle.org_head.specs.Head.{head_of}
 use Rattle.org_head.specs.declared.head.Head.{Head}
 use Rattle.org_base.specs.Spans.{bytes_in}

@@ -13,8 +13,10 @@ use Rattle.org_inherit.specs.Hidden.{is_hidden}
 use Rattle.org_inherit.specs.Scope.{Scope}
 use Rattle.org_settings.specs.Settings.{FileSettings}
 use Rattle.org_agenda.specs.Came.{Ascend, AreReadOf, IsEarlier, IsNoLater, ListsAscend, SourcesAscend}
-use Rattle.org_agenda.specs.Lists.{Listing, Ranked, file_rows, head_rows, is_listed, ranked_row, rows_from}
-use Rattle.org_agenda.specs.Sources.{entry_sources, head_sources, owner_of, sources_at, sources_from, sources_of, under}
+use Rattle.org_agenda.specs.Lists.{Listing, Ranked, file_rows, is_listed}
+use Rattle.org_agenda.proofs.ListsWords.{head_rows, ranked_row, rows_from}
+use Rattle.org_agenda.specs.Sources.{entry_sources, owner_of, sources_at, sources_of, under}
+use Rattle.org_agenda.proofs.SourcesWords.{head_sources, sources_from}
 use Rattle.org_agenda.specs.declared.source.HeadingRef.{HeadingRef}
 use Rattle.org_agenda.specs.declared.source.HeadingStamp.{HeadingStamp}
 

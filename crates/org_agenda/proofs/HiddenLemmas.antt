@@ -11,9 +11,11 @@ use Rattle.org_head.specs.declared.head.Head.{Head}
 use Rattle.org_inherit.specs.Hidden.{is_hidden}
 use Rattle.org_inherit.specs.Scope.{Scope}
 use Rattle.org_agenda.specs.Kept.{HiddenGiveNoStamps, HiddenStandNowhere, IsInSight}
-use Rattle.org_agenda.specs.Lists.{Listing, Ranked, file_rows, head_rows, is_listed, is_over, list_rows, over_rows, ranked_row, rows_from}
+use Rattle.org_agenda.specs.Lists.{Listing, Ranked, file_rows, is_listed, is_over, list_rows}
+use Rattle.org_agenda.proofs.ListsWords.{head_rows, over_rows, ranked_row, rows_from}
 use Rattle.org_agenda.specs.Order.{by_key}
-use Rattle.org_agenda.specs.Sources.{entry_sources, file_sources, head_sources, owner_of, sources_from, sources_of, under}
+use Rattle.org_agenda.specs.Sources.{entry_sources, file_sources, owner_of, sources_of, under}
+use Rattle.org_agenda.proofs.SourcesWords.{head_sources, sources_from}
 use Rattle.org_agenda.specs.declared.lists.TheConstants.{PRIORITIES}
 use Rattle.org_agenda.specs.declared.row.Row.{Row}
 use Rattle.org_agenda.specs.declared.source.HeadingRef.{HeadingRef}

@@ -14,7 +14,8 @@ use Rattle.org_index.specs.Delays.{days_in, delay_or}
 use Rattle.org_index.specs.Reaches.{reach_of, last_day, repeats}
 use Rattle.org_index.specs.Near.{lies_in, touches, warns}
 use Rattle.org_index.specs.declared.reach.Reach.{Reach}
-use Rattle.org_repeat.specs.Decided.{next_after, occurs, occurs_in, range_start, start_of}
+use Rattle.org_repeat.specs.Decided.{next_after, occurs, range_start}
+use Rattle.org_repeat.proofs.DecidedWords.{occurs_in, start_of}
 use Rattle.org_repeat.specs.Occurs.{Begins, HoldsCopy, OccursBy, OccursOn, Repeats}
 use Rattle.org_repeat.proofs.DecidedLemmas.{next_is_decided, occurs_is_decided}
 use Rattle.org_repeat.proofs.OrderLemmas.{base_first}

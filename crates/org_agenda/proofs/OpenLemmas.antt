@@ -1,15 +1,16 @@
 -- Which headings are open.
 use Rattle.std.proofs.Common.{◌≡◌, ℕ, List, Bool, true, false, not, refl}
 use Rattle.std.specs.Prelude.{Option, None, Some}
+use Rattle.std.specs.Option.{option_map_or}
 use Rattle.org_settings.specs.Keywords.{keyword_place, keyword_done}
 use Rattle.org_settings.specs.Settings.{FileSettings}
-use Rattle.org_agenda.specs.Headings.{is_done_place, is_finished, keyword_in}
+use Rattle.org_agenda.specs.Headings.{is_finished, keyword_in}
 use Rattle.org_agenda.specs.Rules.{OwnersAreOpen}
 
 abbrev Has : FileSettings → Option (List ℕ) → Type 0
 Has settings o = (word : List ℕ) × (place : ℕ) × (o ≡ Some word) × (keyword_place settings.keywords word ≡ Some place) × (keyword_done settings.keywords place ≡ true)
 
-placed : (settings : FileSettings) (word : List ℕ) (o : Option ℕ) → keyword_place settings.keywords word ≡ o → is_done_place settings o ≡ true → Has settings (Some word)
+placed : (settings : FileSettings) (word : List ℕ) (o : Option ℕ) → keyword_place settings.keywords word ≡ o → option_map_or (keyword_done settings.keywords) o false ≡ true → Has settings (Some word)
 placed settings word None e h = absurd cc
 placed settings word (Some place) e h = (word, place, refl, e, h)
 

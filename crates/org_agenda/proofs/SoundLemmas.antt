@@ -25,8 +25,10 @@ use Rattle.org_head.specs.declared.head.Head.{Head}
 use Rattle.org_inherit.specs.Hidden.{is_hidden}
 use Rattle.org_inherit.specs.Scope.{Scope}
 use Rattle.org_settings.specs.Settings.{FileSettings}
-use Rattle.org_stamp.specs.Line.{one_more, stamps_from, stamps_of as stamps_of_line}
-use Rattle.org_stamp.specs.Pair.{is_planning, pair_and, pair_at, pair_of, pairs, pairs_from, past_spaces, word_at}
+use Rattle.org_stamp.specs.Line.{stamps_from, stamps_of as stamps_of_line}
+use Rattle.org_stamp.proofs.LineWords.{one_more}
+use Rattle.org_stamp.specs.Pair.{is_planning, pair_at, pair_of, pairs, pairs_from, past_spaces, word_at}
+use Rattle.org_stamp.proofs.PairWords.{pair_and}
 use Rattle.org_stamp.specs.Read.{single_of, stamp_of}
 use Rattle.org_stamp.specs.declared.pair.Pair.{Pair}
 use Rattle.org_stamp.specs.declared.pair.PlanningKeyword.{PlanningKeyword}
@@ -38,7 +40,8 @@ use Rattle.org_stamp.proofs.ReadLemmas.{single_found}
 use Rattle.org_stamp.proofs.SpelledLemmas.{inner_is_spelled}
 pub use Rattle.org_agenda.specs.Came.{AreReadOf}
 use Rattle.org_agenda.specs.Near.{IsSound, ReadStampsAreSound}
-use Rattle.org_agenda.specs.Sources.{entry_sources, file_sources, head_sources, owner_of, sources_at, sources_from, sources_of, under}
+use Rattle.org_agenda.specs.Sources.{entry_sources, file_sources, owner_of, sources_at, sources_of, under}
+use Rattle.org_agenda.proofs.SourcesWords.{head_sources, sources_from}
 use Rattle.org_agenda.specs.declared.source.HeadingRef.{HeadingRef}
 use Rattle.org_entry.specs.declared.active.Role.{Role}
 use Rattle.org_entry.specs.declared.active.Role.TheVariants.{Plain, Scheduled, Deadline}

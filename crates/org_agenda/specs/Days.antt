@@ -1,5 +1,6 @@
 -- The rows of a day (Org manual 9.6, "Timestamps"; "Deadlines and Scheduling"; "Weekly/daily agenda"; kinds, delays and
 -- warnings: profile).
+use Rattle.std.specs.Option.{option_map_or}
 use Rattle.std.specs.Prelude.{◌≡◌, ℕ, ◌≤◌, ◌+◌, ◌-◌, ◌==◌, nat_lt, nat_le, Bool, true, false, not, ◌&&◌, ◌||◌, if◌then◌else◌, List, [], ◌∷◌, ◌++◌, Option, Some, None, is_none, is_some, unwrap_or, map}
 use Rattle.std.specs.List.{flat_map}
 use Rattle.org_base.specs.declared.profile.Profile.{Profile}
@@ -27,8 +28,7 @@ occurs_later p false s n day = nat_lt n day && occurs p s (day - n)
 
 -- the stamp occurs on the day, moved by its delay if it has one
 abbrev pub occurs_delayed : Profile → Stamp → Option Delay → ℕ → Bool
-occurs_delayed p s None day = occurs p s day
-occurs_delayed p s (Some d) day = occurs_later p d.first_only s (days_in d.unit d.n) day
+occurs_delayed p s delay day = option_map_or (λ d. occurs_later p d.first_only s (days_in d.unit d.n) day) delay (occurs p s day)
 
 -- the day of which a deadline warns. In the first profile it is its own; in the second it is that of the next occurrence
 -- after today, or 0, which is before all days, where there is none
@@ -74,8 +74,7 @@ times p _ s day = (None, None)
 
 -- the numbers in a range's label: day i of n days, as many as the written range has, counted from the copy's first day
 abbrev pub range_numbers : Stamp → Option (ℕ × Option ℕ) → ℕ → ℕ → ℕ × ℕ
-range_numbers s None begins day = (0, 0)
-range_numbers s (Some last) begins day = (day - begins + 1, last.0 - s.day + 1)
+range_numbers s range begins day = option_map_or (λ last. (day - begins + 1, last.0 - s.day + 1)) range (0, 0)
 
 -- the two numbers in the label of a kind. A range has day and number of days, a late row the days since the stamp's own
 -- day, a warning the days to the one of which it warns; all others have 0
@@ -115,8 +114,7 @@ source_rows p today day s = role_rows p s.role s today day
 
 -- the key of a start: rows with a start stand by it, and rows without one after them
 abbrev pub start_key : Option ℕ → ℕ
-start_key None = STARTS - 1
-start_key (Some start) = start
+start_key start = unwrap_or start (STARTS - 1)
 
 -- a row under the key of its start, where else its priority stands
 abbrev pub started : Row → Ranked

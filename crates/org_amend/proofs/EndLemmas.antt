@@ -20,7 +20,8 @@ use Rattle.org_cal.proofs.TextLemmas.{chosen}
 use Rattle.org_drawer.specs.Clock.{clock_of}
 use Rattle.org_drawer.specs.declared.clock.ClockLine.{ClockLine}
 use Rattle.org_stamp.specs.CanPrint.{CanPrint}
-use Rattle.org_stamp.specs.Pair.{clock_stamp, if_inactive, past_spaces}
+use Rattle.org_stamp.specs.Pair.{clock_stamp, past_spaces}
+use Rattle.org_stamp.proofs.PairWords.{if_inactive}
 use Rattle.org_stamp.specs.Print.{stamp_text}
 use Rattle.org_stamp.specs.Read.{joined, ranged, same_bool, single_of, stamp_of}
 use Rattle.org_stamp.specs.Spaced.{IsGap}

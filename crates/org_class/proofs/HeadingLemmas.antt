@@ -7,7 +7,8 @@ use Rattle.memchr.specs.Find.{IsFirstByte, Nowhere, Passes, is_byte}
 use Rattle.org_lines.specs.Cuts.{lines}
 use Rattle.org_lines.proofs.LineLemmas.{only_line}
 use Rattle.org_class.specs.Classes.{classes, section_classes}
-use Rattle.org_class.specs.Heading.{is_star, begins_heading}
+use Rattle.org_class.specs.Heading.{begins_heading}
+use Rattle.org_class.proofs.HeadingWords.{is_star}
 use Rattle.org_class.specs.Sections.{ends_line}
 use Rattle.org_class.specs.declared.class.Class.TheVariants.{Heading}
 

@@ -7,9 +7,11 @@ use Rattle.std.proofs.lemmas.List.{drop-drop, drop-take, take-take, get_or-take,
 use Rattle.memchr.specs.Find.{Nowhere, Passes, is_byte}
 use Rattle.org_base.specs.declared.span.Span.{Span}
 use Rattle.org_settings.specs.Pieces.{put_before}
-use Rattle.org_class.specs.Heading.{begins_heading, is_star, stars}
+use Rattle.org_class.specs.Heading.{begins_heading, stars}
 use Rattle.org_class.specs.SectionEnds.{ends_before, IsSectionEnd, begins_line, has_line_star}
-use Rattle.org_class.specs.Sections.{ends_section, sections, spans_from}
+use Rattle.org_class.specs.Sections.{sections, spans_from}
+use Rattle.org_class.proofs.HeadingWords.{is_star}
+use Rattle.org_class.proofs.SectionsWords.{ends_section}
 use Rattle.org_class.proofs.AtLemmas.{IsPiece, AreStars, stars_end}
 
 -- a text's first section ends where one ends first

@@ -56,9 +56,8 @@ setting_of (Some c) l = if is_setting_class c then l ∷ [] else []
 
 -- of lines with these classes, those of class Setting
 abbrev pub lines_of_setting : List (List ℕ) → List Class → List (List ℕ)
-lines_of_setting [] cs = []
-lines_of_setting (l ∷ ls) [] = []
 lines_of_setting (l ∷ ls) (c ∷ cs) = if is_setting_class c then l ∷ lines_of_setting ls cs else lines_of_setting ls cs
+lines_of_setting _ _ = []
 
 -- a line that was read, if it is of class Setting
 abbrev pub setting_line : Option Class → Line → List (List ℕ)

@@ -1,12 +1,11 @@
 -- Where sections end (Org Syntax, "Headings and Sections").
 use Rattle.std.specs.Prelude.{ℕ, ◌-◌, ◌<◌, ◌≤◌, ◌≡◌, Bool, true, false, ◌&&◌, ◌==◌, if◌then◌else◌, List, length, slice_index}
 use Rattle.std.specs.List.{slice_range}
-use Rattle.org_class.specs.Heading.{is_star}
-use Rattle.org_class.specs.Sections.{ends_section}
+use Rattle.org_class.specs.Heading.{begins_heading}
 
 -- of a text up to an end, a section ends before a place: a line feed stands there, and a heading line follows
 abbrev pub ends_before : List ℕ → ℕ → ℕ → Bool
-ends_before text end place = ends_section (slice_index text (place - 1)) (slice_range text place end)
+ends_before text end place = (slice_index text (place - 1) == 10) && begins_heading (slice_range text place end)
 
 -- of a text up to an end, the section that begins at a place ends before another: the first such place, or the end
 pub record IsSectionEnd (text : List ℕ) (end at place : ℕ) : Type 0 where
@@ -21,7 +20,7 @@ begins_line at_front run place = if place == 0 then at_front else (slice_index r
 
 -- a star stands at a place of a run, and a line begins there
 abbrev pub has_line_star : Bool → List ℕ → ℕ → Bool
-has_line_star at_front run place = begins_line at_front run place && is_star (slice_index run place)
+has_line_star at_front run place = begins_line at_front run place && (slice_index run place == 42)
 
 -- the first star of a run at which a line begins
 pub record IsLineStar (at_front : Bool) (run : List ℕ) (place : ℕ) : Type 0 where

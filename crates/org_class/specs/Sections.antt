@@ -11,13 +11,9 @@ abbrev pub cut_where : {X : Type 0} → (X → List X → Bool) → List X → L
 cut_where cuts [] = []
 cut_where cuts (x ∷ xs) = put_before (cuts x xs) x (cut_where cuts xs)
 
--- a section ends after a line feed that a heading line follows
-abbrev pub ends_section : ℕ → List ℕ → Bool
-ends_section b bs = (b == 10) && begins_heading bs
-
--- the sections of a text, in order: it is cut where one ends
+-- the sections of a text, in order: it is cut after each line feed in front of a heading line
 abbrev pub sections : List ℕ → List (List ℕ)
-sections = cut_where ends_section
+sections = cut_where (λ b bs. (b == 10) && begins_heading bs)
 
 -- the text is empty or ends with a line feed
 abbrev pub ends_line : List ℕ → Bool

@@ -11,7 +11,8 @@ use Rattle.org_sum.proofs.PieceLemmas.{pieces_make_the_whole}
 use Rattle.org_sum.specs.Measures.{clock_minutes, effort_minutes}
 use Rattle.org_clocktable.specs.Counted.{Counted, file_sum, heading_sum, total}
 use Rattle.org_clocktable.specs.Laws.{StepsMakeTheWhole, TotalsAreOfFiles, clock_of_file}
-use Rattle.org_clocktable.specs.Table.{file_rows, files_rows, level_rows, rows_from, step_rows}
+use Rattle.org_clocktable.specs.Table.{file_rows, files_rows, level_rows, step_rows}
+use Rattle.org_clocktable.proofs.TableWords.{rows_from}
 use Rattle.org_clocktable.specs.declared.row.Of.TheVariants.{All, File, Heading}
 use Rattle.org_clocktable.specs.declared.row.TableRow.{TableRow}
 

@@ -8,3 +8,6 @@ pub mod WalkLemmas
 pub mod TotalLemmas
 pub mod LevelLemmas
 pub mod OptionLemmas
+pub mod TableWords
+pub mod RequestWords
+pub mod OptionsWords

@@ -18,8 +18,11 @@ use Rattle.org_base.specs.FileName.{is_file_name, is_name_byte}
 use Rattle.org_cal.specs.Blocks.{block_of}
 use Rattle.org_cal.specs.declared.steps.Step.{Step}
 use Rattle.org_cal.specs.declared.steps.Step.TheVariants.{Day, Week, Whole}
-use Rattle.org_clocktable.specs.Options.{add, all_from, before, begins, cut, is_word, level_of, no_options, once, options_of, with_file, with_level, with_step, word_len}
-use Rattle.org_clocktable.specs.Request.{TableRequest, asked_by, asked_in, asked_of, days_in, expression_from, text_if, word_at}
+use Rattle.org_clocktable.specs.Options.{add, all_from, before, begins, cut, is_word, level_of, once, options_of, with_file, with_level, with_step, word_len}
+use Rattle.org_clocktable.proofs.OptionsWords.{no_options}
+use Rattle.org_clocktable.specs.Request.{TableRequest, asked_by, asked_in, asked_of, expression_from, word_at}
+use Rattle.org_clocktable.proofs.RequestWords.{days_in}
+use Rattle.org_clocktable.proofs.RequestWords.{text_if}
 use Rattle.org_clocktable.specs.Spelled.{Block, ByDay, ByWeek, Effort, File, IsOption, IsTable, Level, OptionsAreSpelled, TableOption, blocks, effort_said, efforts, expression_words, files, levels, spell, step_said, steps}
 use Rattle.org_clocktable.specs.declared.options.Draft.{Draft}
 use Rattle.org_clocktable.proofs.Cuts.{by_bool}

@@ -9,7 +9,8 @@ use Rattle.org_entry.specs.declared.entry.Entry.{Entry}
 use Rattle.org_outline.specs.Levels.{level_of}
 use Rattle.org_sum.specs.Measures.{clock_minutes, effort_minutes}
 use Rattle.org_clocktable.specs.Counted.{Counted, file_sum, heading_sum, total}
-use Rattle.org_clocktable.specs.Table.{file_rows, files_rows, level_rows, rows_from}
+use Rattle.org_clocktable.specs.Table.{file_rows, files_rows, level_rows}
+use Rattle.org_clocktable.proofs.TableWords.{rows_from}
 
 -- what is left at a place
 drop_here : {X : Type 0} (xs : List X) (i : ℕ) (x : X) → i < length xs → x ≡ get_or xs i x → drop i xs ≡ x ∷ drop (i + 1) xs

@@ -13,7 +13,8 @@ use Rattle.org_sum.specs.Sums.{own_at, sum_below}
 use Rattle.org_clocktable.specs.Clocked.{AreOf, IsHeadingOrEnd, IsLastClocked, NoneHas}
 use Rattle.org_clocktable.specs.Counted.{Counted, clocks_before, heading_sum}
 use Rattle.org_clocktable.specs.RunningSums.{IsLastRise, IsLater, Sums, before}
-use Rattle.org_clocktable.specs.Table.{level_rows, rows_at, rows_from}
+use Rattle.org_clocktable.specs.Table.{level_rows, rows_at}
+use Rattle.org_clocktable.proofs.TableWords.{rows_from}
 use Rattle.org_clocktable.specs.declared.row.Of.TheVariants.{Heading}
 use Rattle.org_clocktable.specs.declared.row.TableRow.{TableRow}
 use Rattle.org_clocktable.proofs.RunningSumLemmas.{split}

@@ -1,6 +1,7 @@
 -- Files with the headings that count in a clock table (Org manual 9.6, "The clock table"; that clocks and efforts of
 -- headings of which `match=` doesn't hold count 0, and that hidden headings count: profile).
-use Rattle.std.specs.Prelude.{◌≡◌, ◌<◌, ◌^◌, ℕ, ◌+◌, Bool, true, ◌&&◌, if◌then◌else◌, is_some, List, [], ◌∷◌, ◌++◌, Option, None, Some, length, map, option_copied, replicate}
+use Rattle.std.specs.Option.{option_map_or}
+use Rattle.std.specs.Prelude.{◌≡◌, ◌<◌, ◌^◌, ℕ, ◌+◌, Bool, true, ◌&&◌, if◌then◌else◌, is_some, List, [], ◌∷◌, ◌++◌, Option, length, map, option_copied, replicate}
 use Rattle.std.specs.Borrow.{Bor}
 use Rattle.std.specs.List.{range_with_len}
 use Rattle.org_agenda.specs.Holding.{holds_of}
@@ -59,8 +60,7 @@ matching_of expr moment scope = record { entries = scope.entries; counted = hold
 
 -- a file with the headings that count: without an expression all, else those of which it holds
 abbrev pub counted_of : Option Expr → Moment → Scope → Counted
-counted_of None moment scope = whole_of scope
-counted_of (Some expr) moment scope = matching_of expr moment scope
+counted_of expression moment scope = option_map_or (λ expr. matching_of expr moment scope) expression (whole_of scope)
 
 -- files with the headings that count
 abbrev pub counted_files : Option (Bor Expr) → Moment → List Scope → List Counted

@@ -1,7 +1,7 @@
 -- What a clock table is asked for (Org manual 9.6, "The clock table"; which options there are, and how they are
 -- written: profile).
 use Rattle.std.specs.Prelude.{◌≡◌, ◌⊎◌, ℕ, ◌<◌, ◌^◌, Bool, if◌then◌else◌, List, Option, None, Some, chars, drop, length, take, unwrap_or}
-use Rattle.std.specs.Option.{option_and_then, option_map}
+use Rattle.std.specs.Option.{option_and_then, option_map, option_map_or}
 use Rattle.std.specs.Str.{is_utf8}
 use Rattle.org_base.specs.declared.fault.Fault.{Fault}
 use Rattle.org_cal.specs.Blocks.{block_of}
@@ -31,14 +31,10 @@ word_at text at = take (word_len (drop at text)) (drop at text)
 abbrev pub as_text : List ℕ → Option (List ℕ)
 as_text bytes = if is_utf8 bytes then Some bytes else None
 
--- the expression, if one is written; refused where it is no UTF-8, which doesn't occur in a text that is
-abbrev pub text_if : Option (List ℕ) → Option (Option (List ℕ))
-text_if None = Some None
-text_if (Some expression) = option_map Some (as_text expression)
-
--- the expression from a place of the text on, if there is one
+-- the expression from a place of the text on, if one is written; refused where it is no UTF-8, which doesn't occur in a text that
+-- is
 abbrev pub expression_from : List ℕ → Option ℕ → Option (Option (List ℕ))
-expression_from text at = text_if (option_map (λ at. drop at text) at)
+expression_from text at = option_map_or (λ bytes. option_map Some (as_text bytes)) (option_map (λ i. drop i text) at) (Some None)
 
 -- what options ask for, with their expression, the days of their block and their level
 abbrev pub asked_in : List ℕ → Draft → Option (List ℕ) → ℕ × ℕ → ℕ → TableRequest (List ℕ)
@@ -51,13 +47,10 @@ asked_in text options expression days most = record {
   expression = expression;
 }
 
--- the days of the block that options name, asked on a day
-abbrev pub days_in : List ℕ → ℕ → Draft → Option (ℕ × ℕ)
-days_in text today options = option_and_then (λ at. block_of (word_at text at) today) options.block_at
-
 -- what options of a text ask for on a day; none where block or level is missing, or where there is no such block
 abbrev pub asked_by : List ℕ → ℕ → Draft → Option (TableRequest (List ℕ))
-asked_by text today options = option_and_then (λ expression. option_and_then (λ days. option_map (asked_in text options expression days) options.level) (days_in text today options)) (expression_from text options.match_at)
+asked_by text today options = option_and_then (λ expression. option_and_then (λ days. option_map (asked_in text options expression days) options.level)
+    (option_and_then (λ at. block_of (word_at text at) today) options.block_at)) (expression_from text options.match_at)
 
 -- what a text asks for on a day; none where it isn't in the grammar of options
 abbrev pub asked_of : List ℕ → ℕ → Option (TableRequest (List ℕ))
@@ -67,9 +60,8 @@ asked_of text today = option_and_then (asked_by text today) (options_of text)
 -- its patterns
 abbrev pub IsRead : Option (List ℕ) → Option Expr → Type 0
 IsRead None None = Unit {0}
-IsRead None (Some expr) = ⊥
-IsRead (Some text) None = ⊥
 IsRead (Some text) (Some expr) = Reads (chars text) expr × AreReadable (patterns expr)
+IsRead _ _ = ⊥
 
 -- what is asked for, with its expression read
 abbrev pub with_read : TableRequest (List ℕ) → Option Expr → TableRequest Expr

@@ -1,5 +1,6 @@
 -- The rows of a clock table (Org manual 9.6, "The clock table"; which lines are shown: profile).
-use Rattle.std.specs.Prelude.{ℕ, ◌+◌, nat_lt, nat_le, ◌&&◌, if◌then◌else◌, List, [], ◌∷◌, ◌++◌, Option, None, Some}
+use Rattle.org_agenda.specs.Found.{found_from}
+use Rattle.std.specs.Prelude.{ℕ, nat_lt, nat_le, ◌&&◌, if◌then◌else◌, List, [], ◌∷◌, Option, None, Some}
 use Rattle.org_entry.specs.declared.entry.Entry.{Entry}
 use Rattle.org_clocktable.specs.Counted.{Counted, file_sum, heading_sum, total}
 use Rattle.org_clocktable.specs.declared.row.Of.TheVariants.{All, File, Heading}
@@ -23,15 +24,10 @@ entry_rows most file i clock effort e = level_rows most file i clock effort (lev
 abbrev pub rows_at : ℕ × ℕ → ℕ → ℕ → Counted → ℕ → List TableRow
 rows_at days most file counted i = level_rows most file i (heading_sum (clock_minutes days) counted i) (heading_sum effort_minutes counted i) (level_at (levels counted.entries) i)
 
--- the rows of entries, of which the first stands at place i of its file
-abbrev pub rows_from : ℕ × ℕ → ℕ → ℕ → Counted → ℕ → List Entry → List TableRow
-rows_from days most file counted i [] = []
-rows_from days most file counted i (e ∷ es) =
-    entry_rows most file i (heading_sum (clock_minutes days) counted i) (heading_sum effort_minutes counted i) e ++ rows_from days most file counted (i + 1) es
-
 -- the rows of all headings of a file
 abbrev pub heading_rows : ℕ × ℕ → ℕ → ℕ → Counted → List TableRow
-heading_rows days most file counted = rows_from days most file counted 0 counted.entries
+heading_rows days most file counted =
+    found_from (λ i e. entry_rows most file i (heading_sum (clock_minutes days) counted i) (heading_sum effort_minutes counted i) e) 0 counted.entries
 
 -- the rows of a file, if it has clocks in the days: its own, and those of its headings
 abbrev pub file_rows : ℕ × ℕ → ℕ → ℕ → Counted → List TableRow
@@ -53,8 +49,7 @@ line_at days most file i = rows_at days most file.place file.counted.now i
 
 -- the rows of files, of which the first stands at a place
 abbrev pub files_rows : ℕ × ℕ → ℕ → ℕ → List Counted → List TableRow
-files_rows days most file [] = []
-files_rows days most file (c ∷ cs) = file_rows days most file c ++ files_rows days most (file + 1) cs
+files_rows days most file files = found_from (λ k counted. file_rows days most k counted) file files
 
 -- the rows of the days from a first to a last: the total, then files and headings in their order
 unfoldable pub step_rows : ℕ × ℕ → ℕ → List Counted → List TableRow

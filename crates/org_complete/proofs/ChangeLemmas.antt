@@ -10,14 +10,16 @@ use Rattle.std.proofs.lemmas.List.Elements.{All-head, All-tail}
 use Rattle.std.proofs.lemmas.Str.{IsUtf8-nil, IsUtf8-between, IsCharBoundary-from_rest}
 use Rattle.org_base.specs.Words.{is_space}
 use Rattle.org_base.specs.declared.span.Span.{Span}
-use Rattle.org_class.specs.Heading.{stars, is_star}
+use Rattle.org_class.specs.Heading.{stars}
+use Rattle.org_class.proofs.HeadingWords.{is_star}
 use Rattle.org_class.specs.Sections.{sections, spans_from}
 use Rattle.org_cal.specs.declared.moment.Moment.{Moment}
 use Rattle.org_drawer.specs.declared.planning.Planning.{Planning}
 use Rattle.org_entry.specs.Entry.{entry_of, heading_line}
 use Rattle.org_entry.specs.declared.entry.Entry.{Entry}
 use Rattle.org_entry.specs.Planning.{entry_planning}
-use Rattle.org_complete.specs.Completion.{keyword_span, gap_behind, keyword_part, shift_part, plan_parts, plan_of}
+use Rattle.org_complete.specs.Completion.{keyword_span, gap_behind, shift_part, plan_parts}
+use Rattle.org_complete.proofs.CompletionWords.{keyword_part, plan_of}
 use Rattle.org_complete.specs.Parts.{Part, AreApart, with_parts, end_of_parts, joined_parts, one_part}
 use Rattle.org_complete.specs.Written.{shift_end, shift_text, plan_end, plan_text, IsBehind, CanWrite}
 use Rattle.org_complete.specs.declared.plan.Plan.{Plan}

@@ -11,12 +11,14 @@ use Rattle.org_base.specs.declared.span.Span.{Span}
 use Rattle.org_entry.specs.declared.entry.Entry.{Entry}
 use Rattle.org_entry.specs.Planning.{entry_planning}
 use Rattle.org_settings.specs.Keywords.{keyword_word}
-use Rattle.org_complete.specs.Completion.{as_one, completed, completed_at, completed_by, completion_part, entry_parts, gap_behind, keyword_span, part_at, plan_for, plan_part, plan_parts, plan_written, planned_parts, replaced, section_at, section_parts, sized}
+use Rattle.org_complete.specs.Completion.{completed, completed_at, completion_part, gap_behind, keyword_span, part_at, plan_for, plan_part, plan_parts, plan_written, replaced, section_at, section_parts, sized}
+use Rattle.org_complete.proofs.CompletionWords.{as_one, completed_by, entry_parts, planned_parts}
 use Rattle.org_complete.specs.Parts.{Part}
 use Rattle.org_complete.specs.Written.{IsPart, IsPlanWritten, plan_end, plan_text}
 use Rattle.org_complete.specs.declared.plan.Plan.{Plan}
 use Rattle.org_head.specs.declared.head.Head.{Head}
-use Rattle.org_store.specs.Change.{replaced_text, unless_refused}
+use Rattle.org_store.specs.Change.{replaced_text}
+use Rattle.org_store.proofs.ChangeWords.{unless_refused}
 use Rattle.org_text.specs.Replace.{max_bytes, replace}
 use Rattle.org_utf8.proofs.Texts.{parts_can_be_replaced}
 use Rattle.org_utf8.specs.Laws.{IsTextPart}

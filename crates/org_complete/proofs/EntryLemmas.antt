@@ -6,7 +6,8 @@ use Rattle.std.specs.Prelude.{IfSome, slice_get}
 use Rattle.org_class.specs.Classes.{classes, front_classes}
 use Rattle.org_class.specs.Drawers.{classes_below}
 use Rattle.org_drawer.specs.Planning.{planning_of}
-use Rattle.org_entry.specs.Entry.{placed, head_from, entry_of, entry_of_lines, heading_line}
+use Rattle.org_entry.specs.Entry.{placed, entry_of, entry_of_lines, heading_line}
+use Rattle.org_entry.proofs.EntryWords.{head_from}
 use Rattle.org_entry.specs.Planning.{entry_planning}
 use Rattle.org_entry.specs.declared.entry.Entry.{Entry}
 use Rattle.org_entry.proofs.LineLemmas.{first, first_again, first_within}

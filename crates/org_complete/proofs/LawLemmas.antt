@@ -10,7 +10,8 @@ use Rattle.org_class.specs.Sections.{sections}
 use Rattle.org_drawer.specs.declared.planning.Planning.{Planning}
 use Rattle.org_entry.specs.Entry.{heading_line}
 use Rattle.org_entry.specs.Planning.{entry_planning}
-use Rattle.org_complete.specs.Completion.{by_place, entry_parts, lacks, plain_plan, plan_for, plan_parts, planned_parts, put_at, repeat_plan, shift_at, shift_plan, shifts}
+use Rattle.org_complete.specs.Completion.{by_place, lacks, plain_plan, plan_for, plan_parts, repeat_plan, shift_at, shifts}
+use Rattle.org_complete.proofs.CompletionWords.{entry_parts, planned_parts, put_at, shift_plan}
 use Rattle.org_complete.specs.Laws.{AreShifts, CompletionsAreApart, IsRepeated, IsShiftOf, KeywordsAreWritten}
 use Rattle.org_complete.specs.Parts.{AreApart, Part}
 use Rattle.org_complete.specs.declared.plan.Plan.{Plan}

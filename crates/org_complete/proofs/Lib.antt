@@ -8,3 +8,5 @@ pub mod ChangeLemmas
 pub mod CompleteLemmas
 pub mod LawLemmas
 pub mod RefusalLemmas
+pub mod CompletionWords
+pub mod RepeatsLemmas

@@ -6,7 +6,8 @@ use Rattle.std.specs.List.{prefix_len, starts_with}
 use Rattle.std.proofs.lemmas.Bool.{cases_Bool}
 use Rattle.org_base.specs.Words.{is_space}
 use Rattle.org_base.specs.declared.span.Span.{Span}
-use Rattle.org_stamp.specs.Pair.{pair_of, pair_at, pair_and, pairs_from, pairs, past_spaces, word_at, is_planning}
+use Rattle.org_stamp.specs.Pair.{pair_of, pair_at, pairs_from, pairs, past_spaces, word_at, is_planning}
+use Rattle.org_stamp.proofs.PairWords.{pair_and}
 use Rattle.org_stamp.specs.Read.{single_of, ranged, joined, same_bool}
 use Rattle.org_stamp.specs.declared.pair.Pair.{Pair}
 use Rattle.org_stamp.specs.declared.pair.PlanningKeyword.{PlanningKeyword}

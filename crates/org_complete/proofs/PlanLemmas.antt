@@ -11,7 +11,8 @@ use Rattle.org_base.specs.declared.span.Span.{Span}
 use Rattle.org_cal.specs.Faults.{date_fault}
 use Rattle.org_cal.specs.declared.moment.Moment.{Moment}
 use Rattle.org_drawer.specs.declared.planning.Planning.{Planning}
-use Rattle.org_complete.specs.Completion.{shifts, lacks, put_at, shift_at, by_place, plain_plan, shift_plan, repeat_plan, plan_of}
+use Rattle.org_complete.specs.Completion.{shifts, lacks, shift_at, by_place, plain_plan, repeat_plan}
+use Rattle.org_complete.proofs.CompletionWords.{put_at, shift_plan, plan_of}
 use Rattle.org_complete.specs.Written.{is_hours, shift_end, IsBehind}
 use Rattle.org_complete.specs.declared.plan.Plan.{Plan}
 use Rattle.org_complete.specs.declared.plan.Shift.{Shift}

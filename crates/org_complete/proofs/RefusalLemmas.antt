@@ -12,7 +12,8 @@ use Rattle.org_cal.specs.declared.moment.Moment.{Moment}
 use Rattle.org_drawer.specs.declared.planning.Planning.{Planning}
 use Rattle.org_entry.specs.Entry.{heading_line}
 use Rattle.org_entry.specs.Planning.{entry_planning}
-use Rattle.org_complete.specs.Completion.{by_place, completed, completed_by, entry_parts, keyword_plan, lacks, line_start, plan_of, plan_parts, planned_parts, put_at, repeat_plan, shift_at, shift_plan, shifts}
+use Rattle.org_complete.specs.Completion.{by_place, completed, keyword_plan, lacks, line_start, plan_parts, repeat_plan, shift_at, shifts}
+use Rattle.org_complete.proofs.CompletionWords.{completed_by, entry_parts, plan_of, planned_parts, put_at, shift_plan}
 use Rattle.org_complete.specs.Parts.{Part, with_parts}
 use Rattle.org_complete.specs.Reasons.{RefusalsComeInOrder, entry_on, is_too_long, lacks_hours, leaves, leaves_years, repeats}
 use Rattle.org_complete.specs.declared.plan.Plan.{Plan}

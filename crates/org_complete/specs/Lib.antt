@@ -1,7 +1,8 @@
-pub mod Reading
-pub mod Parts
+pub mod Chained
 pub mod Completion
-pub mod Written
 pub mod Examples
 pub mod Laws
+pub mod Parts
+pub mod Reading
 pub mod Reasons
+pub mod Written

@@ -11,7 +11,6 @@ pub fn parts_are_one_change()
 {}
 
 /// What a completion replaces, the keyword and the stamps that shift, stands in the text, one part after the other.
-#[tactic(auto, using(crate::proofs::LawLemmas::completions_apart))]
 pub fn completions_are_apart()
     ensures { CompletionsAreApart }
 {}

@@ -6,7 +6,8 @@ use Rattle.std.proofs.lemmas.List.Sums.{sum_by-cons}
 use Rattle.org_cal.specs.Minutes.{minute_of}
 use Rattle.org_cal.specs.Pieces.{AreJoined}
 use Rattle.org_drawer.specs.declared.clock.ClockLine.{ClockLine}
-use Rattle.org_drawer.specs.Clock.{common_minutes, minutes_to, minutes_in, runs_at}
+use Rattle.org_drawer.specs.Clock.{common_minutes, minutes_in, runs_at}
+use Rattle.org_drawer.proofs.ClockWords.{minutes_to}
 use Rattle.org_drawer.specs.Laws.{MinutesAreCounted, PiecesMakeTheWhole, ReversedClocksHaveNone}
 
 -- pieces that are joined end where they begin or after it

@@ -6,3 +6,4 @@ pub mod PlanningLemmas
 pub mod ReadLemmas
 mod SpelledLemmas
 mod ThereLemmas
+pub mod ClockWords

@@ -1,7 +1,8 @@
 -- Lines are read exactly where they are such lines.
 use Rattle.std.proofs.Common.{◌≡◌, ℕ, Bool, true, false, cond, List, Some, None, Option, refl}
 use Rattle.std.specs.Option.{is_some, option_map}
-use Rattle.org_stamp.specs.Pair.{clock_stamp, is_clock, is_some_stamp, is_planning}
+use Rattle.org_stamp.specs.Pair.{clock_stamp, is_clock, is_planning}
+use Rattle.org_stamp.proofs.PairWords.{is_some_stamp}
 use Rattle.org_stamp.specs.declared.stamp.Stamp.{Stamp}
 use Rattle.org_drawer.specs.declared.clock.ClockLine.{ClockLine}
 use Rattle.org_drawer.specs.Clock.{clock_of}

@@ -1,7 +1,7 @@
 -- Clocks and their minutes (Org Syntax, "Clocks"; that only the minutes within a period count, and that a missing time
 -- is 00:00: profile).
-use Rattle.std.specs.Prelude.{ℕ, ◌+◌, ◌-◌, min, max, Bool, ◌&&◌, nat_le, nat_lt, List, Option, Some, None}
-use Rattle.std.specs.Option.{option_map}
+use Rattle.std.specs.Prelude.{ℕ, ◌+◌, ◌-◌, min, max, Bool, ◌&&◌, nat_le, nat_lt, List, Option}
+use Rattle.std.specs.Option.{option_map, option_map_or}
 use Rattle.org_cal.specs.Minutes.{minute_of, minute_at}
 use Rattle.org_stamp.specs.Pair.{clock_stamp}
 use Rattle.org_drawer.specs.declared.clock.ClockLine.{ClockLine}
@@ -18,11 +18,6 @@ runs_at from to minute = nat_le from minute && nat_lt minute to
 abbrev pub common_minutes : ℕ → ℕ → ℕ → ℕ → ℕ
 common_minutes from to first past = min to past - max from first
 
--- the minutes that a clock with this start and end has in a stretch; a running clock has none
-abbrev pub minutes_to : ℕ → Option ℕ → ℕ → ℕ → ℕ
-minutes_to from None first past = 0
-minutes_to from (Some to) first past = common_minutes from to first past
-
--- the minutes that a clock has from the beginning of a first day to the end of a last one
+-- the minutes that a clock has from the beginning of a first day to the end of a last one; a running clock has none
 abbrev pub minutes_in : ClockLine → ℕ × ℕ → ℕ
-minutes_in clock (first, last) = minutes_to clock.from clock.to (minute_of first 0) (minute_of (last + 1) 0)
+minutes_in clock (first, last) = option_map_or (λ to. common_minutes clock.from to (minute_of first 0) (minute_of (last + 1) 0)) clock.to 0

@@ -16,11 +16,14 @@ use Rattle.org_engine.specs.Outlines.{scopes_of}
 use Rattle.org_cal.specs.Faults.{date_fault}
 use Rattle.org_cal.specs.Texts.{date_of}
 use Rattle.org_base.specs.declared.limits.TheConstants.{MOST_DAYS}
-use Rattle.org_engine.specs.Questions.{asked_agenda, asked_days, asked_from, days_fault}
+use Rattle.org_engine.specs.Questions.{asked_agenda}
+use Rattle.org_engine.proofs.QuestionsWords.{asked_days, asked_from, days_fault}
 use Rattle.org_engine.specs.Step.{DayAgenda, Unread}
 use Rattle.org_engine.specs.Examined.{near_in_world}
-use Rattle.org_engine.specs.Views.{agenda_view, days_over, scopes_named}
-use Rattle.org_engine.specs.Places.{agenda_in, agenda_places, days_shown, in_form, line_places}
+use Rattle.org_engine.specs.Views.{days_over, scopes_named}
+use Rattle.org_engine.proofs.ViewWords.{agenda_view}
+use Rattle.org_engine.specs.Places.{agenda_in, days_shown, in_form, line_places}
+use Rattle.org_engine.proofs.ViewWords.{agenda_places}
 use Rattle.org_engine.specs.declared.question.Form.{Form}
 use Rattle.org_engine.specs.declared.question.Form.TheVariants.{Places, Text}
 use Rattle.org_engine.proofs.ListLemmas.{all_files, all_named}
@@ -60,7 +63,6 @@ same_lines p scopes some all today first count last are end same agenda is =
 -- an agenda over all files, in the profile and at the moment of a world
 pub days_are : (form : Form) (first count : ℕ) (world : WorldView) (p : Profile) (moment : Moment) → p ≡ world.profile → moment ≡ world.moment →
     in_form form None (λ scopes. days_over p scopes moment.day first count) (λ scopes. days_shown p scopes moment.day first count) world ≡ agenda_in form first count world
-unfolding agenda_view agenda_places
 days_are Text first count world p moment same is =
     ap (λ scopes. days_over p scopes moment.day first count) (all_named (scopes_of world))
     ∙ (λ i. days_over (same i) (scopes_of world) (is i).day first count)

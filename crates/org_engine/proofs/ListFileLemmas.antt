@@ -6,7 +6,8 @@ use Rattle.std.proofs.lemmas.List.{length-map, map-append}
 use Rattle.std.proofs.lemmas.List.Elements.{All-head, All-tail}
 use Rattle.std.proofs.lemmas.List.Concat.{flat_map-cons}
 use Rattle.std.proofs.lemmas.Slice.Eq.{bytes_eq-Decides}
-use Rattle.org_agenda.specs.Lists.{Listing, Matching, Ranked, file_rows, head_rows, in_order, is_listed, list_rows, ranked_row, rows_from, scope_rows, todo_listing}
+use Rattle.org_agenda.specs.Lists.{Listing, Matching, Ranked, file_rows, in_order, is_listed, list_rows, scope_rows, todo_listing}
+use Rattle.org_agenda.proofs.ListsWords.{head_rows, ranked_row, rows_from}
 use Rattle.org_agenda.specs.Order.{at_key, by_key}
 use Rattle.org_agenda.specs.declared.lists.TheConstants.{PRIORITIES}
 use Rattle.org_agenda.specs.declared.row.Row.{Row}
@@ -18,7 +19,8 @@ use Rattle.org_layout.specs.Lines.{list_lines, scope_line}
 use Rattle.org_layout.specs.Shown.{row_line as line_shown}
 use Rattle.org_store.specs.Outline.{scope_of}
 use Rattle.org_engine.specs.Outlines.{scopes_of}
-use Rattle.org_engine.specs.Places.{line_place, line_places, list_in, list_places, section_place}
+use Rattle.org_engine.specs.Places.{line_place, line_places, list_in, section_place}
+use Rattle.org_engine.specs.Places.{list_places}
 use Rattle.org_engine.specs.Rest.{IsNoName, ListsAreOverTheirFiles}
 use Rattle.org_engine.specs.Step.{ClockTable, DayAgenda, MatchList, Shown, TodoList, Unread, file_named, is_missing, place_named}
 use Rattle.org_engine.specs.Views.{list_view}

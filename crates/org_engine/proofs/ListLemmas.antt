@@ -5,7 +5,8 @@ use Rattle.org_base.specs.Codes.{memory_fault}
 use Rattle.org_base.specs.declared.fault.Fault.{Fault}
 use Rattle.org_inherit.specs.Scope.{Scope}
 use Rattle.org_layout.specs.Lines.{list_lines}
-use Rattle.org_engine.specs.Places.{files_named, in_form, line_places, list_in, list_places, list_shown}
+use Rattle.org_engine.specs.Places.{files_named, in_form, line_places, list_in, list_shown}
+use Rattle.org_engine.specs.Places.{list_places}
 use Rattle.org_engine.specs.declared.question.Form.{Form}
 use Rattle.org_engine.specs.declared.question.Form.TheVariants.{Places, Text}
 use Rattle.org_match.specs.Patterns.{regexp_fault}
@@ -19,10 +20,12 @@ use Rattle.org_cal.specs.declared.moment.Moment.{Moment}
 use Rattle.org_base.specs.declared.code.Code.TheVariants as code
 use Rattle.org_base.specs.declared.fault.Fault.TheVariants.{Plain}
 use Rattle.org_expression.specs.Grammar.{Expr, Reads}
-use Rattle.org_engine.specs.Questions.{IsMissingFault, IsPlaceOver, IsReadAs, IsUnread, TellsOf}
+use Rattle.org_engine.specs.Questions.{IsMissingFault, IsPlaceOver, IsUnread, TellsOf}
+use Rattle.org_engine.proofs.QuestionsWords.{IsReadAs}
 use Rattle.org_engine.specs.Step.{MatchList, Refused, Reply, Shown, TodoList, file_named, is_missing, over_file, place_named, render_view}
 use Rattle.org_engine.specs.declared.question.View.TheVariants.{Match, Todo}
-use Rattle.org_engine.specs.Views.{list_view, scopes_named}
+use Rattle.org_engine.specs.Views.{scopes_named}
+use Rattle.org_engine.specs.Views.{list_view}
 use Rattle.org_engine.specs.World.{FileView, WorldView}
 
 -- a refusal that doesn't stand for memory

@@ -1,4 +1,6 @@
 -- Names of files and sessions of pins stand once.
+use Rattle.org_base.specs.declared.limits.TheConstants.{MOST_FILES}
+use Rattle.org_engine.specs.declared.limits.TheConstants.{LAST_SERIAL}
 use Rattle.std.proofs.Common.{◌≡◌, ℕ, List, [], ◌∷◌, ◌++◌, Bool, true, false, cond, inl, inr, refl, sym, ◌+◌, eq-eqb}
 use Rattle.std.specs.Prelude.{Option, None, Some, Result, Ok, Err, ◌==◌, bytes_eq, is_some, nat_le, nat_lt, not, length}
 use Rattle.std.specs.Str.{is_utf8}
@@ -11,7 +13,8 @@ use Rattle.org_base.specs.declared.fault.Fault.TheVariants as fault
 use Rattle.org_base.specs.declared.profile.Profile.{Profile}
 use Rattle.org_text.specs.Replace.{max_bytes}
 use Rattle.org_engine.specs.World.{FileView, PinView, State, WorldView}
-use Rattle.org_engine.specs.Step.{last_serial, most_files, Command, AddFile, DropFile, EditFile, Complete, At, Inherit, PinWorld, SetProfile, Unpin, TextOf, KeywordsOf, Version, Ask, Outcome, step, changes, file_named, is_unused, profiled, refused, pinned_by, unpinned_by, world_of, released, is_session, added, dropped, put, edited, completed_at, text_seen, with_file, with_text, without}
+use Rattle.org_engine.specs.Step.{Command, AddFile, DropFile, EditFile, Complete, At, Inherit, PinWorld, SetProfile, Unpin, TextOf, KeywordsOf, Version, Ask, Outcome, step, changes, file_named, refused, pinned_by, unpinned_by, world_of, released, is_session, added, dropped, put, edited, text_seen, with_file, with_text, without}
+use Rattle.org_engine.proofs.StepWords.{is_unused, profiled, completed_at}
 use Rattle.org_engine.specs.Laws.{HaveOwnNames, HaveOwnSessions, NamesAreOnce, after_all}
 use Rattle.org_engine.proofs.LawLemmas.{next_state}
 
@@ -134,7 +137,7 @@ module _ (s : State) (own : HaveOwnNames s.world.files × HaveOwnSessions s.pins
 
   changes_own : (r : Result (List FileView) Fault) → OwnFiles r → Own (changes s r)
   changes_own (Err f) h = own
-  changes_own (Ok files) h = next_own files (nat_le last_serial s.serial) h
+  changes_own (Ok files) h = next_own files (nat_le LAST_SERIAL s.serial) h
 
   put_own : (name : List ℕ) (r : Result (List ℕ) Fault) → OwnFiles (put name s r)
   put_own name (Err f) = tt
@@ -169,7 +172,7 @@ module _ (s : State) (own : HaveOwnNames s.world.files × HaveOwnSessions s.pins
 
   step_own : (c : Command) → Own (step c s)
   step_own (AddFile name text) = changes_own (added name text (s.serial + 1) s.world.files)
-      (added_by name text (file_named name s.world.files) refl (not (is_file_name name)) (nat_le most_files (length s.world.files)) (not (is_utf8 text)) (nat_lt max_bytes (length text)))
+      (added_by name text (file_named name s.world.files) refl (not (is_file_name name)) (nat_le MOST_FILES (length s.world.files)) (not (is_utf8 text)) (nat_lt max_bytes (length text)))
   step_own (DropFile name) = changes_own (dropped name s.world.files) (dropped_by name (is_some (file_named name s.world.files)))
   step_own (EditFile by name serial at del ins) =
       let text = edited at del ins (text_seen by name serial s.world.files) in changes_own (put name s text) (put_own name text)

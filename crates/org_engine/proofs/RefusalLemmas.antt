@@ -1,4 +1,6 @@
 -- In which order commands are refused.
+use Rattle.org_base.specs.declared.limits.TheConstants.{MOST_FILES}
+use Rattle.org_engine.specs.declared.limits.TheConstants.{LAST_SERIAL}
 use Rattle.std.proofs.Common.{◌≡◌, ◌+◌, ◌-◌, ◌≤◌, ◌==◌, ◌&&◌, ℕ, List, [], ◌∷◌, ◌++◌, Bool, true, false, cond, refl, arith, length, length-append, take, drop}
 use Rattle.std.specs.Prelude.{◌↔◌, Option, None, Some, Result, Ok, Err, is_some, nat_le, nat_lt, not}
 use Rattle.std.specs.Str.{is_utf8}
@@ -12,10 +14,11 @@ use Rattle.org_base.specs.declared.fault.Fault.TheVariants.{Plain, Stale}
 use Rattle.org_complete.specs.Completion.{completed}
 use Rattle.org_complete.specs.Reasons.{completion_reasons}
 use Rattle.org_complete.proofs.RefusalLemmas.{in_order as completion_in_order}
-use Rattle.org_store.specs.Change.{unless_refused}
+use Rattle.org_store.proofs.ChangeWords.{unless_refused}
 use Rattle.org_text.specs.Replace.{is_boundary, max_bytes, replace}
 use Rattle.org_engine.specs.Refusals.{RefusalsComeInOrder, complete_reasons, edit_reasons, spent, text_reasons}
-use Rattle.org_engine.specs.Step.{Refused, Reply, Serial, changes, completed_at, edited, file_named, is_session, last_serial, most_files, put, text_at, with_file, with_text, without}
+use Rattle.org_engine.specs.Step.{Refused, Reply, Serial, changes, edited, file_named, is_session, put, with_file, with_text, without}
+use Rattle.org_engine.proofs.StepWords.{completed_at, text_at}
 use Rattle.org_engine.specs.World.{FileView, State}
 use Rattle.org_engine.proofs.LawLemmas.{next_state}
 
@@ -34,7 +37,7 @@ next_says s files true = says (Plain code.Spent)
 next_says s files false = silent (s.serial + 1)
 
 last_says : (s : State) (files : List FileView) → Says (changes s (Ok files)).reply (first_of (spent s ∷ []))
-last_says s files = next_says s files (nat_le last_serial s.serial)
+last_says s files = next_says s files (nat_le LAST_SERIAL s.serial)
 
 add_says : (name text : List ℕ) (s : State) (v w x y z : Bool) →
     Says (changes s (cond v (Err (Plain code.Command)) (cond w (Err (Plain code.Taken)) (cond x (Err (Plain code.Files)) (cond y (Err (Plain code.Utf8)) (cond z (Err (Plain code.Size)) (Ok (with_file name text (s.serial + 1) s.world.files)))))))).reply
@@ -129,7 +132,7 @@ module _ (name : List ℕ) (s : State) (reasons : List Reason) where
 
 pub in_order : RefusalsComeInOrder
 in_order s = record {
-  adds = λ name text. add_says name text s (not (is_file_name name)) (is_some (file_named name s.world.files)) (nat_le most_files (length s.world.files)) (not (is_utf8 text)) (nat_lt max_bytes (length text));
+  adds = λ name text. add_says name text s (not (is_file_name name)) (is_some (file_named name s.world.files)) (nat_le MOST_FILES (length s.world.files)) (not (is_utf8 text)) (nat_lt max_bytes (length text));
   drops = λ name. drop_says name s (is_some (file_named name s.world.files));
   edits = λ session name serial at del ins.
       seen_says name serial s (edited at del ins) (edit_reasons at del ins s) (λ f. refl) (λ text. edit_says name s at del ins text) session (is_session session) (file_named name s.world.files) refl;

@@ -15,13 +15,18 @@ use Rattle.org_expression.specs.Grammar.{Expr}
 use Rattle.org_inherit.specs.Scope.{Scope}
 use Rattle.org_layout.specs.Days.{agenda_lines, day_lines}
 use Rattle.org_layout.specs.Lines.{list_lines}
-use Rattle.org_layout.specs.Shown.{line_text, lines_of, lines_on, row_line, step_lines_shown}
+use Rattle.org_layout.specs.Shown.{line_text, lines_of, row_line, step_lines_shown}
+use Rattle.org_layout.proofs.ShownWords.{lines_on}
 use Rattle.org_layout.specs.declared.shown.Line.TheVariants as line
 use Rattle.org_engine.specs.PlaceLaws.{AreOfOneList, TextAndPlacesAreOfOneList, files_for, has_efforts, lines_for, scopes_for}
 use Rattle.org_agenda.specs.Lists.{Listing}
-use Rattle.org_engine.specs.Places.{agenda_places, days_shown, files_named, line_places, list_places, list_shown, steps_shown, table_places, table_shown}
+use Rattle.org_engine.specs.Places.{days_shown, files_named, line_places, list_shown, steps_shown, table_shown}
+use Rattle.org_engine.proofs.ViewWords.{agenda_places, table_places}
+use Rattle.org_engine.specs.Places.{list_places}
 use Rattle.org_engine.specs.Step.{ClockTable, DayAgenda, MatchList, Query, Refused, Shown, TodoList, Unread, is_missing, render_view}
-use Rattle.org_engine.specs.Views.{agenda_view, list_view, scopes_named, step_text, steps_in, steps_text, table_view}
+use Rattle.org_engine.specs.Views.{scopes_named, steps_in, steps_text}
+use Rattle.org_engine.proofs.ViewWords.{agenda_view, step_text, table_view}
+use Rattle.org_engine.specs.Views.{list_view}
 use Rattle.org_engine.specs.Outlines.{scopes_of}
 use Rattle.org_engine.specs.World.{FileView, WorldView}
 use Rattle.org_engine.specs.declared.question.Form.TheVariants.{Places, Text}
@@ -57,7 +62,6 @@ agenda_is efforts scopes agenda =
 -- a clock table
 step_is : (table : TableRequest Expr) (scopes : List Scope) (files : List Counted) (days : ℕ × ℕ) →
     step_text table scopes files days ≡ flat_map (line_text table.with_effort scopes) (step_lines_shown days (step_rows days table.most files))
-unfolding step_text
 step_is table scopes files days = ap (λ zs. line_text table.with_effort scopes (line.Step days.0 days.1) ++ zs) (flat_mapped (line_text table.with_effort scopes) line.Table (step_rows days table.most files))
 
 steps_are : (table : TableRequest Expr) (scopes : List Scope) (files : List Counted) →
@@ -89,25 +93,21 @@ list_leads listing over world = ap (λ files. line_places files (list_shown list
 -- the same of an agenda
 days_text : (first count : ℕ) (world : WorldView) →
     agenda_view first count world ≡ flat_map (line_text false (scopes_named None (scopes_of world))) (days_shown world.profile (scopes_of world) world.moment.day first count)
-unfolding agenda_view
 days_text first count world =
     agenda_is false (scopes_of world) _
     ∙ ap (λ scopes. flat_map (line_text false scopes) (days_shown world.profile (scopes_of world) world.moment.day first count)) (sym (all_scopes (scopes_of world)))
 
 days_lead : (first count : ℕ) (world : WorldView) →
     agenda_places first count world ≡ line_places (files_named None world.files) (days_shown world.profile (scopes_of world) world.moment.day first count)
-unfolding agenda_places
 days_lead first count world = ap (λ files. line_places files (days_shown world.profile (scopes_of world) world.moment.day first count)) (sym (all_files world.files))
 
 -- and of a clock table
 table_text : (table : TableRequest Expr) (world : WorldView) →
     table_view table world ≡ flat_map (line_text table.with_effort (scopes_named table.file (scopes_of world))) (table_shown table world.moment (scopes_named table.file (scopes_of world)))
-unfolding table_view
 table_text table world = steps_are table (scopes_named table.file (scopes_of world)) _
 
 table_leads : (table : TableRequest Expr) (world : WorldView) →
     table_places table world ≡ line_places (files_named table.file world.files) (table_shown table world.moment (scopes_named table.file (scopes_of world)))
-unfolding table_places
 table_leads table world = refl
 
 -- what a view answers that may be refused

@@ -1,4 +1,5 @@
 -- What commands leave as it was, what a session pins, and over which files a table is.
+use Rattle.org_engine.specs.declared.limits.TheConstants.{LAST_SERIAL}
 use Rattle.std.proofs.Common.{◌≡◌, ◌≢◌, ◌∙◌, ◌+◌, eq-eqb, ℕ, List, [], ◌∷◌, ◌++◌, Bool, true, false, cond, refl, ap, sym, eqb, map, inl, inr}
 use Rattle.std.specs.Prelude.{Option, None, Some, Result, Ok, Err, nat_le, is_some, not}
 use Rattle.std.specs.Str.{bytes_eq, is_utf8}
@@ -15,12 +16,15 @@ use Rattle.org_clocktable.specs.Request.{TableRequest}
 use Rattle.org_expression.specs.Grammar.{Expr}
 use Rattle.org_store.specs.Outline.{scope_of}
 use Rattle.org_inherit.specs.Scope.{Scope}
-use Rattle.org_engine.specs.Places.{files_named, table_in, table_places}
+use Rattle.org_engine.specs.Places.{files_named, table_in}
+use Rattle.org_engine.proofs.ViewWords.{table_places}
 use Rattle.org_engine.specs.declared.question.Form.TheVariants.{Places, Text}
 use Rattle.org_engine.specs.declared.question.Form.{Form}
 use Rattle.org_engine.specs.World.{WorldView, FileView, State, PinView}
-use Rattle.org_engine.specs.Step.{Query, Shown, last_serial, Command, AddFile, DropFile, EditFile, Complete, At, Inherit, SetProfile, PinWorld, Unpin, TextOf, KeywordsOf, Version, Ask, Serial, Refused, Outcome, step, changes, profiled, is_unused, refused, pinned_by, unpinned_by, world_of, is_session, answer, kept_world, added, dropped, put, edited, completed_at, text_seen, with_file, with_text, without, file_named, is_missing}
-use Rattle.org_engine.specs.Views.{scopes_named, step_text, table_view}
+use Rattle.org_engine.specs.Step.{Query, Shown, Command, AddFile, DropFile, EditFile, Complete, At, Inherit, SetProfile, PinWorld, Unpin, TextOf, KeywordsOf, Version, Ask, Serial, Refused, Outcome, step, changes, refused, pinned_by, unpinned_by, world_of, is_session, added, dropped, put, edited, text_seen, with_file, with_text, without, file_named, is_missing}
+use Rattle.org_engine.proofs.StepWords.{profiled, is_unused, answer, kept_world, completed_at}
+use Rattle.org_engine.specs.Views.{scopes_named}
+use Rattle.org_engine.proofs.ViewWords.{step_text, table_view}
 use Rattle.org_engine.specs.Rest.{LimitsAreNamed, PinsKeepTheWorld, CommandsLeaveTheRest, IsNoName, KeepsOrder, KeepsRest, TablesAreOverTheirFiles, TakesOut, changed_by, names_in, names_of, over_all}
 use Rattle.org_engine.proofs.LawLemmas.{next_state}
 
@@ -68,7 +72,7 @@ next_rest s files false = record { moment = refl; inherited = refl; profile = re
 
 changes_rest : (s : State) (r : Result (List FileView) Fault) → KeepsRest s (changes s r).after
 changes_rest s (Err f) = record { moment = refl; inherited = refl; profile = refl; pins = refl }
-changes_rest s (Ok files) = next_rest s files (nat_le last_serial s.serial)
+changes_rest s (Ok files) = next_rest s files (nat_le LAST_SERIAL s.serial)
 
 files_rest : (s : State) (c : Command) (name : List ℕ) → changed_by c ≡ Some name → KeepsRest s (step c s).after
 files_rest s (AddFile n text) name is = changes_rest s (added n text (s.serial + 1) s.world.files)
@@ -92,7 +96,7 @@ next_kept s files false f h = absurd cc
 
 changes_kept : (s : State) (r : Result (List FileView) Fault) (f : Fault) → (changes s r).reply ≡ Refused f → (changes s r).after ≡ s
 changes_kept s (Err g) f h = refl
-changes_kept s (Ok files) f h = next_kept s files (nat_le last_serial s.serial) f h
+changes_kept s (Ok files) f h = next_kept s files (nat_le LAST_SERIAL s.serial) f h
 
 profile_kept : (p : Profile) (s : State) (b : Bool) (f : Fault) → (profiled p s b).reply ≡ Refused f → (profiled p s b).after ≡ s
 profile_kept p s true f h = absurd cc
@@ -186,7 +190,7 @@ module _ (other : List ℕ) where
   -- whatever a change of files comes to, if it comes to files, they have that file
   made_beside : (s : State) (r : Result (List FileView) Fault) → ((files : List FileView) → r ≡ Ok files → found files ≡ found s.world.files) → found (changes s r).after.world.files ≡ found s.world.files
   made_beside s (Err f) h = refl
-  made_beside s (Ok files) h = next_beside s files (nat_le last_serial s.serial) (h files refl)
+  made_beside s (Ok files) h = next_beside s files (nat_le LAST_SERIAL s.serial) (h files refl)
 
   add_made : (name text : List ℕ) (serial : ℕ) (fs files : List FileView) (v w x y z : Bool) → other ≢ name →
       cond v (Err (fault.Plain code.Command)) (cond w (Err (fault.Plain code.Taken)) (cond x (Err (fault.Plain code.Files)) (cond y (Err (fault.Plain code.Utf8)) (cond z (Err (fault.Plain code.Size)) (Ok (with_file name text serial fs)))))) ≡ Ok files →
@@ -255,7 +259,7 @@ next_names name text s false = same_names name text (s.serial + 1) s.world.files
 
 put_names : (name : List ℕ) (s : State) (r : Result (List ℕ) Fault) → names_of (changes s (put name s r)).after ≡ names_of s
 put_names name s (Err f) = refl
-put_names name s (Ok text) = next_names name text s (nat_le last_serial s.serial)
+put_names name s (Ok text) = next_names name text s (nat_le LAST_SERIAL s.serial)
 
 next_added : (name text : List ℕ) (s : State) (b : Bool) (n : ℕ) → (next_state s (with_file name text (s.serial + 1) s.world.files) b).reply ≡ Serial n →
     names_of (next_state s (with_file name text (s.serial + 1) s.world.files) b).after ≡ names_of s ++ name ∷ []
@@ -271,7 +275,7 @@ add_names name text s false true x y z n h = absurd cc
 add_names name text s false false true y z n h = absurd cc
 add_names name text s false false false true z n h = absurd cc
 add_names name text s false false false false true n h = absurd cc
-add_names name text s false false false false false n h = next_added name text s (nat_le last_serial s.serial) n h
+add_names name text s false false false false false n h = next_added name text s (nat_le LAST_SERIAL s.serial) n h
 
 taken_out : (name : List ℕ) (fs : List FileView) → is_some (file_named name fs) ≡ true → TakesOut name (names_in fs) (names_in (without name fs))
 taken_out name [] h = absurd cc
@@ -290,7 +294,7 @@ next_dropped name s false n there h = taken_out name s.world.files there
 drop_names : (name : List ℕ) (s : State) (b : Bool) (n : ℕ) → is_some (file_named name s.world.files) ≡ b → (changes s (cond b (Ok (without name s.world.files)) (Err (fault.Plain code.Unknown)))).reply ≡ Serial n →
     TakesOut name (names_of s) (names_of (changes s (cond b (Ok (without name s.world.files)) (Err (fault.Plain code.Unknown)))).after)
 drop_names name s false n there h = absurd cc
-drop_names name s true n there h = next_dropped name s (nat_le last_serial s.serial) n there h
+drop_names name s true n there h = next_dropped name s (nat_le LAST_SERIAL s.serial) n there h
 
 in_order : (s : State) → KeepsOrder s
 in_order s = record {
@@ -359,13 +363,11 @@ module _ (name : List ℕ) (inherited : List (List ℕ)) where
 
 same_table : (table : TableRequest Expr) (file : FileView) (before behind : List FileView) (world : WorldView) → table.file ≡ Some file.name → world.files ≡ before ++ file ∷ behind →
     IsNoName file.name before → IsNoName file.name behind → table_view table world ≡ table_view (over_all table) (record world { files = file ∷ [] })
-unfolding table_view step_text
 same_table table file before behind world over is none more =
     rw (over, is, one_named file.name world.inherited file before behind refl none more) refl
 
 same_places : (table : TableRequest Expr) (file : FileView) (before behind : List FileView) (world : WorldView) → table.file ≡ Some file.name → world.files ≡ before ++ file ∷ behind →
     IsNoName file.name before → IsNoName file.name behind → table_places table world ≡ table_places (over_all table) (record world { files = file ∷ [] })
-unfolding table_places
 same_places table file before behind world over is none more =
     rw (over, is, one_file file.name world.inherited file before behind refl none more, one_named file.name world.inherited file before behind refl none more) refl
 

@@ -1,4 +1,5 @@
 -- What calls of an engine and of its parts say, by the step.
+use Rattle.org_base.specs.declared.limits.TheConstants.{MOST_FILES}
 use Rattle.std.specs.Prelude.{◌≡◌, ◌≢◌, ◌<◌, ℕ, true, false, not, nat_le, if◌then◌else◌, List, Option, None, Some, Result, Ok, Err, IfErr, IfOk, IfSome, String, is_some, length, slice_get, string_bytes}
 use Rattle.std.specs.Borrow.{Bor}
 use Rattle.std.specs.Option.{option_map}
@@ -8,7 +9,7 @@ use Rattle.org_base.specs.declared.code.Code.TheVariants as code
 use Rattle.org_base.specs.declared.fault.Fault.{Fault}
 use Rattle.org_base.specs.declared.fault.Fault.TheVariants as fault
 use Rattle.org_engine.specs.Computed.{FailsSurely}
-use Rattle.org_engine.specs.Step.{AddFile, Answers, Command, Complete, KeywordsOf, Refused, Reply, Serial, Shown, changes, file_named, most_files, put, text_named, text_seen}
+use Rattle.org_engine.specs.Step.{AddFile, Answers, Command, Complete, KeywordsOf, Refused, Reply, Serial, Shown, changes, file_named, put, text_named, text_seen}
 use Rattle.org_engine.specs.declared.changes.Completion.{Completion}
 use Rattle.org_engine.specs.World.{EngineView, FileView, KeptWorld, State}
 use Rattle.org_complete.specs.Completion.{completed, completion_part}
@@ -39,7 +40,7 @@ IsVersion content name files found =
 pub record IsNewFile (name : List ℕ) (files : List FileView) : Type 0 where
   pub named : is_file_name name ≡ true
   pub gone : is_some (file_named name files) ≡ false
-  pub room : length files < most_files
+  pub room : length files < MOST_FILES
 
 -- the text of a file with a change, or why the change is refused
 abbrev pub edited_file : Change → Option FileView → Result (List ℕ) Fault
@@ -127,7 +128,7 @@ abbrev pub name_fault : List ℕ → List FileView → Option Fault
 name_fault name files =
     if not (is_file_name name) then Some (fault.Plain code.Command)
     else (if is_some (file_named name files) then Some (fault.Plain code.Taken)
-    else (if nat_le most_files (length files) then Some (fault.Plain code.Files)
+    else (if nat_le MOST_FILES (length files) then Some (fault.Plain code.Files)
     else None))
 
 -- that is answered surely: out of memory never stands in its place

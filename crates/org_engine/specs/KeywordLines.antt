@@ -1,4 +1,5 @@
 -- The keywords of a file as lines of text (profile).
+use Rattle.std.specs.Option.{option_map_or}
 use Rattle.std.specs.Prelude.{ℕ, Bool, true, false, ◌==◌, if◌then◌else◌, List, [], ◌∷◌, ◌++◌, Option, None, Some, codes}
 use Rattle.org_settings.specs.Keywords.{Keyword}
 use Rattle.org_engine.specs.declared.keywords.Kind.{Kind}
@@ -9,19 +10,16 @@ kind_of k = record { is_done = k.done; first = k.first }
 
 -- the bar that stands before done keywords where they begin a line
 abbrev pub bar_before : Bool → List ℕ
-bar_before false = []
-bar_before true = codes "| "
+bar_before is_done = if is_done then codes "| " else []
 
 -- what ends a line, by whether its last keyword is a done one: a bar, where none stood before, and the line feed
 abbrev pub line_end : Bool → List ℕ
-line_end false = codes " |\n"
-line_end true = codes "\n"
+line_end is_done = if is_done then codes "\n" else codes " |\n"
 
 -- what stands between two keywords of one sequence: a bar where the done ones begin
 abbrev pub gap_between : Bool → Bool → List ℕ
 gap_between false true = codes " | "
-gap_between false false = codes " "
-gap_between true done = codes " "
+gap_between _ _ = codes " "
 
 -- what stands before a keyword, after one of this kind or none
 abbrev pub gap_before : Option Kind → Kind → List ℕ
@@ -31,8 +29,7 @@ gap_before (Some last) next =
 
 -- what ends the last line, if there is one
 abbrev pub last_end : Option Kind → List ℕ
-last_end None = []
-last_end (Some last) = line_end last.is_done
+last_end found = option_map_or (λ last. line_end last.is_done) found []
 
 -- the lines of keywords, after one of this kind or none: a line for each sequence, its keywords in their order with a space
 -- between, and a bar before the done ones

@@ -1,9 +1,11 @@
 -- Views of a world (Org manual 9.6, "Weekly/daily agenda"; "The Global TODO List"; "Matching tags and properties"; "The
 -- clock table").
-use Rattle.std.specs.Prelude.{ℕ, List, Bool, true, if◌then◌else◌, [], ◌∷◌, map, Option, None, Some, filter, bytes_eq}
+use Rattle.org_layout.specs.Lines.{list_lines}
+use Rattle.org_agenda.specs.Lists.{Listing, list_rows}
+use Rattle.std.specs.Option.{option_map_or}
+use Rattle.std.specs.Prelude.{ℕ, List, Bool, true, if◌then◌else◌, [], ◌∷◌, map, Option, filter, bytes_eq}
 use Rattle.org_base.specs.declared.profile.Profile.{Profile}
 use Rattle.org_agenda.specs.Sources.{sources_of}
-use Rattle.org_agenda.specs.Lists.{Listing, list_rows}
 use Rattle.org_inherit.specs.Scope.{Scope}
 use Rattle.org_layout.specs.Days.{agenda_lines}
 use Rattle.std.specs.List.{concat}
@@ -13,7 +15,6 @@ use Rattle.org_clocktable.specs.Request.{TableRequest}
 use Rattle.org_clocktable.specs.Counted.{Counted, counted_of}
 use Rattle.org_clocktable.specs.Table.{step_rows}
 use Rattle.org_expression.specs.Grammar.{Expr}
-use Rattle.org_layout.specs.Lines.{list_lines}
 use Rattle.org_layout.specs.Tables.{step_lines}
 use Rattle.org_engine.specs.Outlines.{scopes_of}
 use Rattle.org_engine.specs.World.{WorldView}
@@ -26,14 +27,9 @@ list_view listing over world = list_lines (scopes_of world) (list_rows listing o
 abbrev pub days_over : Profile → List Scope → ℕ → ℕ → ℕ → List ℕ
 days_over p scopes today first count = agenda_lines scopes (record { profile = p; sources = sources_of 0 scopes; today = today; first = first; count = count })
 
--- the text of an agenda at the world's moment and in its profile
-unfoldable pub agenda_view : ℕ → ℕ → WorldView → List ℕ
-agenda_view first count world = days_over world.profile (scopes_of world) world.moment.day first count
-
 -- a view is over the file of this name: it is over all, or names that one
 abbrev pub is_wanted : Option (List ℕ) → List ℕ → Bool
-is_wanted None name = true
-is_wanted (Some wanted) name = bytes_eq wanted name
+is_wanted file name = option_map_or (λ wanted. bytes_eq wanted name) file true
 
 -- a file, if a view is over it
 abbrev pub wanted_scope : Option (List ℕ) → Scope → List Scope
@@ -47,13 +43,9 @@ scopes_named file scopes = filter (λ (scope : Scope). is_wanted file scope.file
 abbrev pub scopes_over : Option (List ℕ) → WorldView → List Scope
 scopes_over file world = scopes_named file (scopes_of world)
 
--- the text of a step: its line, and those of its rows
-unfoldable pub step_text : TableRequest Expr → List Scope → List Counted → ℕ × ℕ → List ℕ
-step_text table scopes files days = step_lines table.with_effort scopes days (step_rows days table.most files)
-
 -- the text of a table's steps, one after the other
 abbrev pub steps_text : TableRequest Expr → List Scope → List Counted → List (ℕ × ℕ) → List ℕ
-steps_text table scopes files steps = concat (map (step_text table scopes files) steps)
+steps_text table scopes files steps = concat (map (λ days. step_lines table.with_effort scopes days (step_rows days table.most files)) steps)
 
 -- the first and the last day of each of a table's steps
 abbrev pub steps_in : TableRequest Expr → List (ℕ × ℕ)
@@ -62,7 +54,3 @@ steps_in table = pieces table.step table.days.1 table.days.0
 -- the text of a table over files at a moment
 abbrev pub table_over : TableRequest Expr → Moment → List Scope → List ℕ
 table_over table moment scopes = steps_text table scopes (map (counted_of table.expression moment) scopes) (steps_in table)
-
--- the text of a clock table: its steps in order
-unfoldable pub table_view : TableRequest Expr → WorldView → List ℕ
-table_view table world = table_over table world.moment (scopes_named table.file (scopes_of world))

@@ -5,7 +5,8 @@ ghost use Rattle.org_base.specs.Results.{Gives, IfRefused};
 ghost use Rattle.org_engine.specs.Calls.{FailsUnseen, IsCompleted, IsNewFile, Puts, PutsNone, Refuses, RefusesSurely, RefusesSurelyBy, RefusesName, Replaces, Tells, name_fault};
 ghost use Rattle.org_engine.specs.Computed.{FailsSurely};
 ghost use Rattle.org_engine.specs.Marks.{AddsMarks, AddsNoMarks, CompletesMarks, CompletesNone, DropsMarks, EditsMarks, EditsNoMarks, IsQuiet, PutsMarks, PutsNoMarks, KeepsRest};
-ghost use Rattle.org_engine.specs.Step.{last_serial, AddFile, Answers, Complete, DropFile, EditFile, Refused, Serial, file_named, text_seen};
+ghost use Rattle.org_engine.specs.Step.{AddFile, Answers, Complete, DropFile, EditFile, Refused, Serial, file_named, text_seen};
+ghost use Rattle.org_engine.specs.declared.limits.TheConstants.{LAST_SERIAL};
 
 use crate::engine::Engine;
 use crate::limits::LAST_SERIAL;
@@ -26,7 +27,7 @@ pub struct Completion {
 impl<T: Text> Engine<T> {
     // Whether the last serial was given, so that no change is made any more.
     fn is_spent(&self) -> bool
-        ensures value { result ≡ nat_le last_serial self.now.state.serial }
+        ensures value { result ≡ nat_le LAST_SERIAL self.now.state.serial }
     {
         self.serial >= LAST_SERIAL
     }

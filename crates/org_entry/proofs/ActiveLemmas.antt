@@ -8,7 +8,8 @@ use Rattle.std.proofs.lemmas.List.{drop_more, drop_all, take_more}
 use Rattle.std.proofs.lemmas.List.Elements.{All-cons, All-head, All-nil, All-tail}
 use Rattle.org_base.specs.declared.span.Span.{Span}
 use Rattle.org_drawer.specs.declared.planning.Planning.{Planning}
-use Rattle.org_entry.specs.Active.{plain_stamps, put, stamp_at, stamps_under, with_planned, with_planning}
+use Rattle.org_entry.specs.Active.{plain_stamps, put, stamp_at, stamps_under, with_planned}
+use Rattle.org_entry.proofs.ActiveWords.{with_planning}
 use Rattle.org_entry.specs.Planning.{entry_planning}
 use Rattle.org_entry.specs.declared.active.EntryStamp.{EntryStamp}
 use Rattle.org_entry.specs.declared.active.Role.{Role}

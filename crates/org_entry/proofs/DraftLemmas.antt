@@ -10,7 +10,8 @@ use Rattle.org_class.specs.declared.class.Class.TheVariants.{Heading, Planning, 
 use Rattle.org_drawer.specs.Node.{given_of}
 use Rattle.org_drawer.proofs.DrawerLemmas.{line_in_front}
 use Rattle.org_entry.specs.Draft.{EntrySoFar, drawer_after, nothing_said, with_line, with_lines, into_entry}
-use Rattle.org_entry.specs.Entry.{PlacedLine, text_of, nodes_of, clocks_of, stamps_of, head_from, placed, entry_of_lines}
+use Rattle.org_entry.specs.Entry.{PlacedLine, text_of, nodes_of, clocks_of, stamps_of, placed, entry_of_lines}
+use Rattle.org_entry.proofs.EntryWords.{head_from}
 use Rattle.org_entry.proofs.ClassLemmas.{length-classes}
 use Rattle.org_lines.specs.Cuts.{Cut, lines}
 

@@ -8,7 +8,8 @@ use Rattle.org_class.specs.Heading.{begins_heading}
 use Rattle.org_settings.specs.Settings.{FileSettings}
 use Rattle.org_class.specs.declared.class.Class.{Class}
 use Rattle.org_class.specs.declared.class.Class.TheVariants.{Heading, Planning, DrawerOpen, Node, DrawerEnd, Clock, Setting, Comment, BlockOpen, Verbatim, BlockEnd, Plain}
-use Rattle.org_entry.specs.Entry.{PlacedLine, placed, text_of, head_after, head_from, entry_of, heading_line}
+use Rattle.org_entry.specs.Entry.{PlacedLine, placed, text_of, head_after, entry_of, heading_line}
+use Rattle.org_entry.proofs.EntryWords.{head_from}
 use Rattle.org_entry.specs.Laws.{HeadsAreOfTheirLines}
 use Rattle.org_entry.specs.declared.entry.Entry.{Entry}
 use Rattle.org_entry.proofs.ClassLemmas.{fits, AllFit, fit-under, fit-front}

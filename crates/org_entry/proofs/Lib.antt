@@ -11,3 +11,5 @@ pub mod QuietLemmas
 pub mod ActiveLemmas
 pub mod CutLemmas
 pub mod RiseLemmas
+pub mod ActiveWords
+pub mod EntryWords

@@ -9,7 +9,8 @@ use Rattle.org_class.specs.LineClass.{is_comment, is_setting, line_class}
 use Rattle.org_class.specs.declared.class.Class.{Class}
 use Rattle.org_class.specs.declared.class.Class.TheVariants.{Heading, Planning, DrawerOpen, Node, DrawerEnd, Clock, Setting, Comment, BlockOpen, Verbatim, BlockEnd, Plain}
 use Rattle.org_drawer.specs.declared.planning.Planning.{Planning as WhatIsPlanned}
-use Rattle.org_entry.specs.Entry.{PlacedLine, placed, text_of, head_after, head_from}
+use Rattle.org_entry.specs.Entry.{PlacedLine, placed, text_of, head_after}
+use Rattle.org_entry.proofs.EntryWords.{head_from}
 use Rattle.org_entry.specs.Planning.{planning_after, planning_from}
 use Rattle.org_head.specs.declared.head.Head.{Head}
 use Rattle.org_settings.specs.Settings.{FileSettings}

@@ -15,11 +15,13 @@ use Rattle.org_head.specs.Head.{head_of}
 use Rattle.org_head.proofs.Inside.{head_inside}
 use Rattle.org_lines.specs.Cuts.{lines}
 use Rattle.org_settings.specs.Settings.{FileSettings}
-use Rattle.org_stamp.specs.Line.{one_more, stamps_from, stamps_of as stamps_of_line}
+use Rattle.org_stamp.specs.Line.{stamps_from, stamps_of as stamps_of_line}
+use Rattle.org_stamp.proofs.LineWords.{one_more}
 use Rattle.org_stamp.specs.Read.{stamp_of}
 use Rattle.org_stamp.specs.declared.stamp.Found.{Found}
 use Rattle.org_stamp.specs.declared.stamp.Stamp.{Stamp}
-use Rattle.org_entry.specs.Active.{plain_stamps, put, stamp_at, with_planned, with_planning}
+use Rattle.org_entry.specs.Active.{plain_stamps, put, stamp_at, with_planned}
+use Rattle.org_entry.proofs.ActiveWords.{with_planning}
 use Rattle.org_entry.specs.Entry.{PlacedLine, active_at, entry_of, if_active, placed, stamps_of, title_stamps}
 use Rattle.org_entry.specs.Laws.{Rise, StampsRise}
 use Rattle.org_entry.specs.Planning.{entry_planning}

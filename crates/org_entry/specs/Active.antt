@@ -1,4 +1,5 @@
 -- The active stamps of an entry (Org manual 9.6, "Timestamps"; "Deadlines and Scheduling").
+use Rattle.std.specs.Option.{option_map_or}
 use Rattle.std.specs.Prelude.{ℕ, Bool, true, false, nat_lt, if◌then◌else◌, List, [], ◌∷◌, Option, None, Some, map}
 use Rattle.org_base.specs.declared.span.Span.{Span}
 use Rattle.org_drawer.specs.declared.planning.Planning.{Planning}
@@ -37,18 +38,14 @@ with_planned opens role (Some found) stamps = if found.0.active then put (stamp_
 abbrev pub with_line : Bool → Planning → List EntryStamp → List EntryStamp
 with_line opens planning stamps = with_planned opens Deadline planning.deadline (with_planned opens Scheduled planning.scheduled stamps)
 
--- stamps with those of the planning line, if there is one
-abbrev pub with_planning : Bool → Option Planning → List EntryStamp → List EntryStamp
-with_planning opens None stamps = stamps
-with_planning opens (Some planning) stamps = with_line opens planning stamps
-
 -- the plain stamps of an entry, each with its role
 abbrev pub plain_stamps : Bool → List Found → List EntryStamp
 plain_stamps opens stamps = map (λ (f : Found). stamp_at opens Plain f.at f.stamp) stamps
 
 -- the active stamps of an entry under a heading that is open or isn't, by their places in the section
 abbrev pub stamps_under : Bool → Entry → List EntryStamp
-stamps_under opens e = with_planning opens (entry_planning e) (plain_stamps opens e.details.stamps)
+stamps_under opens e = option_map_or (λ planning. with_line opens planning (plain_stamps opens e.details.stamps))
+    (entry_planning e) (plain_stamps opens e.details.stamps)
 
 -- those of an entry with this head; none where it has none
 abbrev pub stamps_by : FileSettings → Entry → Option Head → List EntryStamp

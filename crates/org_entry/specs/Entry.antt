@@ -1,6 +1,6 @@
 -- What a section says (Org Syntax, "Sections"; which stamps are plain ones, and that places count from the section's
 -- start: profile).
-use Rattle.std.specs.Prelude.{ℕ, ◌+◌, if◌then◌else◌, List, [], ◌∷◌, length, map, get_or, Option, Some, None}
+use Rattle.std.specs.Prelude.{ℕ, ◌+◌, if◌then◌else◌, List, [], ◌∷◌, length, map, get_or, Option, Some, None, fold}
 use Rattle.std.specs.List.{flat_map}
 use Rattle.std.specs.Option.{option_to_list}
 use Rattle.org_class.specs.Classes.{section_classes}
@@ -27,9 +27,8 @@ pub record PlacedLine : Type 0 where
 
 -- lines with their classes, the first one at the place
 abbrev pub placed : ℕ → List (List ℕ) → List Class → List PlacedLine
-placed at [] cs = []
-placed at (l ∷ ls) [] = []
 placed at (l ∷ ls) (c ∷ cs) = record { at = at; class = c; bytes = l } ∷ placed (at + length l) ls cs
+placed at _ _ = []
 
 -- what a line gives to the entry's text: a heading line and a planning line give themselves
 abbrev pub text_of : Class → List ℕ → List ℕ
@@ -71,16 +70,11 @@ abbrev pub head_after : FileSettings → Option Head → Class → List ℕ → 
 head_after settings so_far Heading bytes = Some (head_of settings bytes)
 head_after settings so_far _ bytes = so_far
 
--- the head after lines: that of the last heading line among them, else the one so far
-abbrev pub head_from : FileSettings → Option Head → List PlacedLine → Option Head
-head_from settings so_far [] = so_far
-head_from settings so_far (l ∷ ls) = head_from settings (head_after settings so_far l.class l.bytes) ls
-
 -- the entry of placed lines
 abbrev pub entry_of_lines : FileSettings → List PlacedLine → Entry
 entry_of_lines settings ls = record {
   text = flat_map (λ l. text_of l.class l.bytes) ls;
-  head = head_from settings None ls;
+  head = fold (λ so_far l. head_after settings so_far l.class l.bytes) None ls;
   details = record {
     drawer = drawer_of (flat_map (λ l. nodes_of l.class l.bytes) ls);
     stamps = flat_map (λ l. stamps_of settings l.at l.class l.bytes) ls;

@@ -30,7 +30,6 @@ pub fn lines_are_read()
 {}
 
 /// The active stamps of an entry stand by their places in the section, those of its planning line among them.
-#[tactic(auto, using(crate::proofs::RiseLemmas::stamps_rise))]
 pub fn stamps_rise()
     ensures { StampsRise }
 {}

@@ -6,7 +6,8 @@ use Rattle.std.specs.Prelude.{◌==◌}
 use Rattle.std.specs.List.{list_all}
 use Rattle.std.proofs.lemmas.Bool.Decides.{nat_tests}
 use Rattle.org_base.specs.Characters.{is_tag_char}
-use Rattle.org_expression.specs.Grammar.{Link, Direct, And, Or, Sign, Unsigned, Plus, Minus, Op, Less, Equal, Greater, AtMost, AtLeast, Differs, Value, Number, Quoted, Pattern, Term, Tag, Found, Compare, Item, item, Expr, Tags, Todo, Open, spell_sign, spell_op, spell_name, spell_fraction, spell_value, spell_term, spell_item, spell_items, spell, is_name_char, IsName, Lacks, takes_pattern, IsValue, IsTerm, IsTermIn, IsLink, AreLater, AreItems, AreItemsOrNone, IsExpr}
+use Rattle.org_expression.specs.Grammar.{Link, Direct, And, Or, Sign, Unsigned, Plus, Minus, Op, Less, Equal, Greater, AtMost, AtLeast, Differs, Value, Number, Quoted, Pattern, Term, Tag, Found, Compare, Item, item, Expr, Tags, Todo, Open, spell_sign, spell_op, spell_name, spell_fraction, spell_value, spell_term, spell_item, spell_items, spell, IsName, Lacks, takes_pattern, IsValue, IsTerm, IsTermIn, IsLink, AreLater, AreItems, AreItemsOrNone, IsExpr}
+use Rattle.org_expression.proofs.GrammarWords.{is_name_char}
 use Rattle.org_expression.specs.declared.state.Part.{Part}
 use Rattle.org_expression.specs.declared.state.Part.TheVariants.{InTags, InTodo}
 use Rattle.org_expression.specs.declared.state.State.{State}

@@ -10,3 +10,4 @@ pub mod Marks
 pub mod Moved
 mod Named
 pub mod Run
+pub mod GrammarWords

@@ -31,8 +31,7 @@ read_decimals n (suc k) bs = read_decimals (10 * n + front_value bs) k (behind b
 
 -- where a number stands among all, counted in billionths: 0 stands at 10^27, a negative one before it
 abbrev pub place : Bool → ℕ → ℕ
-place true n = 10 ^ 27 - n
-place false n = 10 ^ 27 + n
+place is_negative n = if is_negative then 10 ^ 27 - n else 10 ^ 27 + n
 
 -- one to eighteen digits at the front of `whole`, and those at the front of `fraction`; with no or more digits it is 0
 abbrev pub number : Bool → List ℕ → List ℕ → ℕ

@@ -113,13 +113,9 @@ spell (Open tags todo) = spell_items tags ++ 47 ∷ 33 ∷ spell_items todo
 
 -- ---- which trees are expressions
 
--- a name may hold minuses, each spelled with a backslash
-abbrev pub is_name_char : ℕ → Bool
-is_name_char c = is_tag_char c || c == 45
-
 -- a name of the grammar: not empty, and of characters that names may hold
 abbrev pub IsName : List ℕ → Type 0
-IsName name = (name ≢ []) × (list_all is_name_char name ≡ true)
+IsName name = (name ≢ []) × (list_all (λ c. is_tag_char c || c == 45) name ≡ true)
 
 -- the character doesn't stand in the text
 abbrev pub Lacks : ℕ → List ℕ → Type 0
@@ -148,14 +144,12 @@ IsTerm (Compare name op value) = IsName name × IsValue op value
 abbrev pub IsTermIn : Part → Term → Type 0
 IsTermIn InTags term = IsTerm term
 IsTermIn InTodo (Tag name) = IsName name
-IsTermIn InTodo (Found pattern) = ⊥
-IsTermIn InTodo (Compare name op value) = ⊥
+IsTermIn InTodo _ = ⊥
 
 -- a sign or a link parts a term from the one before it
 abbrev pub IsLink : Link → Sign → Type 0
 IsLink Direct sign = sign ≢ Unsigned
-IsLink And sign = Unit {0}
-IsLink Or sign = Unit {0}
+IsLink _ sign = Unit {0}
 
 -- terms after the first, each with a sign or a link before it
 abbrev pub AreLater : Part → List Item → Type 0
@@ -164,10 +158,8 @@ AreLater part (item link sign term ∷ is) = IsLink link sign × IsTermIn part t
 
 -- one term or more; before the first stands no & or |
 abbrev pub AreItems : Part → List Item → Type 0
-AreItems part [] = ⊥
 AreItems part (item Direct sign term ∷ is) = IsTermIn part term × AreLater part is
-AreItems part (item And sign term ∷ is) = ⊥
-AreItems part (item Or sign term ∷ is) = ⊥
+AreItems part _ = ⊥
 
 -- items, or none
 abbrev pub AreItemsOrNone : Part → List Item → Type 0

@@ -21,8 +21,7 @@ is_time text = nat_le 2 (length text) && (slice_index text 0 == 60) && (slice_in
 
 -- a number and n more, or n fewer; 0 where there are no n fewer
 abbrev pub moved : Bool → ℕ → ℕ → ℕ
-moved true n from = from - n
-moved false n from = from + n
+moved is_back n from = if is_back then from - n else from + n
 
 -- the day, if it is one of the years 1 to 9999
 abbrev pub day_if : ℕ → Option ℕ

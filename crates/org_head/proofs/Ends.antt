@@ -12,7 +12,8 @@ use Rattle.org_class.specs.Heading.{stars}
 use Rattle.org_head.specs.Cookie.{is_cookie}
 use Rattle.org_base.proofs.SpanLemmas.{bytes_taken}
 use Rattle.org_base.specs.Spans.{bytes_in}
-use Rattle.org_head.specs.Head.{first_part, behind, behind_stars, behind_keyword, behind_cookie, behind_comment, head_of}
+use Rattle.org_head.specs.Head.{first_part, behind, behind_stars, behind_keyword, behind_cookie, head_of}
+use Rattle.org_head.proofs.HeadWords.{behind_comment}
 use Rattle.org_head.proofs.FirstWord.{IsTrimmed, trimmed-trim_start, first_word-taken}
 
 -- the text stands at the end of the line

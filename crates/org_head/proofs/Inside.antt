@@ -13,7 +13,8 @@ use Rattle.org_settings.specs.Settings.{FileSettings}
 use Rattle.org_head.specs.Parts.{is_tag_word, is_colon, last_word}
 use Rattle.org_base.specs.Spans.{IsInside}
 use Rattle.org_head.specs.Tags.{span, spans_from}
-use Rattle.org_head.specs.Head.{AreInside, first_part, behind_stars, behind_keyword, behind_comment, title_of, tags_of, head_of}
+use Rattle.org_head.specs.Head.{AreInside, first_part, behind_stars, behind_keyword, title_of, tags_of, head_of}
+use Rattle.org_head.proofs.HeadWords.{behind_comment}
 
 pub length-first_word : (text : List ℕ) → length (first_word text) ≤ length text
 length-first_word text =

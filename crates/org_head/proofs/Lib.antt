@@ -7,3 +7,4 @@ pub mod TagPieces
 pub mod PlainTags
 pub mod PartsHold
 pub mod PartsDetermined
+pub mod HeadWords

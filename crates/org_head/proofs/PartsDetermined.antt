@@ -11,12 +11,14 @@ use Rattle.org_base.specs.Words.{trim_start, trim_end, first_word, is_letter, is
 use Rattle.org_base.specs.declared.span.Span.{Span}
 use Rattle.org_head.specs.declared.head.Head.{Head}
 use Rattle.org_settings.specs.Settings.{FileSettings}
-use Rattle.org_class.specs.Heading.{is_star, stars}
+use Rattle.org_class.specs.Heading.{stars}
+use Rattle.org_class.proofs.HeadingWords.{is_star}
 use Rattle.org_head.specs.Cookie.{is_cookie}
 use Rattle.org_head.specs.Parts.{is_keyword, is_comment_word, is_tag_word, last_word}
 use Rattle.org_base.proofs.SpanLemmas.{bytes_taken}
 use Rattle.org_base.specs.Spans.{bytes_in, IsInside}
-use Rattle.org_head.specs.Head.{first_part, behind, behind_stars, behind_keyword, behind_cookie, behind_comment, title_of, tags_of, head_of}
+use Rattle.org_head.specs.Head.{first_part, behind, behind_stars, behind_keyword, behind_cookie, title_of, tags_of, head_of}
+use Rattle.org_head.proofs.HeadWords.{behind_comment}
 use Rattle.org_head.specs.HeadParts.{Begins, StandsAt, MayBegin, MayBeComment, EndsInTags, EndsInTitle, HasParts}
 use Rattle.org_head.proofs.Runs.{prefix_is, front_is, end_is, all-reverse}
 use Rattle.org_head.proofs.FirstWord.{IsTrimmed, trim_start-trimmed, trimmed-trim_start}

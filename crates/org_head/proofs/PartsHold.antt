@@ -19,7 +19,8 @@ use Rattle.org_head.specs.Parts.{is_keyword, is_comment_word, is_tag_word, last_
 use Rattle.org_base.proofs.SpanLemmas.{bytes_taken}
 use Rattle.org_base.specs.Spans.{bytes_in}
 use Rattle.org_head.specs.Tags.{spans_from}
-use Rattle.org_head.specs.Head.{first_part, behind, behind_stars, behind_keyword, behind_cookie, behind_comment, title_of, tags_of, head_of}
+use Rattle.org_head.specs.Head.{first_part, behind, behind_stars, behind_keyword, behind_cookie, title_of, tags_of, head_of}
+use Rattle.org_head.proofs.HeadWords.{behind_comment}
 use Rattle.org_head.specs.HeadParts.{Begins, MayBegin, MayBeComment, EndsInTags, EndsInTitle, HasParts}
 use Rattle.org_head.proofs.Runs.{passes_front, fails_behind, begins_neither, ends_neither, EndRun, end_run}
 use Rattle.org_head.proofs.TagPieces.{tags_hold_all}

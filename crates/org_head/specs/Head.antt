@@ -32,10 +32,6 @@ behind_keyword settings line = let rest = behind_stars line in behind (is_keywor
 abbrev pub behind_cookie : FileSettings → List ℕ → List ℕ
 behind_cookie settings line = let rest = behind_keyword settings line in behind (is_cookie (first_word rest)) rest
 
--- what is left of a heading line after its keyword, its cookie and COMMENT, those that stand there
-abbrev pub behind_comment : FileSettings → List ℕ → List ℕ
-behind_comment settings line = let rest = behind_cookie settings line in behind (is_comment_word (first_word rest)) rest
-
 -- the title of what is left of a heading line: all but its last word, where that is tags
 abbrev pub title_of : List ℕ → List ℕ
 title_of text = if is_tag_word (last_word text) then trim_end (take (length text - length (last_word text)) text) else text
@@ -49,7 +45,7 @@ abbrev pub head_of : FileSettings → List ℕ → Head
 head_of settings line =
     let n = length line in
     let words = behind_stars line in
-    let left = behind_comment settings line in
+    let left = (let rest = behind_cookie settings line in behind (is_comment_word (first_word rest)) rest) in
     let at = n - length left in
     record {
       level = stars line;

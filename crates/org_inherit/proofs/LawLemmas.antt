@@ -6,7 +6,7 @@ use Rattle.std.proofs.lemmas.Bool.{cases_Bool, eqb-true}
 use Rattle.std.proofs.lemmas.List.{reverse-append}
 use Rattle.std.proofs.lemmas.List.Folds.{list_any-append}
 use Rattle.std.proofs.lemmas.Slice.Eq.{bytes_eq-Decides}
-use Rattle.org_inherit.specs.Hidden.{hides_at}
+use Rattle.org_inherit.proofs.HiddenWords.{hides_at}
 use Rattle.org_inherit.specs.Laws.{HiddenIsInherited, names_tag, TagsAreInherited, TagsAreOnce}
 use Rattle.org_inherit.specs.Tags.{with_tag, own_tags_at, lineage}
 use Rattle.org_inherit.proofs.TagLemmas.{tag_added, tag_left, seen_more}

@@ -5,3 +5,6 @@ pub mod ListLemmas
 mod OrderLemmas
 pub mod TagLemmas
 pub mod TreeLemmas
+pub mod HiddenWords
+pub mod TagsWords
+pub mod ValuesWords

@@ -7,7 +7,8 @@ use Rattle.std.proofs.lemmas.List.Elements.{All-head, All-tail, All-cons}
 use Rattle.std.proofs.lemmas.List.Concat.{flat_map-cons}
 use Rattle.org_base.specs.Properties.{value_in}
 use Rattle.org_entry.specs.declared.entry.Entry.{Entry}
-use Rattle.org_inherit.specs.Hidden.{hides, hides_at}
+use Rattle.org_inherit.specs.Hidden.{hides}
+use Rattle.org_inherit.proofs.HiddenWords.{hides_at}
 use Rattle.org_inherit.specs.Laws.{InheritSame, LaterSaysNothing, TreesInheritAlone}
 use Rattle.org_inherit.specs.Tags.{own_tags, own_tags_at, lineage}
 use Rattle.org_inherit.specs.Values.{first_of, own_value}

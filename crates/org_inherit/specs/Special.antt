@@ -1,6 +1,6 @@
 -- Special names (Org manual 9.6, "Special Properties"; which there are, and how their values are written: profile).
 use Rattle.std.specs.Prelude.{ℕ, nat_lt, if◌then◌else◌, List, [], ◌∷◌, Option, None, Some, get_or, map, codes, decimal}
-use Rattle.std.specs.Option.{option_map, option_and_then}
+use Rattle.std.specs.Option.{option_map, option_and_then, option_map_or}
 use Rattle.org_base.specs.Words.{same_word}
 use Rattle.org_base.specs.declared.span.Span.{Span}
 use Rattle.org_settings.specs.Settings.{FileSettings}
@@ -76,11 +76,6 @@ special_value scope i special.File = Some scope.file
 special_value scope i special.AllTags = by_head scope.entries i (λ e head. tags_value (all_tags scope i))
 special_value scope i (special.Own v) = by_head scope.entries i (λ e head. heading_value scope.settings e head v)
 
--- the value of a name at a place, by what the name names
-abbrev pub value_by : Scope → ℕ → List ℕ → Option Special → Option (List ℕ)
-value_by scope i name (Some s) = special_value scope i s
-value_by scope i name None = plain_value scope i name
-
 -- the value of a name at a place: a special name's by itself alone
 abbrev pub value_of : Scope → ℕ → List ℕ → Option (List ℕ)
-value_of scope i name = value_by scope i name (special_named name)
+value_of scope i name = option_map_or (special_value scope i) (special_named name) (plain_value scope i name)

@@ -1,23 +1,18 @@
 -- Tags of headings (Org manual 9.6, "Tag Inheritance"; that of equal ones the first stays: profile).
 -- Characters by their codes: 58 :.
+use Rattle.std.specs.Option.{option_map_or}
 use Rattle.std.specs.Prelude.{ℕ, ◌==◌, if◌then◌else◌, List, [], ◌∷◌, ◌++◌, Option, None, Some, map, length, get_or, fold, reverse, bytes_eq}
 use Rattle.std.specs.List.{list_any, flat_map}
 use Rattle.org_entry.specs.declared.entry.Entry.{Entry}
 use Rattle.org_base.specs.Spans.{bytes_in}
 use Rattle.org_base.specs.declared.span.Span.{Span}
-use Rattle.org_head.specs.declared.head.Head.{Head}
 use Rattle.org_inherit.specs.Scope.{Scope}
 use Rattle.org_outline.specs.Levels.{levels}
 use Rattle.org_outline.specs.Tree.{ancestors}
 
--- the tags that a heading line itself names, in order and each as often as it is named
-abbrev pub tags_of_head : List ℕ → Option Head → List (List ℕ)
-tags_of_head text None = []
-tags_of_head text (Some head) = map (bytes_in text) head.tags
-
--- an entry's own tags
+-- an entry's own tags: those that its heading line names, in order and each as often as it is named
 abbrev pub own_tags : Entry → List (List ℕ)
-own_tags e = tags_of_head e.text e.head
+own_tags e = option_map_or (λ head. map (bytes_in e.text) head.tags) e.head []
 
 -- the own tags of the entry at a place
 abbrev pub own_tags_at : List Entry → ℕ → List (List ℕ)
@@ -46,7 +41,7 @@ tags_in text spans = map (bytes_in text) spans
 -- a file's tags, the ancestors' own tags from the outermost, and the own tags of the entry at a place; of equal ones the
 -- first stays
 abbrev pub tags_at : List (List ℕ) → List Entry → ℕ → List (List ℕ)
-tags_at file_tags es i = firsts (file_tags ++ flat_map (own_tags_at es) (lineage es i))
+tags_at file_tags es i = with_tags [] (file_tags ++ flat_map (own_tags_at es) (lineage es i))
 
 -- all tags of the entry at a place: the file's, the inherited and its own
 abbrev pub all_tags : Scope → ℕ → List (List ℕ)

@@ -1,12 +1,11 @@
 -- The value of a name that isn't special (Org manual 9.6, "Property Inheritance"; that a file's value is inherited as
 -- an ancestor's is: profile).
-use Rattle.std.specs.Prelude.{ℕ, Bool, if◌then◌else◌, Option, Some, None, List, [], ◌∷◌, map, get_or}
+use Rattle.std.specs.Prelude.{ℕ, Bool, if◌then◌else◌, Option, None, List, [], ◌∷◌, map, get_or}
 use Rattle.std.specs.List.{list_any}
-use Rattle.std.specs.Option.{option_or}
-use Rattle.org_base.specs.Properties.{Property, value_in}
+use Rattle.std.specs.Option.{option_or, option_map_or}
+use Rattle.org_base.specs.Properties.{value_in}
 use Rattle.org_base.specs.Words.{same_word}
 use Rattle.org_entry.specs.declared.entry.Entry.{Entry}
-use Rattle.org_head.specs.declared.head.Head.{Head}
 use Rattle.org_inherit.specs.Scope.{Scope}
 use Rattle.org_outline.specs.Levels.{levels}
 use Rattle.org_outline.specs.Tree.{ancestors}
@@ -25,15 +24,10 @@ own_value es name j = get_or (map (λ e. value_in e.details.drawer name) es) j N
 abbrev pub nearest_value : List Entry → List ℕ → ℕ → Option (List ℕ)
 nearest_value es name i = first_of (own_value es name) (i ∷ ancestors (levels es) i)
 
--- what a drawer gives that stands under no heading; one under a heading gives nothing
-abbrev pub value_without_head : Option Head → List Property → List ℕ → Option (List ℕ)
-value_without_head None drawer name = value_in drawer name
-value_without_head (Some head) drawer name = None
-
--- what the drawer of the lines before the first heading gives
+-- what the drawer of the lines before the first heading gives; one under a heading gives nothing
 abbrev pub front_value : List Entry → List ℕ → Option (List ℕ)
 front_value [] name = None
-front_value (e ∷ es) name = value_without_head e.head e.details.drawer name
+front_value (e ∷ es) name = option_map_or (λ head. None) e.head (value_in e.details.drawer name)
 
 -- what a file gives: the drawer of the lines before the first heading, else its settings
 abbrev pub value_of_file : List Entry → FileSettings → List ℕ → Option (List ℕ)

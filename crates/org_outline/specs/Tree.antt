@@ -11,8 +11,7 @@ level_at ls i = get_or ls i None
 -- both are headings, and the first has the smaller level
 abbrev pub is_smaller : Option ℕ → Option ℕ → Bool
 is_smaller (Some a) (Some b) = nat_lt a b
-is_smaller (Some a) None = false
-is_smaller None b = false
+is_smaller _ _ = false
 
 -- the parent: the greatest earlier heading of a smaller level, if there is one
 abbrev pub parent : List (Option ℕ) → ℕ → Option ℕ

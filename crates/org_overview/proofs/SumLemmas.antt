@@ -8,7 +8,8 @@ use Rattle.org_clocktable.specs.Counted.{Counted, whole_of}
 use Rattle.org_clocktable.specs.Laws.{counting, counting_in}
 use Rattle.org_clocktable.specs.declared.row.Of.TheVariants.{All}
 use Rattle.org_clocktable.proofs.TotalLemmas.{totals}
-use Rattle.org_drawer.specs.Clock.{common_minutes, minutes_in, minutes_to}
+use Rattle.org_drawer.specs.Clock.{common_minutes, minutes_in}
+use Rattle.org_drawer.proofs.ClockWords.{minutes_to}
 use Rattle.org_drawer.specs.declared.clock.ClockLine.{ClockLine}
 use Rattle.org_entry.specs.declared.entry.Entry.{Entry}
 use Rattle.org_inherit.specs.Scope.{Scope}

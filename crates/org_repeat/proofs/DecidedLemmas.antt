@@ -18,7 +18,8 @@ use Rattle.org_stamp.specs.declared.mark.Repeater.{Repeater}
 use Rattle.org_stamp.specs.declared.stamp.Stamp.{Stamp}
 use Rattle.org_repeat.specs.First.{HasNoneFrom}
 use Rattle.org_repeat.specs.Occurs.{Begins, Hits, HoldsCopy, Repeats, OccursBy, OccursInRange, OccursOn, Occurs}
-use Rattle.org_repeat.specs.Decided.{NextIsDecided, StartIsDecided, any_below, begins_on, first_passing, holds_copy, is_day, is_months_after, hits, last_below, most_intervals, next_after, occurs_by, occurs_in, occurs, range_start, start_in, start_of}
+use Rattle.org_repeat.specs.Decided.{NextIsDecided, StartIsDecided, any_below, begins_on, first_passing, is_day, is_months_after, hits, last_below, next_after, occurs, range_start, start_in}
+use Rattle.org_repeat.proofs.DecidedWords.{holds_copy, most_intervals, occurs_by, occurs_in, start_of}
 use Rattle.org_repeat.specs.Starts.{IsNextAfter, IsRangeStart, IsStartIn, IsStartOf}
 use Rattle.org_repeat.proofs.CopyLemmas.{begins_day}
 

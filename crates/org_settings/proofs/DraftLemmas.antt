@@ -6,7 +6,7 @@ use Rattle.std.specs.List.{flat_map}
 use Rattle.std.proofs.lemmas.List.{drop_more}
 use Rattle.std.proofs.lemmas.Option.{get_or_from_slice_get}
 use Rattle.org_base.specs.Properties.{Given, Property, with_given, with_all}
-use Rattle.org_settings.specs.Keywords.{add_lines}
+use Rattle.org_settings.proofs.KeywordsWords.{add_lines}
 use Rattle.org_settings.specs.Laws.{NoLinesAreStandard}
 use Rattle.org_settings.specs.Draft.{SettingsSoFar, nothing_said, with_line, with_lines, into_settings}
 use Rattle.org_settings.specs.SettingLines.{tags_in, category_in, property_in, default_in}

@@ -1,7 +1,7 @@
 -- The keywords that a file's setting lines name (Org manual 9.6, "Workflow States"; "Multiple Sets in One File"; "Fast
 -- Access to TODO States"; which words stay, and repeats: profile).
 -- Characters by their codes: 40 (, 41 ).
-use Rattle.std.specs.Prelude.{ℕ, suc, ◌-◌, Bool, true, false, ◌||◌, not, ◌==◌, nat_lt, if◌then◌else◌, List, [], ◌∷◌, ◌++◌, map, length, take, drop, take_while, slice_index, bytes_eq, codes, Option, is_some, position, get_or}
+use Rattle.std.specs.Prelude.{ℕ, suc, ◌-◌, Bool, true, false, ◌||◌, not, ◌==◌, nat_lt, if◌then◌else◌, List, [], ◌∷◌, ◌++◌, map, length, take, drop, take_while, slice_index, bytes_eq, codes, Option, is_some, position, get_or, fold}
 use Rattle.std.specs.List.{prefix_len}
 use Rattle.org_settings.specs.SettingLines.{has_key, setting_value}
 use Rattle.org_settings.specs.Pieces.{words}
@@ -51,8 +51,7 @@ add_word done first ks w = if is_named w then with_new ks (record { word = witho
 
 -- keywords with those that words name, one after another
 abbrev pub add_words : Bool → ℕ → List Keyword → List (List ℕ) → List Keyword
-add_words done first ks [] = ks
-add_words done first ks (w ∷ ws) = add_words done first (add_word done first ks w) ws
+add_words done first ks ws = fold (add_word done first) ks ws
 
 -- keywords with those of one more line; the first of the line stands after all before
 abbrev pub add_sequence : List Keyword → List (List ℕ) → List Keyword
@@ -68,18 +67,13 @@ is_keyword_line line = has_key (codes "TODO") line || (has_key (codes "SEQ_TODO"
 abbrev pub add_line : List Keyword → List ℕ → List Keyword
 add_line ks line = if is_keyword_line line then add_sequence ks (words (setting_value line)) else ks
 
--- keywords with the sequences of lines, one after another
-abbrev pub add_lines : List Keyword → List (List ℕ) → List Keyword
-add_lines ks [] = ks
-add_lines ks (line ∷ lines) = add_lines (add_line ks line) lines
-
 -- the keywords of a file that names none: TODO, and DONE as a done one
 abbrev pub standard_keywords : List Keyword
 standard_keywords = add_sequence [] (codes "TODO" ∷ codes "DONE" ∷ [])
 
 -- the keywords of a file with these setting lines
 abbrev pub keywords : List (List ℕ) → List Keyword
-keywords lines = let named = add_lines [] lines in if length named == 0 then standard_keywords else named
+keywords lines = let named = fold add_line [] lines in if length named == 0 then standard_keywords else named
 
 -- the keyword at a place is a done one
 abbrev pub keyword_done : List Keyword → ℕ → Bool

@@ -16,7 +16,8 @@ use Rattle.org_stamp.specs.declared.mark.Sign.{Sign}
 use Rattle.org_stamp.specs.declared.mark.Sign.TheVariants.{Repeats, Waits}
 use Rattle.org_stamp.specs.declared.stamp.Stamp.{Stamp}
 use Rattle.org_stamp.specs.CanPrint.{IsRepeater, CanPrint}
-use Rattle.org_stamp.specs.Inner.{inner_of, stamp_of_words, after_date, after_name, after_time, timed, times_of, times_at, without_zero, is_name, is_dash}
+use Rattle.org_stamp.specs.Inner.{inner_of, stamp_of_words, after_date, after_name, after_time, times_of, times_at, without_zero, is_name, is_dash}
+use Rattle.org_stamp.proofs.InnerWords.{timed}
 use Rattle.org_stamp.specs.Mark.{Marks, amount, amount_from, mark_with, limit, mark_of, marks_from, sign_at, top, unit_of, whole, with_mark}
 use Rattle.org_stamp.specs.Read.{single_of, stamp_of}
 use Rattle.org_stamp.specs.Stamp.{IsStamp, with_last}

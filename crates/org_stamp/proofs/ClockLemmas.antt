@@ -3,7 +3,7 @@ use Rattle.std.proofs.Common.{◌≡◌, ℕ, Bool, false, not, ◌&&◌, ◌==�
 use Rattle.std.specs.Prelude.{Option, Some, None}
 use Rattle.std.specs.Option.{option_and_then}
 use Rattle.std.proofs.lemmas.Bool.{cases_Bool}
-use Rattle.org_stamp.specs.Pair.{if_inactive, is_some_stamp}
+use Rattle.org_stamp.proofs.PairWords.{if_inactive, is_some_stamp}
 use Rattle.org_stamp.specs.Read.{joined, ranged, same_bool, single_of, stamp_of}
 use Rattle.org_stamp.specs.declared.stamp.Stamp.{Stamp}
 

@@ -11,7 +11,8 @@ use Rattle.memchr.specs.Find.{NoneBefore, Nowhere, Passes, is_byte2}
 use Rattle.std.proofs.lemmas.List.{length-take-le, drop-drop, drop_all, get_or-drop}
 use Rattle.org_stamp.specs.declared.stamp.Found.{Found}
 use Rattle.org_stamp.specs.declared.stamp.Stamp.{Stamp}
-use Rattle.org_stamp.specs.Line.{one_more, stamps_from}
+use Rattle.org_stamp.specs.Line.{stamps_from}
+use Rattle.org_stamp.proofs.LineWords.{one_more}
 use Rattle.org_stamp.specs.Inner.{inner_of}
 use Rattle.org_stamp.specs.Read.{closed, ranged, single_of, stamp_of}
 use Rattle.org_stamp.specs.Stamp.{IsSingle, IsStamp, close_of, is_close}

@@ -5,7 +5,8 @@ use Rattle.std.specs.Prelude.{Some, None, Option, IfSome, MatchOption}
 use Rattle.std.specs.List.{prefix_len}
 use Rattle.std.proofs.lemmas.List.{drop-drop}
 use Rattle.org_stamp.specs.declared.pair.Pair.{Pair}
-use Rattle.org_stamp.specs.Pair.{pair_at, pair_and, pairs_from}
+use Rattle.org_stamp.specs.Pair.{pair_at, pairs_from}
+use Rattle.org_stamp.proofs.PairWords.{pair_and}
 use Rattle.org_base.specs.Words.{is_space}
 
 pub skip : (bs : List ℕ) (at k : ℕ) → pairs_from bs at k ≡ pairs_from (drop k bs) (at + k) 0

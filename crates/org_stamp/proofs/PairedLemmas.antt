@@ -16,7 +16,8 @@ use Rattle.org_stamp.specs.declared.pair.PlanningKeyword.{PlanningKeyword}
 use Rattle.org_stamp.specs.declared.pair.PlanningKeyword.TheVariants.{Scheduled, Deadline, Closed}
 use Rattle.org_stamp.specs.declared.stamp.Stamp.{Stamp}
 use Rattle.org_stamp.specs.Laws.{PairsAreSpelled, SpansAreStamps}
-use Rattle.org_stamp.specs.Pair.{pair_and, pair_at, pair_of, pairs, pairs_from, past_spaces, word_at}
+use Rattle.org_stamp.specs.Pair.{pair_at, pair_of, pairs, pairs_from, past_spaces, word_at}
+use Rattle.org_stamp.proofs.PairWords.{pair_and}
 use Rattle.org_stamp.specs.Paired.{ArePairs, IsLongest, IsPairAt, keyword_text}
 use Rattle.org_stamp.specs.Read.{single_of, stamp_of}
 use Rattle.org_stamp.specs.Spaced.{IsGap}

@@ -18,7 +18,8 @@ use Rattle.org_stamp.specs.declared.mark.Repeater.{Repeater}
 use Rattle.org_stamp.specs.declared.stamp.Stamp.{Stamp}
 use Rattle.org_stamp.specs.CanPrint.{IsRepeater, CanPrint}
 use Rattle.org_stamp.specs.Inner.{inner_of, stamp_of_words}
-use Rattle.org_stamp.specs.Print.{letter, sign_text, amount_text, limit_text, repeater_text, delay_text, end_text, times_text, tail_text, single_text, last_text, stamp_text}
+use Rattle.org_stamp.specs.Print.{letter, sign_text, amount_text, repeater_text, delay_text, times_text, tail_text, single_text, last_text, stamp_text}
+use Rattle.org_stamp.proofs.PrintWords.{limit_text, end_text}
 use Rattle.org_stamp.specs.Read.{stamp_of}
 use Rattle.org_stamp.specs.Stamp.{IsSingle, IsRange, IsStamp, open_of, close_of, is_close}
 use Rattle.org_stamp.specs.Word.{is_word, words}

@@ -10,7 +10,8 @@ use Rattle.std.proofs.lemmas.List.Sums.{fails_before_first}
 use Rattle.std.proofs.lemmas.Option.{option_and_then_some}
 use Rattle.org_cal.specs.Texts.{date_of}
 use Rattle.org_stamp.specs.declared.stamp.Stamp.{Stamp}
-use Rattle.org_stamp.specs.Inner.{inner_of, stamp_of_words, after_date, after_name, timed, after_time, times_of, is_name}
+use Rattle.org_stamp.specs.Inner.{inner_of, stamp_of_words, after_date, after_name, after_time, times_of, is_name}
+use Rattle.org_stamp.proofs.InnerWords.{timed}
 use Rattle.org_stamp.specs.Mark.{marks_from}
 use Rattle.org_stamp.specs.Read.{single_of, closed, stamp_of, ranged, joined, same_bool}
 use Rattle.org_stamp.specs.Stamp.{IsSingle, IsRange, IsStamp, open_of, close_of, is_close, with_last}

@@ -1,21 +1,16 @@
 -- The stamps of a line (Org manual 9.6, "Timestamps"; that they are the leftmost, longest ones is the profile's).
-use Rattle.std.specs.Prelude.{◌≡◌, ℕ, zero, suc, ◌+◌, ◌-◌, ◌<◌, ◌≤◌, List, [], ◌∷◌, ◌++◌, length, take, drop, Option, Some, None, ◌⊎◌}
+use Rattle.std.specs.Prelude.{◌≡◌, ℕ, zero, suc, ◌+◌, ◌-◌, ◌<◌, ◌≤◌, List, [], ◌∷◌, ◌++◌, length, take, drop, Some, None, ◌⊎◌}
 use Rattle.std.specs.List.{AllByRecursion}
 use Rattle.org_stamp.specs.declared.stamp.Found.{Found}
 use Rattle.org_stamp.specs.declared.stamp.Stamp.{Stamp}
 use Rattle.org_stamp.specs.Read.{stamp_of}
 use Rattle.org_stamp.specs.Stamp.{IsStamp}
 
--- a stamp that was found at a place, and those after it
-abbrev pub one_more : ℕ → (ℕ → List Found) → Option (Stamp × ℕ) → List Found
-one_more at later None = later 0
-one_more at later (Some found) = record { at = at; len = found.1; stamp = found.0 } ∷ later (found.1 - 1)
-
 -- the stamps of the bytes from a place of the line on; so many bytes at the front are still of the last stamp
 unfoldable pub stamps_from : List ℕ → ℕ → ℕ → List Found
-stamps_from [] at zero = []
-stamps_from [] at (suc inside) = []
-stamps_from (b ∷ bs) at zero = one_more at (stamps_from bs (at + 1)) (stamp_of (b ∷ bs))
+stamps_from [] at _ = []
+stamps_from (b ∷ bs) at zero = elim (stamp_of (b ∷ bs))
+    [ None ↦ stamps_from bs (at + 1) 0 | Some found ↦ record { at = at; len = found.1; stamp = found.0 } ∷ stamps_from bs (at + 1) (found.1 - 1) ]
 stamps_from (b ∷ bs) at (suc inside) = stamps_from bs (at + 1) inside
 
 -- the stamps of a line, from the left

@@ -1,6 +1,6 @@
 -- The pairs of a planning line, and the stamp of a clock line (Org Syntax, "Planning"; "Clocks"; that pairs are read
 -- up to what is no pair, and that letter case counts: profile).
-use Rattle.std.specs.Prelude.{ℕ, zero, suc, ◌+◌, ◌-◌, Bool, true, false, not, if◌then◌else◌, List, [], ◌∷◌, drop, Option, Some, None, codes, nat_eq, ◌≡◌, ◌≤◌, MatchOption, ◌<◌}
+use Rattle.std.specs.Prelude.{ℕ, zero, suc, ◌+◌, ◌-◌, Bool, true, false, not, if◌then◌else◌, List, [], ◌∷◌, drop, Option, Some, None, codes, nat_eq, ◌≡◌, ◌≤◌, MatchOption, ◌<◌, is_some}
 use Rattle.std.specs.List.{prefix_len, starts_with}
 use Rattle.std.specs.Option.{option_and_then, option_map}
 use Rattle.org_stamp.specs.declared.pair.Pair.{Pair}
@@ -31,18 +31,12 @@ abbrev pub pair_at : ℕ → List ℕ → Option Pair
 pair_at at bs =
     option_and_then (λ k. let rest = drop k.1 bs in pair_of k.0 (at + (k.1 + prefix_len is_space rest)) (past_spaces rest)) (word_at bs)
 
--- a pair and those after it; none where there is no pair
-abbrev pub pair_and : ℕ → (ℕ → List Pair) → Option Pair → List Pair
-pair_and at later None = []
-pair_and at later (Some p) = p ∷ later (p.end - (at + 1))
-
 -- the pairs of the bytes from a place of a line on, of which so many at the front are still of the last pair. White space
 -- or none stands between pairs, and what is no pair ends them
 unfoldable pub pairs_from : List ℕ → ℕ → ℕ → List Pair
-pairs_from [] at zero = []
-pairs_from [] at (suc inside) = []
-pairs_from (b ∷ bs) at zero =
-    if is_space b then pairs_from bs (at + 1) 0 else pair_and at (pairs_from bs (at + 1)) (pair_at at (b ∷ bs))
+pairs_from [] at _ = []
+pairs_from (b ∷ bs) at zero = if is_space b then pairs_from bs (at + 1) 0
+    else elim (pair_at at (b ∷ bs)) [ None ↦ [] | Some p ↦ p ∷ pairs_from bs (at + 1) (p.end - (at + 1)) ]
 pairs_from (b ∷ bs) at (suc inside) = pairs_from bs (at + 1) inside
 
 -- the first of the pairs from a place of a line on, after which come those from its end on; or there are none
@@ -71,23 +65,14 @@ is_empty (p ∷ ps) = false
 abbrev pub is_planning : List ℕ → Bool
 is_planning line = not (is_empty (pairs line))
 
--- the stamp, if it is inactive
-abbrev pub if_inactive : Stamp → Option Stamp
-if_inactive s = if s.active then None else Some s
-
--- the stamp of a clock line, which for a closed clock is a range
+-- the stamp of a clock line, which is inactive, and for a closed clock a range
 abbrev pub clock_stamp : List ℕ → Option Stamp
 clock_stamp line =
     let text = past_spaces line in
     if starts_with nat_eq text (codes "CLOCK:")
-    then option_and_then (λ found. if_inactive found.0) (stamp_of (past_spaces (drop 6 text)))
+    then option_and_then (λ found. if found.0.active then None else Some found.0) (stamp_of (past_spaces (drop 6 text)))
     else None
-
--- there is a stamp
-abbrev pub is_some_stamp : Option Stamp → Bool
-is_some_stamp None = false
-is_some_stamp (Some s) = true
 
 -- the line is a clock line
 abbrev pub is_clock : List ℕ → Bool
-is_clock line = is_some_stamp (clock_stamp line)
+is_clock line = is_some (clock_stamp line)

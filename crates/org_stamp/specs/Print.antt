@@ -1,5 +1,6 @@
 -- The printed form of a stamp (profile; its parts as in Org manual 9.6, "Timestamps").
 -- Characters by their codes: 32 space, 45 -, 47 /.
+use Rattle.std.specs.Option.{option_map_or}
 use Rattle.std.specs.Prelude.{ℕ, Bool, if◌then◌else◌, List, [], ◌∷◌, ◌++◌, Option, Some, None, codes, decimal}
 use Rattle.org_cal.specs.declared.unit.Unit.{Unit}
 use Rattle.org_cal.specs.declared.unit.Unit.TheVariants.{Hour, Day, Week, Month, Year}
@@ -30,30 +31,20 @@ sign_text Today = codes ".+"
 abbrev pub amount_text : ℕ × Unit → List ℕ
 amount_text a = decimal a.0 ++ letter a.1 ∷ []
 
--- a repeater's limit after a slash
-abbrev pub limit_text : Option (ℕ × Unit) → List ℕ
-limit_text None = []
-limit_text (Some a) = 47 ∷ amount_text a
-
--- a repeater after a space
+-- a repeater after a space, with its limit after a slash
 abbrev pub repeater_text : Option Repeater → List ℕ
-repeater_text None = []
-repeater_text (Some r) = 32 ∷ (sign_text r.kind ++ amount_text (r.n, r.unit) ++ limit_text r.limit)
+repeater_text repeater = option_map_or (λ r. 32 ∷ (sign_text r.kind ++ amount_text (r.n, r.unit)
+    ++ option_map_or (λ a. 47 ∷ amount_text a) r.limit [])) repeater []
 
 -- a delay after a space
 abbrev pub delay_text : Option Delay → List ℕ
 delay_text None = []
 delay_text (Some d) = 32 ∷ ((if d.first_only then codes "--" else codes "-") ++ amount_text (d.n, d.unit))
 
--- the end of a time range after a dash
-abbrev pub end_text : Option ℕ → List ℕ
-end_text None = []
-end_text (Some c) = 45 ∷ time_text c
-
--- a time or a time range after a space; an end without a start isn't printed, and no stamp that is read has one
+-- a time after a space, or a time range, whose end stands after a dash; an end without a start isn't printed, and no stamp that is
+-- read has one
 abbrev pub times_text : Option ℕ → Option ℕ → List ℕ
-times_text None end_time = []
-times_text (Some c) end_time = 32 ∷ (time_text c ++ end_text end_time)
+times_text start end_time = option_map_or (λ c. 32 ∷ (time_text c ++ option_map_or (λ e. 45 ∷ time_text e) end_time [])) start []
 
 -- what stands after the day's name: times, repeater and delay
 abbrev pub tail_text : Stamp → List ℕ
@@ -73,8 +64,7 @@ first_text s = single_text s.active s.day (tail_text s)
 
 -- two dashes and the second stamp of a range
 abbrev pub last_text : Bool → Option (ℕ × Option ℕ) → List ℕ
-last_text active None = []
-last_text active (Some last) = codes "--" ++ single_text active last.0 (times_text last.1 None)
+last_text active last = option_map_or (λ l. codes "--" ++ single_text active l.0 (times_text l.1 None)) last []
 
 -- the printed form of a stamp
 abbrev pub stamp_text : Stamp → List ℕ

@@ -2,16 +2,15 @@
 -- the grammar itself.
 -- Characters by their codes: 45 -, 60 <, 91 [.
 use Rattle.std.specs.Prelude.{ℕ, ◌+◌, Bool, true, false, ◌&&◌, ◌==◌, if◌then◌else◌, List, [], ◌∷◌, take, drop, get_or, Option, Some, None, position, ◌≡◌, ◌≤◌, ◌++◌, length, IsSomeAnd}
-use Rattle.std.specs.Option.{option_map}
+use Rattle.std.specs.Option.{option_map, option_and_then}
 use Rattle.org_stamp.specs.declared.stamp.Stamp.{Stamp}
 use Rattle.org_stamp.specs.Inner.{inner_of}
 use Rattle.org_stamp.specs.Stamp.{close_of, is_close, with_last, IsSingle, IsStamp}
 
 -- the stamp whose bytes after the opening bracket are these, with the first closing bracket at i
 abbrev pub closed : Bool → List ℕ → Option ℕ → Option (Stamp × ℕ)
-closed active bs None = None
-closed active bs (Some i) =
-    if get_or bs i 0 == close_of active then option_map (λ s. (s, i + 2)) (inner_of active (take i bs)) else None
+closed active bs at = option_and_then (λ i.
+    if get_or bs i 0 == close_of active then option_map (λ s. (s, i + 2)) (inner_of active (take i bs)) else None) at
 
 -- the stamp of one day at the front
 unfoldable pub single_of : List ℕ → Option (Stamp × ℕ)

@@ -1,18 +1,16 @@
 -- The grammar of stamps and ranges (Org manual 9.6, "Timestamps").
 -- Characters by their codes: 45 -, 60 <, 62 >, 91 [, 93 ].
-use Rattle.std.specs.Prelude.{◌≡◌, ℕ, Bool, true, false, ◌||◌, ◌==◌, List, [], ◌∷◌, ◌++◌, Some, All, ◌⊎◌}
+use Rattle.std.specs.Prelude.{◌≡◌, ℕ, Bool, false, ◌||◌, ◌==◌, List, [], ◌∷◌, ◌++◌, Some, All, ◌⊎◌, if◌then◌else◌}
 use Rattle.org_stamp.specs.declared.stamp.Stamp.{Stamp}
 use Rattle.org_stamp.specs.Inner.{inner_of}
 
 -- < of an active stamp, [ of another
 abbrev pub open_of : Bool → ℕ
-open_of true = 60
-open_of false = 91
+open_of active = if active then 60 else 91
 
 -- > of an active stamp, ] of another
 abbrev pub close_of : Bool → ℕ
-close_of true = 62
-close_of false = 93
+close_of active = if active then 62 else 93
 
 -- a closing bracket
 abbrev pub is_close : ℕ → Bool

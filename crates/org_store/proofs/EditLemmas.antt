@@ -7,7 +7,8 @@ use Rattle.org_base.specs.declared.code.Code.{Code}
 use Rattle.org_base.specs.declared.code.Code.TheVariants as code
 use Rattle.org_base.specs.declared.fault.Fault.{Fault}
 use Rattle.org_base.specs.declared.fault.Fault.TheVariants as fault
-use Rattle.org_store.specs.Change.{replaced_text, unless_refused}
+use Rattle.org_store.specs.Change.{replaced_text}
+use Rattle.org_store.proofs.ChangeWords.{unless_refused}
 use Rattle.org_text.specs.Replace.{refusal_of, replace}
 
 module _ (text ins : List ℕ) (at del : ℕ) where

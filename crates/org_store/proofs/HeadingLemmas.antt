@@ -8,7 +8,8 @@ use Rattle.org_class.specs.Classes.{classes, classes_under_heading, front_classe
 use Rattle.org_class.specs.Heading.{begins_heading}
 use Rattle.org_class.specs.Sections.{sections}
 use Rattle.org_class.proofs.Cuts.{concat-sections}
-use Rattle.org_entry.specs.Entry.{PlacedLine, entry_of, head_from, heading_line, placed, text_of}
+use Rattle.org_entry.specs.Entry.{PlacedLine, entry_of, heading_line, placed, text_of}
+use Rattle.org_entry.proofs.EntryWords.{head_from}
 use Rattle.org_entry.proofs.LineLemmas.{first, first_again}
 use Rattle.org_entry.proofs.OtherLemmas.{other-front, same_head}
 use Rattle.org_store.specs.Begun.{entry_there, lines_before, section_of, section_start}
@@ -17,7 +18,8 @@ use Rattle.org_store.proofs.StartLemmas.{line_there}
 use Rattle.org_lines.specs.Cuts.{lines}
 use Rattle.org_lines.proofs.LineLemmas.{concat-lines}
 use Rattle.org_store.specs.Laws.{HeadingsAreThere}
-use Rattle.org_store.specs.Places.{HasLine, place_at, place_of}
+use Rattle.org_store.specs.Places.{HasLine, place_at}
+use Rattle.org_store.proofs.PlacesWords.{place_of}
 use Rattle.org_store.specs.declared.place.Place.{Place}
 use Rattle.org_settings.specs.Settings.{FileSettings}
 

@@ -18,3 +18,5 @@ pub mod SingleLemmas
 pub mod CachedOutlineLemmas
 pub mod StartLemmas
 pub mod TouchedLemmas
+pub mod ChangeWords
+pub mod PlacesWords

@@ -1,8 +1,8 @@
 -- A change of a text as a value (profile).
-use Rattle.std.specs.Prelude.{◌≡◌, ◌+◌, ◌≤◌, ℕ, List, length, Option, None, Some, Result, Ok, Err}
+use Rattle.std.specs.Option.{option_map_or}
+use Rattle.std.specs.Prelude.{◌≡◌, ◌+◌, ◌≤◌, ℕ, List, length, Result, Ok, Err}
 use Rattle.std.specs.List.{flat_map}
 use Rattle.org_base.specs.Spans.{bytes_in}
-use Rattle.org_base.specs.declared.code.Code.{Code}
 use Rattle.org_base.specs.declared.fault.Fault.{Fault}
 use Rattle.org_base.specs.declared.fault.Fault.TheVariants.{Plain}
 use Rattle.org_base.specs.declared.span.Span.{Span}
@@ -22,14 +22,9 @@ LiesIn text change = change.at + change.del ≤ length text
 abbrev pub edited : List ℕ → Change → List ℕ
 edited text change = replace text change.at change.del change.ins.now
 
--- a text, unless a change is refused with a code
-abbrev pub unless_refused : Option Code → List ℕ → Result (List ℕ) Fault
-unless_refused None text = Ok text
-unless_refused (Some code) text = Err (Plain code)
-
 -- a text with a part replaced, or why it is refused
 abbrev pub replaced_text : List ℕ → ℕ → ℕ → List ℕ → Result (List ℕ) Fault
-replaced_text text at del ins = unless_refused (refusal_of text at del ins) (replace text at del ins)
+replaced_text text at del ins = option_map_or (λ code. Err (Plain code)) (refusal_of text at del ins) (Ok (replace text at del ins))
 
 -- a text with a change, or why the change is refused
 abbrev pub edited_text : List ℕ → Change → Result (List ℕ) Fault

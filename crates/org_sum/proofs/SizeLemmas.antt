@@ -12,14 +12,16 @@ use Rattle.org_class.specs.Classes.{section_classes}
 use Rattle.org_class.specs.Sections.{sections}
 use Rattle.org_class.specs.declared.class.Class.{Class}
 use Rattle.org_class.specs.declared.class.Class.TheVariants.{Heading, Planning, DrawerOpen, Node, DrawerEnd, BlockOpen, Verbatim, BlockEnd, Comment, Setting, Clock, Plain}
-use Rattle.org_drawer.specs.Clock.{minutes_in, minutes_to}
+use Rattle.org_drawer.specs.Clock.{minutes_in}
+use Rattle.org_drawer.proofs.ClockWords.{minutes_to}
 use Rattle.org_drawer.specs.declared.clock.ClockLine.{ClockLine}
 use Rattle.org_entry.specs.Entry.{PlacedLine, clocks_of, entry_of, placed}
 use Rattle.org_lines.proofs.LineLemmas.{concat-lines}
 use Rattle.org_lines.specs.Cuts.{lines}
 use Rattle.org_settings.specs.Settings.{FileSettings}
 use Rattle.org_sum.proofs.StampSizes.{stamp_bytes}
-use Rattle.org_stamp.specs.Pair.{clock_stamp, if_inactive, past_spaces}
+use Rattle.org_stamp.specs.Pair.{clock_stamp, past_spaces}
+use Rattle.org_stamp.proofs.PairWords.{if_inactive}
 use Rattle.org_stamp.specs.Read.{stamp_of}
 use Rattle.org_stamp.specs.declared.stamp.Stamp.{Stamp}
 use Rattle.org_sum.specs.Laws.{ClocksAreSmall}

@@ -18,10 +18,9 @@ own f e counts = if is_some (level_of e) && counts then f e else 0
 
 -- what the entry at a place counts
 abbrev pub own_at : (Entry → ℕ) → List Entry → List Bool → ℕ → ℕ
-own_at f [] cs j = 0
-own_at f (e ∷ es) [] j = 0
 own_at f (e ∷ es) (c ∷ cs) zero = own f e c
 own_at f (e ∷ es) (c ∷ cs) (suc j) = own_at f es cs j
+own_at f _ _ j = 0
 
 -- what the entries before each place count, and at the end what all count
 abbrev pub sums_before : (Entry → ℕ) → List Entry → List Bool → List ℕ

@@ -9,7 +9,8 @@ use Rattle.org_base.specs.declared.fault.Fault.{Fault}
 use Rattle.org_base.specs.declared.fault.Fault.TheVariants.{Plain}
 use Rattle.org_engine.specs.Questions.{AsksOf}
 use Rattle.org_engine.specs.declared.question.Form.{Form}
-use Rattle.org_engine.specs.Step.{Query, answer, render_view, world_for}
+use Rattle.org_engine.specs.Step.{Query, render_view, world_for}
+use Rattle.org_engine.proofs.StepWords.{answer}
 use Rattle.org_engine.specs.Step as step
 use Rattle.org_engine.proofs.AnswerLemmas.{same_clock, same_match}
 use Rattle.org_engine.specs.World.{State, WorldView}

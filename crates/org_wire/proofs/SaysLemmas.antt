@@ -2,7 +2,8 @@
 use Rattle.std.proofs.Common.{◌≡◌, Bool, List, ℕ, refl, sym, ◌∙◌, subst}
 use Rattle.std.specs.Prelude.{Option}
 use Rattle.org_engine.specs.World.{EngineView}
-use Rattle.org_wire.specs.Run.{AnswersAllSpelled, AnswersAllTaken, IsRunOver, IsSpelledRun}
+use Rattle.org_wire.specs.Run.{AnswersAllSpelled, IsSpelledRun}
+use Rattle.org_wire.proofs.RunWords.{AnswersAllTaken, IsRunOver}
 use Rattle.org_wire.specs.Spelled.{IsSpelled}
 use Rattle.org_wire.specs.Stream.{Bad, Framed, Line, Plainly, line_of}
 use Rattle.org_wire.specs.Turns.{AnswersAllRead, IsReadRun}

@@ -1,6 +1,6 @@
 -- A line that is spelled so is read so.
 use Rattle.std.proofs.Common.{◌≡◌, ◌≢◌, ◌∙◌, ℕ, ◌<◌, Bool, true, false, not, inl, inr, List, [], ◌∷◌, ◌++◌, length, drop, refl, sym, ap, subst, arith}
-use Rattle.std.specs.Prelude.{◌==◌, ◌&&◌, nat_eq, if◌then◌else◌, codes, decimal, Option, Some, None}
+use Rattle.std.specs.Prelude.{◌==◌, ◌&&◌, nat_eq, if◌then◌else◌, codes, decimal, Option, Some, None, IfSome}
 use Rattle.std.specs.List.{All, list_all, starts_with}
 use Rattle.std.proofs.lemmas.Bool.Decides.{nat_tests}
 use Rattle.std.proofs.lemmas.List.Elements.{All-cons, All-head, All-nil, All-tail}
@@ -11,7 +11,7 @@ use Rattle.org_base.specs.declared.profile.Profile.{Profile as AnyProfile}
 use Rattle.org_base.specs.declared.profile.Profile.TheVariants.{One, Two}
 use Rattle.org_wire.specs.Laws.{LinesAreSpelled}
 use Rattle.org_wire.specs.Lines.{cut_at}
-use Rattle.org_wire.specs.Spelled.{AreKeywords, AreNames, IsFileOf, IsFrameLine, IsLineOf, IsName, IsNumber, IsQuestion, IsSeen, IsView, IsViewWith, IsWord, file_parts, keyword_parts, parted, profile_word, seen_parts, spaced}
+use Rattle.org_wire.specs.Spelled.{AreKeywords, AreNames, IsFrameLine, IsLineOf, IsName, IsNumber, IsQuestion, IsSeen, IsView, IsViewWith, IsWord, file_parts, keyword_parts, parted, profile_word, seen_parts, spaced}
 use Rattle.org_wire.specs.Stream.{Bad, Framed, Line, Plainly, add_line, agenda_line, at_line, complete_at, complete_line, dated_line, edit_at, edit_del, edit_line, file_line, first_number, inherit_line, is_name, is_one_word, line_of, list_line, match_line, moment_of, number_of, pin_line, pinned_line, question_line, seen_name, seen_of, seen_serial, seen_session, sized, todo_line, unpin_line, view_line, view_words, words_from, words_line}
 use Rattle.org_wire.specs.declared.command.Command.{Command}
 use Rattle.org_wire.specs.declared.command.Command.TheVariants.{Add, Agenda, At, Clock, Complete, Drop, Edit, Inherit, Keywords, Match, Pin, Profile, Text, Todo, Unpin, Version}
@@ -205,7 +205,7 @@ module _ (second : Bool) where
   unfolding line_of
   named_line name list is = ap (words_line second ((codes "file=" ++ name) ++ (32 ∷ list))) (named_first name list is)
 
-  list_back : (request : Request) (file : Option (List ℕ)) (parts : List (List ℕ)) (line : List ℕ) (l : Line) → 0 < length parts → IsFileOf file → line_of second (spaced parts) ≡ question_line second None (spaced parts) →
+  list_back : (request : Request) (file : Option (List ℕ)) (parts : List (List ℕ)) (line : List ℕ) (l : Line) → 0 < length parts → IfSome file IsName → line_of second (spaced parts) ≡ question_line second None (spaced parts) →
       starts_with nat_eq (spaced parts) (codes "places ") ≡ false →
       view_line request (spaced parts) ≡ list_line request None (spaced parts) → list_line request file (spaced parts) ≡ l → IsView second request (file_parts file ++ parts) line → line_of second line ≡ l
   list_back request None parts line l some named first other plain says is = view_back request parts line l some first other (plain ∙ says) is
@@ -216,7 +216,7 @@ module _ (second : Bool) where
       (ap (λ t. starts_with nat_eq t (codes "places ")) whole)
       (ap (view_line request) whole ∙ named_list request name (spaced parts) named ∙ says) is
 
-  todo_back : (request : Request) (file : Option (List ℕ)) (keywords : List (List ℕ)) (line : List ℕ) → IsView second request (file_parts file ++ (codes "todo" ∷ keyword_parts keywords)) line → AreKeywords keywords → IsFileOf file →
+  todo_back : (request : Request) (file : Option (List ℕ)) (keywords : List (List ℕ)) (line : List ℕ) → IsView second request (file_parts file ++ (codes "todo" ∷ keyword_parts keywords)) line → AreKeywords keywords → IfSome file IsName →
       line_of second line ≡ Plainly (Todo request file keywords)
   unfolding line_of
   todo_back request file [] line is all named = list_back request file (codes "todo" ∷ []) line (Plainly (Todo request file [])) (omega arith) named refl refl refl refl is
@@ -226,7 +226,7 @@ module _ (second : Bool) where
       let read : todo_line request file text ≡ Plainly (Todo request file (words_from 124 [] text)) = rw (is_utf8-from_IsUtf8 text all.2, all_pass text all.1, w.0) refl in
       list_back request file (codes "todo" ∷ (text ∷ [])) line (Plainly (Todo request file (k ∷ ks))) (omega arith) named refl refl refl (read ∙ ap (λ ns. Plainly (Todo request file ns)) w.1) is
 
-  match_back : (request : Request) (file : Option (List ℕ)) (text line : List ℕ) → IsViewWith second request (file_parts file) (codes "match") text line → IsFileOf file → line_of second line ≡ Plainly (Match request file text)
+  match_back : (request : Request) (file : Option (List ℕ)) (text line : List ℕ) → IsViewWith second request (file_parts file) (codes "match") text line → IfSome file IsName → line_of second line ≡ Plainly (Match request file text)
   unfolding line_of
   match_back request file text line (inl is) named =
       let read : match_line request file text ≡ Plainly (Match request file text) = rw (is_utf8-from_IsUtf8 text is.1) refl in

@@ -1,6 +1,6 @@
 -- What the reader says of a line is spelled on it.
 use Rattle.std.proofs.Common.{◌≡◌, ◌≢◌, ◌∙◌, ℕ, ◌<◌, Bool, true, false, not, inl, inr, List, [], ◌∷◌, ◌++◌, length, drop, refl, sym, ap, subst, arith}
-use Rattle.std.specs.Prelude.{◌==◌, ◌&&◌, if◌then◌else◌, codes, decimal, nat_eq, Option, Some, None}
+use Rattle.std.specs.Prelude.{◌==◌, ◌&&◌, if◌then◌else◌, codes, decimal, nat_eq, Option, Some, None, IfSome}
 use Rattle.std.specs.Cmp.Lexicographic.{same_text}
 use Rattle.std.specs.List.{All, list_all, starts_with}
 use Rattle.std.specs.Str.{IsUtf8, bytes_eq, is_utf8}
@@ -11,7 +11,7 @@ use Rattle.std.proofs.lemmas.Slice.Eq.{starts_is}
 use Rattle.std.proofs.lemmas.Str.{IsUtf8-from_is_utf8, IsUtf8-nil}
 use Rattle.org_base.specs.FileName.{is_file_name}
 use Rattle.org_wire.specs.Lines.{Cut, cut_at}
-use Rattle.org_wire.specs.Spelled.{IsFileOf, IsFrameLine, IsKnown, IsLineOf, IsName, IsNumber, IsQuestion, IsSeen, IsView, IsWord, file_parts, form_parts, keyword_parts, parted, spaced}
+use Rattle.org_wire.specs.Spelled.{IsFrameLine, IsKnown, IsLineOf, IsName, IsNumber, IsQuestion, IsSeen, IsView, IsWord, file_parts, form_parts, keyword_parts, parted, spaced}
 use Rattle.org_wire.specs.Stream.{Bad, Framed, Line, Plainly, add_line, agenda_line, are_words, at_line, clock_line, complete_at, complete_line, dated_line, drop_line, edit_at, edit_del, edit_line, file_line, first_number, inherit_line, is_name, keywords_line, is_one_word, is_word, line_of, list_line, list_words, match_line, moment_of, number_of, pin_line, pinned_line, profile_line, question_line, seen_name, seen_of, seen_serial, seen_session, sized, text_line, todo_line, unpin_line, view_line, view_words, words_from, words_line}
 use Rattle.org_wire.specs.declared.command.Command.TheVariants.{At, Clock, Complete, Drop, Inherit, Keywords, Match, Profile, Text, Todo, Version}
 use Rattle.org_base.specs.declared.profile.Profile.TheVariants.{One, Two}
@@ -241,7 +241,7 @@ module _ (second : Bool) where
   some_parts None parts any = any
   some_parts (Some name) parts any = omega arith
 
-  file_of : (file : Option (List ℕ)) (list view : List ℕ) → Behind file list view → IsFileOf file
+  file_of : (file : Option (List ℕ)) (list view : List ℕ) → Behind file list view → IfSome file IsName
   file_of None list view behind = tt
   file_of (Some name) list view behind = behind.1
 

@@ -1,13 +1,13 @@
 -- A run: the replies to the commands of a stream, and the state after them (profile).
-use Rattle.std.specs.Prelude.{◌≡◌, Bool, Result, Ok, Err, if◌then◌else◌, List, [], ◌∷◌, ◌++◌, ℕ, Option, None, Some, IfSome, flat_map}
-use Rattle.std.specs.Option.{option_to_list}
+use Rattle.std.specs.Result.{result_ok}
+use Rattle.std.specs.Prelude.{◌≡◌, Bool, if◌then◌else◌, List, [], ◌∷◌, ◌++◌, ℕ, Option, None, Some, IfSome, flat_map}
+use Rattle.std.specs.Option.{option_to_list, option_map_or, option_and_then}
 use Rattle.std.specs.Io.KnownBytes.{Appends, Consumes}
 use Rattle.org_base.specs.Codes.{code_of, memory_fault}
 use Rattle.org_base.specs.declared.code.Code.TheVariants.{Device, Memory}
 use Rattle.org_cal.specs.Faults.{date_fault}
 use Rattle.org_cal.specs.declared.moment.Moment.{Moment}
-use Rattle.org_base.specs.declared.fault.Fault.{Fault}
-use Rattle.org_engine.specs.World.{EngineView, FileView, State}
+use Rattle.org_engine.specs.World.{EngineView, State}
 use Rattle.org_complete.specs.Completion.{completion_part}
 use Rattle.org_complete.specs.Parts.{Part}
 use Rattle.org_engine.specs.Questions.{AsksMatch, AsksOf, AsksTable, asked_agenda}
@@ -29,8 +29,7 @@ use Rattle.org_wire.specs.declared.stream.End.TheVariants.{Done, Stopped}
 
 -- the command of another moment; where the words spell none, a question that is refused as no date
 abbrev pub moment_command : Option Moment → step.Command
-moment_command None = step.Ask (step.Unread date_fault) form.Text None
-moment_command (Some moment) = step.At moment
+moment_command found = option_map_or step.At found (step.Ask (step.Unread date_fault) form.Text None)
 
 -- the question for which a view stands, asked of the current world or of the one that a session keeps, on that one's day
 abbrev pub MeansView : (ℕ → step.Query → Type 0) → Request → State → step.Command → Type 0
@@ -62,31 +61,17 @@ shown (step.Serial serial) = reply.Serial serial
 shown (step.Shown text) = reply.Shown text
 shown (step.Refused fault) = reply.Refused fault
 
--- what completing a heading replaces in a file's text, if it does
-abbrev pub part_if : Result Part Fault → Option Part
-part_if (Ok part) = Some part
-part_if (Err fault) = None
-
--- what completing a heading replaces in a file, if the file is there and the heading can be completed
-abbrev pub part_in : ℕ → List ℕ → Moment → Option FileView → Option Part
-part_in line keyword moment None = None
-part_in line keyword moment (Some file) = part_if (completion_part file.text line keyword moment)
-
--- the reply to an accepted completion that replaced a part
-abbrev pub changed_by : ℕ → Option Part → Reply
-changed_by serial None = reply.Serial serial
-changed_by serial (Some part) = reply.Changed serial (record { at = part.at; del = part.del; ins = part.ins })
-
 -- the reply to a completion, with what it replaced
 abbrev pub changed : Option Part → step.Reply → Reply
-changed part (step.Serial serial) = changed_by serial part
-changed part (step.Shown text) = reply.Shown text
-changed part (step.Refused fault) = reply.Refused fault
+changed part (step.Serial serial) =
+    option_map_or (λ (p : Part). reply.Changed serial (record { at = p.at; del = p.del; ins = p.ins })) part (reply.Serial serial)
+changed part answer = shown answer
 
 -- the engine's reply to a command in a state, as it is written: in the second protocol a completion says what it replaced
 abbrev pub told_to : Bool → Command → State → step.Reply → Reply
-told_to second (Complete seen line keyword) s answer =
-    if second then changed (part_in line keyword s.world.moment (step.file_named seen.name s.world.files)) answer else shown answer
+told_to second (Complete seen line keyword) s answer = if second
+    then changed (option_and_then (λ file. result_ok (completion_part file.text line keyword s.world.moment)) (step.file_named seen.name s.world.files)) answer
+    else shown answer
 told_to second command s answer = shown answer
 
 -- the reply that stands where memory is refused
@@ -133,12 +118,8 @@ pub record IsWhole (second : Bool) (says : List ℕ → Line) (bytes : List ℕ)
   pub ends : EndsSo (read_by says rest).next end
   pub wrote : Appends had has (written answers ++ last_bytes (read_by says rest).next)
 
--- what a failed write was to write: a reply, or else what stands for the fault at which the stream stops
-abbrev pub cut_bytes : Option Reply → Next → List ℕ
-cut_bytes (Some answer) next = reply_bytes answer
-cut_bytes None next = last_bytes next
-
--- a front of the stream was answered; all replies but the last were written whole, and of the last a front
+-- a front of the stream was answered; all replies but the last were written whole, and of the last a front. What a failed
+-- write was to write is a reply, or else what stands for the fault at which the stream stops
 pub record IsFront (second : Bool) (says : List ℕ → Line) (bytes : List ℕ) (old new : State) (had has : Option (List ℕ)) : Type 0 where
   pub answers : List Reply
   pub cut : Option Reply
@@ -146,7 +127,7 @@ pub record IsFront (second : Bool) (says : List ℕ → Line) (bytes : List ℕ)
   pub runs : AreReplies second says bytes old (answers ++ option_to_list cut) rest new
   pub part : List ℕ
   pub lost : List ℕ
-  pub is : cut_bytes cut (read_by says rest).next ≡ part ++ lost
+  pub is : option_map_or reply_bytes cut (last_bytes (read_by says rest).next) ≡ part ++ lost
   pub wrote : Appends had has (written answers ++ part)
 
 -- the end after a failed call
@@ -166,11 +147,6 @@ pub record IsRun (second : Bool) (says : List ℕ → Line) (bytes : List ℕ) (
   pub whole : (end ≡ broken → ⊥) → IsWhole second says bytes old end new had has
   pub front : end ≡ broken → IsFront second says bytes old new had has
 
--- a run over a stream whose bytes are known; of a reader that doesn't tell its bytes nothing is said
-abbrev pub IsRunOver : {W : Type 0} → Bool → (List ℕ → Line) → (W → Option (List ℕ)) → Option (List ℕ) → CountedView W → EngineView → End → CountedView W → EngineView → Type 0
-IsRunOver second says contents stream had old end has new =
-    IfSome stream (λ bytes. IsRun second says bytes old.state end new.state (contents had.inner) (contents has.inner))
-
 -- all commands that are whole in the bytes taken were answered, and these are the bytes that the reader still holds
 pub record AnswersTaken (second : Bool) (says : List ℕ → Line) (bytes : List ℕ) (old new : State) (had has held : Option (List ℕ)) : Type 0 where
   pub answers : List Reply
@@ -181,16 +157,14 @@ pub record AnswersTaken (second : Bool) (says : List ℕ → Line) (bytes : List
   pub taken : Consumes (Some rest) held part
   pub ends : IsUnfinished (read_by says part).next
 
--- all commands that are whole in the bytes taken were answered, where the bytes of the stream are known
-abbrev pub AnswersAllTaken : {W : Type 0} → Bool → (List ℕ → Line) → (W → Option (List ℕ)) → Option (List ℕ) → CountedView W → EngineView → Option (List ℕ) → CountedView W → EngineView → Type 0
-AnswersAllTaken second says contents stream had old held has new =
-    IfSome stream (λ bytes. AnswersTaken second says bytes old.state new.state (contents had.inner) (contents has.inner) held)
-
--- a run over a stream, where whatever says what lines are says what they spell
+-- a run over a stream whose bytes are known, where whatever says what lines are says what they spell; of a reader that doesn't
+-- tell its bytes nothing is said
 abbrev pub IsSpelledRun : {W : Type 0} → Bool → (W → Option (List ℕ)) → Option (List ℕ) → CountedView W → EngineView → End → CountedView W → EngineView → Type 0
-IsSpelledRun second contents stream had old end has new = (says : List ℕ → Line) → IsSpelled second says → IsRunOver second says contents stream had old end has new
+IsSpelledRun second contents stream had old end has new = (says : List ℕ → Line) → IsSpelled second says →
+    IfSome stream (λ bytes. IsRun second says bytes old.state end new.state (contents had.inner) (contents has.inner))
 
--- all commands that are whole in the bytes taken were answered, where whatever says what lines are says what they spell
+-- all commands that are whole in the bytes taken were answered, where the bytes of the stream are known, and whatever says what
+-- lines are says what they spell
 abbrev pub AnswersAllSpelled : {W : Type 0} → Bool → (W → Option (List ℕ)) → Option (List ℕ) → CountedView W → EngineView → Option (List ℕ) → CountedView W → EngineView → Type 0
-AnswersAllSpelled second contents stream had old held has new =
-    (says : List ℕ → Line) → IsSpelled second says → AnswersAllTaken second says contents stream had old held has new
+AnswersAllSpelled second contents stream had old held has new = (says : List ℕ → Line) → IsSpelled second says →
+    IfSome stream (λ bytes. AnswersTaken second says bytes old.state new.state (contents had.inner) (contents has.inner) held)

@@ -1,6 +1,8 @@
 -- How the stream's lines are spelled, without the reader's steps (profile).
 -- Characters by their codes: 32 space, 124 |.
-use Rattle.std.specs.Prelude.{◌≡◌, ◌↔◌, Bool, ◌≢◌, ◌⊎◌, ℕ, ◌<◌, ◌≤◌, true, List, [], ◌∷◌, ◌++◌, Option, None, Some, codes, decimal, length}
+use Rattle.org_wire.specs.declared.words.TheConstants.{MOST_NUMBER}
+use Rattle.std.specs.Option.{option_to_list, option_map}
+use Rattle.std.specs.Prelude.{◌≡◌, ◌↔◌, Bool, ◌≢◌, ◌⊎◌, ℕ, ◌<◌, ◌≤◌, true, List, [], ◌∷◌, ◌++◌, Option, None, Some, codes, decimal, length, IfSome}
 use Rattle.std.specs.List.{All}
 use Rattle.std.specs.Str.{IsUtf8}
 use Rattle.org_base.specs.FileName.{is_file_name}
@@ -10,7 +12,7 @@ use Rattle.org_cal.specs.Texts.{date_of, time_of}
 use Rattle.org_cal.specs.declared.moment.Moment.{Moment}
 use Rattle.org_engine.specs.declared.question.Form.{Form}
 use Rattle.org_engine.specs.declared.question.Form.TheVariants as form
-use Rattle.org_wire.specs.Stream.{Framed, Line, Plainly, moment_of, most_number}
+use Rattle.org_wire.specs.Stream.{Framed, Line, Plainly, moment_of}
 use Rattle.org_wire.specs.declared.command.Command.{Command}
 use Rattle.org_wire.specs.declared.command.Command.TheVariants.{Add, Agenda, At, Clock, Complete, Drop, Edit, Inherit, Keywords, Match, Pin, Profile, Text, Todo, Unpin, Version}
 use Rattle.org_wire.specs.declared.command.PayloadHeader.{PayloadHeader}
@@ -42,7 +44,7 @@ IsName name = (is_file_name name ≡ true) × IsUtf8 name
 
 -- a number that isn't too large; it is spelled by its decimal text
 abbrev pub IsNumber : ℕ → Type 0
-IsNumber n = n ≤ most_number
+IsNumber n = n ≤ MOST_NUMBER
 
 -- what a session saw: `S NAME SERIAL`
 abbrev pub seen_parts : BaseVersion → List (List ℕ)
@@ -78,13 +80,7 @@ IsViewWith second request front word text line =
 
 -- the part that names the file that a list is over, if it is over one
 abbrev pub file_parts : Option (List ℕ) → List (List ℕ)
-file_parts None = []
-file_parts (Some name) = (codes "file=" ++ name) ∷ []
-
--- the file that a list is over, if it is over one, is named by a file's name
-abbrev pub IsFileOf : Option (List ℕ) → Type 0
-IsFileOf None = Unit {0}
-IsFileOf (Some name) = IsName name
+file_parts file = option_to_list (option_map (λ name. codes "file=" ++ name) file)
 
 -- keywords: one part, with bars between; none without a keyword
 abbrev pub keyword_parts : List (List ℕ) → List (List ℕ)
@@ -123,8 +119,8 @@ IsLineOf second (Unpin session) line = (line ≡ spaced (codes "unpin" ∷ (deci
 IsLineOf second (Text name) line = (line ≡ spaced (codes "text" ∷ (name ∷ []))) × IsName name
 IsLineOf second (Keywords name) line = (line ≡ spaced (codes "keywords" ∷ (name ∷ []))) × IsName name × (second ≡ true)
 IsLineOf second Version line = (line ≡ codes "version") × (second ≡ true)
-IsLineOf second (Todo request file keywords) line = IsView second request (file_parts file ++ (codes "todo" ∷ keyword_parts keywords)) line × AreKeywords keywords × IsFileOf file
-IsLineOf second (Match request file text) line = IsViewWith second request (file_parts file) (codes "match") text line × IsFileOf file
+IsLineOf second (Todo request file keywords) line = IsView second request (file_parts file ++ (codes "todo" ∷ keyword_parts keywords)) line × AreKeywords keywords × IfSome file IsName
+IsLineOf second (Match request file text) line = IsViewWith second request (file_parts file) (codes "match") text line × IfSome file IsName
 IsLineOf second (Agenda request date days) line = IsView second request (codes "agenda" ∷ (date ∷ (decimal days ∷ []))) line × IsWord date × IsNumber days
 IsLineOf second (Clock request text) line = IsViewWith second request [] (codes "clock") text line
 

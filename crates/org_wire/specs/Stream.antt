@@ -1,5 +1,7 @@
 -- The commands of a stream of bytes (profile).
 -- Characters by their codes: 10 line feed, 32 space, 48 0, 57 9, 124 |.
+use Rattle.org_wire.specs.declared.line.TheConstants.{LONGEST}
+use Rattle.std.specs.Option.{option_and_then, option_map}
 use Rattle.std.specs.Prelude.{◌≡◌, ℕ, ◌+◌, ◌-◌, ◌*◌, List, [], ◌∷◌, Bool, not, true, false, ◌&&◌, ◌==◌, ◌++◌, nat_eq, nat_lt, nat_le, Option, None, Some, IfSome, length, take, drop, codes, if◌then◌else◌}
 use Rattle.std.specs.Io.KnownBytes.{Consumes}
 use Rattle.std.specs.List.{list_all, starts_with}
@@ -13,7 +15,7 @@ use Rattle.org_cal.specs.Texts.{date_of, time_of}
 use Rattle.org_cal.specs.declared.moment.Moment.{Moment}
 use Rattle.org_engine.specs.declared.question.Form.TheVariants as form
 use Rattle.org_text.specs.Replace.{max_bytes}
-use Rattle.org_wire.specs.Lines.{cut_at, longest}
+use Rattle.org_wire.specs.Lines.{cut_at}
 use Rattle.org_wire.specs.Lines as lines
 use Rattle.org_wire.specs.declared.words.TheConstants.{MOST_NUMBER}
 use Rattle.org_wire.specs.declared.command.Command.{Command}
@@ -125,9 +127,7 @@ agenda_line request (Some cut) = if is_one_word cut.before then dated_line reque
 
 -- the moment of a day and a time, where both could be read
 abbrev pub moment_of : Option ℕ → Option ℕ → Option Moment
-moment_of None time = None
-moment_of (Some day) None = None
-moment_of (Some day) (Some time) = Some (record { day = day; minute = time })
+moment_of day time = option_and_then (λ on. option_map (λ at. record { day = on; minute = at }) time) day
 
 -- `at DATE TIME`, from its date on
 abbrev pub at_line : Option lines.Cut → Line
@@ -295,19 +295,15 @@ after_line (Framed frame size) rest = if nat_lt max_bytes size then record { nex
     else if nat_lt (length rest) size then record { next = Last (Plain Cut); rest = [] }
     else record { next = Given (command_of_frame frame (take size rest)); rest = drop size rest }
 
--- what comes next after a line, by what lines say; the bytes behind the line may be its payload
-abbrev pub behind_by : (List ℕ → Line) → List ℕ → List ℕ → Reading
-behind_by says line = after_line (says line)
-
 -- the same, as lines are read
 abbrev pub behind : Bool → List ℕ → List ℕ → Reading
-behind second = behind_by (line_of second)
+behind second line = after_line (line_of second line)
 
 -- what comes next on a stream that is cut at its first LF
 abbrev pub after_cut : (List ℕ → Line) → Option lines.Cut → Reading
 after_cut says None = record { next = Last (Plain Cut); rest = [] }
-after_cut says (Some cut) = if nat_lt longest (length cut.before) then record { next = Refused (Plain Long); rest = cut.after }
-    else behind_by says cut.before cut.after
+after_cut says (Some cut) = if nat_lt LONGEST (length cut.before) then record { next = Refused (Plain Long); rest = cut.after }
+    else after_line (says cut.before) cut.after
 
 -- what comes next on a stream
 abbrev pub read_by : (List ℕ → Line) → List ℕ → Reading

@@ -1,5 +1,5 @@
 -- What holds between the turns of a run.
-use Rattle.std.specs.Prelude.{◌≡◌, Bool, List, ℕ, Option, Some, Result, Ok, Err, String, string_bytes}
+use Rattle.std.specs.Prelude.{◌≡◌, Bool, List, ℕ, Option, Some, Result, Ok, Err, String, string_bytes, IfSome}
 use Rattle.org_base.specs.declared.fault.Fault.{Fault}
 use Rattle.std.specs.Io.KnownBytes.{Appends}
 use Rattle.org_base.specs.Codes.{code_of}
@@ -12,7 +12,7 @@ use Rattle.org_engine.specs.declared.changes.Completion.{Completion}
 use Rattle.org_engine.specs.declared.question.View.{View}
 use Rattle.org_wire.specs.Devices.{AppendsTo}
 use Rattle.org_wire.specs.Replies.{fault_bytes}
-use Rattle.org_wire.specs.Run.{AnswersAllTaken, AnswersSo, IsRunOver, AreReplies, out_of_memory, shown, written}
+use Rattle.org_wire.specs.Run.{AnswersSo, AnswersTaken, AreReplies, IsRun, out_of_memory, shown, written}
 use Rattle.org_wire.specs.Stream.{MayTakeMemory, line_of}
 use Rattle.org_wire.specs.declared.command.Command.{Command}
 use Rattle.org_wire.specs.declared.command.Command.TheVariants.{Add, Agenda, Clock, Complete, Edit, Match, Todo}
@@ -35,11 +35,13 @@ pub record IsSoFar (second : Bool) (bytes : List ℕ) (old new : State) (had has
 
 -- a run over a stream whose lines are read
 abbrev pub IsReadRun : {W : Type 0} → Bool → (W → Option (List ℕ)) → Option (List ℕ) → CountedView W → EngineView → End → CountedView W → EngineView → Type 0
-IsReadRun second = IsRunOver second (line_of second)
+IsReadRun second contents stream had old end has new =
+    IfSome stream (λ bytes. IsRun second (line_of second) bytes old.state end new.state (contents had.inner) (contents has.inner))
 
 -- all commands that are whole in the bytes taken were answered, as their lines are read
 abbrev pub AnswersAllRead : {W : Type 0} → Bool → (W → Option (List ℕ)) → Option (List ℕ) → CountedView W → EngineView → Option (List ℕ) → CountedView W → EngineView → Type 0
-AnswersAllRead second = AnswersAllTaken second (line_of second)
+AnswersAllRead second contents stream had old held has new =
+    IfSome stream (λ bytes. AnswersTaken second (line_of second) bytes old.state new.state (contents had.inner) (contents has.inner) held)
 
 -- the answer to a command, or out of memory with nothing changed
 pub record IsServed (second : Bool) (command : Command) (old : State) (answer : Reply) (new : State) : Type 0 where

@@ -1,6 +1,6 @@
 -- The stars of a run in their order.
 use Rattle.std.proofs.Common.{sym, ap, ◌∙◌, ◌≡◌, ◌+◌, ◌&&◌, false, arith, length, length-drop, slice_index}
-use Rattle.org_class.specs.Heading.{is_star}
+use Rattle.org_class.proofs.HeadingWords.{is_star}
 use Rattle.org_class.specs.SectionEnds.{has_line_star}
 use Rattle.org_class.proofs.SectionEndLemmas.{and_true, no_star_further, one_further, star_byte, whole_range}
 use Rattle.org_class.proofs.section_end.line_star.Goals as goal

@@ -1,7 +1,7 @@
 -- The rows from a heading on, or none from the end on.
 use Rattle.std.proofs.Common.{◌≡◌, drop, reverse}
 use Rattle.org_clocktable.specs.Clocked.{IsHeadingOrEnd}
-use Rattle.org_clocktable.specs.Table.{rows_from}
+use Rattle.org_clocktable.proofs.TableWords.{rows_from}
 use Rattle.org_clocktable.proofs.rows.headings_up.Given as goal
 
 abbrev pub invariant-loop-place : goal.invariant-loop-place

@@ -1,9 +1,10 @@
 use Rattle.std.proofs.Common.{◌≡◌, ◌∙◌, ◌+◌, List, ℕ, ap, false, refl, sym, true}
+use Rattle.org_engine.specs.declared.limits.TheConstants.{LAST_SERIAL}
 use Rattle.std.specs.Prelude.{Ok, nat_le}
 use Rattle.org_store.specs.Change.{edited}
 use Rattle.org_store.specs.File.{FileView as KeptFile}
 use Rattle.org_engine.specs.Calls.{edited_file, edited_named}
-use Rattle.org_engine.specs.Step.{Refused, Serial, changes, file_named, last_serial, put, with_text}
+use Rattle.org_engine.specs.Step.{Refused, Serial, changes, file_named, put, with_text}
 use Rattle.org_engine.specs.World.{KeptWorld, State}
 use Rattle.org_engine.proofs.ChangeLemmas.{puts_refused}
 use Rattle.org_engine.proofs.FilesLemmas.{kept_text}
@@ -20,7 +21,7 @@ returns-clause-ok g c =
     let found = there_is_one (file_named name files) (rw (← c.self.view_is) at c.requires.there) in
     let answer : edited_named name change files ≡ Ok (edited found.0.text change) = ap (edited_file change) found.1 ∙ c.in_ok-edit.ensures.text found.0 found.1 in
     let done = c.in_ok-edit.ensures.ok in
-    let left : nat_le last_serial s.serial ≡ false = rw (← c.self.view_is) at (sym c.is_spent.ensures.value ∙ c.if-is_spent.false) in
+    let left : nat_le LAST_SERIAL s.serial ≡ false = rw (← c.self.view_is) at (sym c.is_spent.ensures.value ∙ c.if-is_spent.false) in
     let same = kept_text name files s.world.marks done.before found.0 done.found found.1 in
     let t : done.after.text ≡ edited found.0.text change = ap (λ (f : KeptFile). f.text) done.changed.is ∙ ap (λ (x : List ℕ). edited x change) same in
     let q : done.after.serial ≡ s.serial + 1 = ap (λ (f : KeptFile). f.serial) done.changed.is in
@@ -35,7 +36,7 @@ returns-then-is_spent-clause-refused g c = λ _.
     let change = c.args.change in
     let found = there_is_one (file_named name s.world.world.files) (rw (← c.self.view_is) at c.requires.there) in
     let answer : edited_named name change s.world.world.files ≡ Ok (edited found.0.text change) = ap (edited_file change) found.1 ∙ c.in_ok-try_edit.ensures.ok found.0 found.1 in
-    let spent : nat_le last_serial s.serial ≡ true = rw (← c.self.view_is) at (sym c.is_spent.ensures.value ∙ c.if-is_spent.true) in
+    let spent : nat_le LAST_SERIAL s.serial ≡ true = rw (← c.self.view_is) at (sym c.is_spent.ensures.value ∙ c.if-is_spent.true) in
     rw (← c.self.view_is, answer, spent) refl
 
 pub returns-in_err-try_edit-clause-refused : goal.returns-in_err-try_edit-clause-refused
