@@ -1,8 +1,8 @@
 #!/bin/sh
 # Runs the completions of bash, zsh and fish, each in its shell, and compares what they offer with what the program takes: behind
 # a minus the options that `--help` of the same command lists, and no others; as words its commands, days, keywords or tags;
-# behind an option the values that its line of `--help` names. Each day that is offered has to be taken by the program. What is
-# missing and what is too much fails. The man page has a section for each command, with each of its options. A shell that isn't
+# behind an option the values that its line of `--help` names; and files where its arguments or its options take one, and nowhere
+# else. Each day that is offered has to be taken by the program. What is missing and what is too much fails. The man page has a section for each command, with each of its options. A shell that isn't
 # installed is left out, and that is said. The last line counts.
 #     tests/completions.sh ORGQ [SHELL..]
 here=$(cd "$(dirname "$0")" && pwd)
@@ -13,7 +13,7 @@ if [ ! -x "$1" ]; then
 fi
 work=$(mktemp -d) || exit 2
 trap 'rm -rf "$work"' EXIT
-mkdir "$work/bin" "$work/empty" "$work/home"
+mkdir "$work/bin" "$work/folder" "$work/home"
 ln -s "$(cd "$(dirname "$1")" && pwd)/$(basename "$1")" "$work/bin/orgq"
 printf '%s\n' '#+TODO: TODO NEXT | DONE' '* NEXT a :errand:' '* TODO b :home:' > "$work/words.org"
 unset NO_COLOR TZ TZDIR
@@ -34,8 +34,9 @@ values_of() {
 
 days="today tomorrow yesterday mon tue wed thu fri sat sun thisweek lastweek nextweek thismonth lastmonth nextmonth thisyear lastyear nextyear"
 
-# A line, and what has to be offered at its end.
+# A line, and what has to be offered at its end; the same in a folder that has a file.
 ask() { printf '%s\t%s\n' "$1" "$2" >> "$work/asked"; }
+ask_file() { printf '%s\t%s\n' "$1" "$2" >> "$work/asked-files"; }
 
 # The words that may stand behind a command: commands below it, else what the program takes there.
 words_of() {
@@ -66,11 +67,23 @@ ask_second() {
     esac
 }
 
+# The file where the first argument of a command may be one or its place, and behind its options that take one.
+ask_files_of() {
+    case $(orgq $1 --help 2> /dev/null | sed -n '/^Arguments:/{ n; p; q; }') in
+        *"[PLACE]"* | *"[FILE]"* | *"[PATH]"*) ask_file "orgq ${1:+$1 }zz" zz.org ;;
+        *) ask_file "orgq ${1:+$1 }zz" "" ;;
+    esac
+    for option in $(options_of "$1"); do
+        case $option in -f | --file | -o | --output | --under) ask_file "orgq ${1:+$1 }$option zz" zz.org ;; esac
+    done
+}
+
 # What stands behind a command on its line, and behind each of its own options with a value that can be known.
 of_all=
 ask_all_of() {
     ask "orgq ${1:+$1 }" "$(words_of "$1")"
     case $1 in help | *" help") return ;; esac
+    ask_files_of "$1"
     options=$(options_of "$1")
     ask "orgq ${1:+$1 }-" "$options"
     for option in $options; do
@@ -86,6 +99,7 @@ ask_all_of() {
 }
 
 : > "$work/asked"
+: > "$work/asked-files"
 ask_all_of ""
 of_all=$(options_of "")
 for command in $(commands_of ""); do
@@ -96,7 +110,8 @@ for command in $(commands_of ""); do
     done
 done
 cut -f1 "$work/asked" > "$work/lines"
-count=$(wc -l < "$work/lines")
+cut -f1 "$work/asked-files" > "$work/lines-files"
+count=$(cat "$work/lines" "$work/lines-files" | wc -l)
 for day in $days; do
     orgq --at "2024-02-28 10:30" agenda "$day" > /dev/null 2>&1
     [ $? -ne 2 ] && passed=$((passed + 1)) || { failed=$((failed + 1)); echo "completions: orgq agenda $day is refused"; }
@@ -105,13 +120,13 @@ done
 # Words one a line, each once.
 listed() { printf '%s\n' $1 | grep . | sort -u; }
 
-# Compares what a shell offers, line by line, with what is listed.
+# Compares what a shell offers, line by line, with what is listed: in the empty folder, or with `-files` in the one with a file.
 compare() {
     number=0
     while IFS=$tab read -r line wanted; do
         number=$((number + 1))
         listed "$wanted" > "$work/wanted"
-        awk -F'\t' -v number="$number" '$1 == number { sub(/ +$/, "", $2); print $2 }' "$work/$1" | grep . | sort -u > "$work/offered"
+        awk -F'\t' -v number="$number" '$1 == number { sub(/ +$/, "", $2); print $2 }' "$work/$1$2" | grep . | sort -u > "$work/offered"
         # Where no word is wanted zsh offers options at once; they are compared behind a minus.
         [ -n "$wanted" ] || { grep -v '^-' "$work/offered" > "$work/words"; mv "$work/words" "$work/offered"; }
         missing=$(comm -23 "$work/wanted" "$work/offered" | tr '\n' ' ')
@@ -122,21 +137,32 @@ compare() {
             failed=$((failed + 1))
             echo "completions: $1 at '$line':${missing:+ lacks $missing}${extra:+ has too much $extra}"
         fi
-    done < "$work/asked"
+    done < "$work/asked$2"
 }
 
-cd "$work/empty" || exit 2
+# Asks a shell for all lines, in this folder.
+ask_shell() {
+    case $1 in
+        bash) bash "$here/completions/ask.bash" "$here/../contrib/completions/orgq.bash" "$work/lines$2" ;;
+        zsh)
+            mkdir "$work/inner$2" &&
+                zsh -f "$here/completions/ask.zsh" "$here/../contrib/completions/_orgq" "$work/lines$2" "$work/inner$2"
+            ;;
+        fish) fish --no-config "$here/completions/ask.fish" "$here/../contrib/completions/orgq.fish" "$work/lines$2" ;;
+    esac > "$work/$1$2"
+}
+
+mkdir "$work/folder-files" && : > "$work/folder-files/zz.org"
 for shell in ${shells:-bash zsh fish}; do
     if ! command -v "$shell" > /dev/null 2>&1; then
         echo "completions: $shell isn't installed, and is left out"
         continue
     fi
-    case $shell in
-        bash) bash "$here/completions/ask.bash" "$here/../contrib/completions/orgq.bash" "$work/lines" ;;
-        zsh) mkdir "$work/inner" && zsh -f "$here/completions/ask.zsh" "$here/../contrib/completions/_orgq" "$work/lines" "$work/inner" ;;
-        fish) fish --no-config "$here/completions/ask.fish" "$here/../contrib/completions/orgq.fish" "$work/lines" ;;
-    esac > "$work/$shell" || { failed=$((failed + 1)); echo "completions: $shell can't be asked"; continue; }
-    compare "$shell"
+    for with in "" -files; do
+        cd "$work/folder$with" || exit 2
+        ask_shell "$shell" "$with" || { failed=$((failed + 1)); echo "completions: $shell can't be asked"; continue; }
+        compare "$shell" "$with"
+    done
 done
 echo "completions: $count lines were asked of each shell"
 

@@ -360,6 +360,7 @@ if shim=$(sh "$here/faults/build.sh" "$room" 2> /dev/null); then
     refuse_memory -f home.org -f work.org calendar week --columns 100
     refuse_memory -f home.org -f work.org agenda --grid
     refuse_memory -f home.org -f work.org ical
+    refuse_memory -f home.org -f work.org page
     refuse_memory --keywords "TODO | DONE" check --all ../../check/kinds.org ../../check/other.org
 else
     echo "orgq: refused growths of memory are left out: the shim of tests/faults can't be built here"

@@ -232,14 +232,15 @@ if [ -x "$orgq" ]; then
         for minute in $(seq 0 129); do
             printf '* %03d <2024-02-28 Wed %02d:%02d>\n' "$minute" $((10 + minute / 60)) $((minute % 60))
         done > "$work/minutes.org"
-        mkdir "$work/notify"
-        ln -s "$orgq" "$work/notify/orgq"
+        mkdir "$work/notify" "$work/notify/bin"
+        ln -s "$orgq" "$work/notify/bin/orgq"
         for run in $(seq 0 "$each" 119); do
             [ $((run % 35)) -ne 30 ] || continue
             late=$((run + run % 3))
-            PATH=$work/notify:$PATH XDG_STATE_HOME=$work/notify ORGQ_NOTIFY=echo sh "$here/contrib/orgq-notify" "$ahead" \
+            PATH=$work/notify/bin:$PATH XDG_STATE_HOME=$work/notify ORGQ_NOTIFY=echo sh "$here/contrib/orgq-notify" "$ahead" \
                 --at "$(printf '2024-02-28 %02d:%02d' $((10 + late / 60)) $((late % 60)))" -f "$work/minutes.org"
-        done | cut -d ' ' -f 2 > "$work/told"
+        done > "$work/heard"
+        cut -d ' ' -f 2 "$work/heard" > "$work/told"
         last=$((late + ahead))
         seq -f %03g 0 "$last" | diff - "$work/told"
     }

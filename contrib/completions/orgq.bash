@@ -25,7 +25,7 @@ _orgq() {
     local word=${COMP_WORDS[COMP_CWORD]} before=${COMP_WORDS[COMP_CWORD-1]}
     local days="today tomorrow yesterday mon tue wed thu fri sat sun"
     local blocks="thisweek lastweek nextweek thismonth lastmonth nextmonth thisyear lastyear nextyear"
-    local above=() arguments=() part place=0 valued="" words="" help
+    local above=() arguments=() part place=0 valued="" words="" files="" help
     help=$(_orgq_help)
     for part in "${COMP_WORDS[@]:1:COMP_CWORD-1}"; do
         if [ -n "$valued" ]; then
@@ -62,8 +62,9 @@ _orgq() {
         *DATE*|*BLOCK*) words="$words $days $blocks" ;;
         *VIEW*) words="$words month week $days $blocks" ;;
         *KEYWORD*) words="$words $(orgq keywords 2> /dev/null)" ;;
+        *PLACE*|*FILE*|*PATH*) files=yes ;;
     esac
     COMPREPLY=($(compgen -W "$words" -- "$word"))
-    [ ${#COMPREPLY[@]} -gt 0 ] || mapfile -t COMPREPLY < <(compgen -f -X '!*.org' -- "$word"; compgen -d -- "$word")
+    [ -z "$files" ] || [ ${#COMPREPLY[@]} -gt 0 ] || mapfile -t COMPREPLY < <(compgen -f -X '!*.org' -- "$word"; compgen -d -- "$word")
 }
 complete -o filenames -F _orgq orgq
