@@ -10,13 +10,16 @@ use crate::words::push_name;
 use org_agenda::{Row, RowKind};
 use org_base::{Fault, Texts};
 use org_cal::TimeOfDay;
-use org_client::{FileSet, title_words};
+use org_client::{FileSet, ReadFile, title_words};
 use org_inherit::{Heading, Inherits};
 use org_page::{Hours, LinkPlace, Row as PageRow, StampPlace, Stand};
 use org_store::Place;
 use org_text::Text;
 use std::alloc::{AllocError, Global};
 use std::str;
+
+// What stands in place of a path where a text came from standard input.
+const STANDARD_INPUT: &str = "-";
 
 /// Files of which rows are shown, what their headings inherit, and the page that is asked for.
 #[derive(Drop)]
@@ -158,12 +161,21 @@ fn put_place<T: Text>(
     let line = place.line;
     push_name(&mut shown.place, file.name())?;
     write!(shown.place, ":{line}")?;
-    let path = file.path();
+    let path = link_path(file);
     shown.link = seen
         .wish
         .template
         .address(alloc, &LinkPlace { path, line })?;
     Ok(())
+}
+
+// What a link to a file leads to: its path, or of standard input, which has none, the name that it was given.
+fn link_path<T: Text>(file: &ReadFile<T>) -> &str {
+    if file.path() == STANDARD_INPUT {
+        file.name()
+    } else {
+        file.path()
+    }
 }
 
 // Puts what a row's heading says, if there is one.

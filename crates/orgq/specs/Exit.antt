@@ -32,7 +32,11 @@ abbrev pub wants_memory : Refusal → Bool
 wants_memory (refusal.Fault (fault.Plain code.Memory)) = true
 wants_memory why = false
 
+-- after a text that could not be replaced: memory was refused, or something else
+abbrev pub unsaved_status : Why → ℕ
+unsaved_status why = if is_memory why then 4 else 5
+
 -- after an act that wasn't done: memory was refused, or the act is, or the text could not be replaced
 abbrev pub unamended_status : Unamended → ℕ
 unamended_status (Refused why) = if wants_memory why then 4 else 2
-unamended_status (Unsaved why) = if is_memory why.why then 4 else 5
+unamended_status (Unsaved why) = unsaved_status why.why

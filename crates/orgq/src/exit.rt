@@ -1,6 +1,6 @@
 //! Exit statuses.
 ghost use Rattle.std.specs.Prelude.{◌≡◌};
-ghost use Rattle.orgq.specs.Exit.{check_status, is_memory, status_of, unamended_status, wants_memory};
+ghost use Rattle.orgq.specs.Exit.{check_status, is_memory, status_of, unamended_status, unsaved_status, wants_memory};
 
 use org_act::{Refusal, Unamended};
 use org_base::{Code, Fault};
@@ -56,9 +56,15 @@ pub fn unamended_status(why: &Unamended) -> u8
     match why {
         Unamended::Refused(refusal) if wants_memory(*refusal) => STOPPED,
         Unamended::Refused(_) => BAD_ARGUMENTS,
-        Unamended::Unsaved(unsaved) if is_memory(unsaved.why) => STOPPED,
-        Unamended::Unsaved(_) => UNWRITTEN,
+        Unamended::Unsaved(unsaved) => unsaved_status(unsaved.why),
     }
+}
+
+/// The status where a text could not be replaced: 4 for want of memory, 5 else.
+pub fn unsaved_status(why: Why) -> u8
+    ensures value { result ≡ unsaved_status why }
+{
+    if is_memory(why) { STOPPED } else { UNWRITTEN }
 }
 
 // Whether an act is refused for want of memory.

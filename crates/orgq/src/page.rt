@@ -1,13 +1,13 @@
 //! The command that writes a page.
 ghost use Rattle.org_client.specs.Files.{AreRead};
 
-use crate::exit::{UNWRITTEN, status_of};
+use crate::exit::{UNWRITTEN, status_of, unsaved_status};
 use crate::options::{profile, texts};
 use crate::out::print_all;
 use crate::problem::Problem;
 use crate::say::{out_of_memory, say_of};
 use crate::sources::{Reading, load_all, paths};
-use crate::unwritten::{report_unfit, say_saved, say_unsaved};
+use crate::unwritten::{report_unfit, report_unmade, say_saved, say_unsaved};
 use clap::ArgMatches;
 use org_answer::{Form, PrintOptions};
 use org_base::Fault;
@@ -24,6 +24,9 @@ use std::time::Clock;
 
 // How many days after today a page shows where none are named.
 const DAYS: u32 = 7;
+
+// What names standard output in place of a file.
+const STANDARD_OUTPUT: &str = "-";
 
 /// Prints the page that a command's own words ask for, or writes it into a file, and gives the exit status.
 pub fn print_page<
@@ -70,8 +73,9 @@ fn print_files<
     let left_out = load_all(rt, &mut file_set, paths.as_slice(), &Reading::of(matches))?;
     let text = page_text(rt.alloc(), &file_set, wish)?;
     let status = status_of(true, left_out);
-    if let Some(path) = own.get_str("output") {
-        return Ok(write_page(rt, path, text.as_str(), status));
+    let output = own.get_str("output").unwrap_or(STANDARD_OUTPUT);
+    if output != STANDARD_OUTPUT {
+        return Ok(write_page(rt, output, text.as_str(), status));
     }
     if matches.get_flag("quiet") {
         return Ok(status);
@@ -98,34 +102,47 @@ fn write_page<R: AllocGlobal + Clock + Files<File = File> + Eprint>(
     }
 }
 
-// Makes a file without a text, which gets its text as an older one does: so it never has a part of it.
+// Makes a file without a text, which gets its text as an older one does: so it never has a part of it. Where another program
+// made it meanwhile, that one is replaced if it is a page.
 fn write_new<R: AllocGlobal + Clock + Files<File = File> + Eprint>(
     rt: &R,
     path: &str,
     text: &str,
     status: u8,
 ) -> u8 {
-    if let Err(why) = make(rt, path) {
-        return report_unfit(rt, path, &why);
-    }
+    let unmade = make(rt, path);
     let written = match open(rt, path) {
         Ok(mut opened) => replace_page(rt, path, &mut opened.disk, text, status),
-        Err(why) => report_unfit(rt, path, &why),
+        Err(why) => report_unopened(rt, path, &why, unmade),
     };
-    if written != status {
+    if unmade.is_none() && written != status {
         say_of(rt, path, EMPTY);
     }
     written
 }
 
-fn make<R: AllocGlobal + Files<File = File>>(rt: &R, path: &str) -> Result<(), Unfit> {
+// Makes a file without a text; gives why it wasn't made.
+fn make<R: AllocGlobal + Files<File = File>>(rt: &R, path: &str) -> Option<Cause> {
     let made = OpenOptions::new()
         .write(true)
         .create_new(true)
         .open(rt, path);
     match made {
-        Ok(_file) => Ok(()),
-        Err(error) => Err(Unfit::Failed(Cause::of(&error))),
+        Ok(_file) => None,
+        Err(error) => Some(Cause::of(&error)),
+    }
+}
+
+// Says why a new file can't be opened, which is why it wasn't made where it isn't there, and gives the exit status.
+fn report_unopened<R: AllocGlobal + Eprint>(
+    rt: &R,
+    path: &str,
+    why: &Unfit,
+    unmade: Option<Cause>,
+) -> u8 {
+    match (why, unmade) {
+        (Unfit::Missing, Some(cause)) => report_unmade(rt, path, cause),
+        _ => report_unfit(rt, path, why),
     }
 }
 
@@ -152,7 +169,7 @@ fn replace_page<R: AllocGlobal + Files<File = File> + Eprint>(
         }
         Err(why) => {
             say_unsaved(rt, path, &why);
-            UNWRITTEN
+            unsaved_status(why.why)
         }
     }
 }

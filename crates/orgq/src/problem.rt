@@ -144,7 +144,7 @@ impl Problem {
             Problem::Files =>
                 "no files: name them by -f, ORGQ_FILES, ~/.config/orgq/config or ~/.config/orgq/files",
             Problem::FilterOf =>
-                "--match, --tag and --category are options of agenda, ical and next",
+                "--match, --tag and --category are options of agenda, calendar, ical and next",
             Problem::FollowFront => "files without -f and options of rows stand after follow",
             Problem::FollowInput =>
                 "follow reads files again and again, and standard input only once",

@@ -102,9 +102,20 @@ fn why_unsaved(why: Why) -> &'static str {
     }
 }
 
-// Why the file that is to take its place wasn't made.
+/// Says why a new file wasn't made, and gives the exit status.
+pub fn report_unmade<R: AllocGlobal + Eprint>(rt: &R, name: &str, cause: Cause) -> u8 {
+    match cause {
+        Cause::Memory => return out_of_memory(rt),
+        Cause::Exists => say_of(rt, name, "another program made it meanwhile"),
+        _ => say_of(rt, name, why_unmade(cause)),
+    }
+    UNWRITTEN
+}
+
+// Why a file wasn't made.
 fn why_unmade(cause: Cause) -> &'static str {
     match cause {
+        Cause::Missing => "there is no such folder",
         Cause::Denied => "its folder can't be written",
         Cause::Exists => {
             "stands beside it: another program made it, or it is left of one that was stopped"

@@ -1,0 +1,2 @@
+printf '* TODO Pay\n' > plan
+exec < plan
