@@ -21,9 +21,7 @@ use Rattle.org_engine.proofs.QuestionsWords.{asked_days, asked_from, days_fault}
 use Rattle.org_engine.specs.Step.{DayAgenda, Unread}
 use Rattle.org_engine.specs.Examined.{near_in_world}
 use Rattle.org_engine.specs.Views.{days_over, scopes_named}
-use Rattle.org_engine.proofs.ViewWords.{agenda_view}
 use Rattle.org_engine.specs.Places.{agenda_in, days_shown, in_form, line_places}
-use Rattle.org_engine.proofs.ViewWords.{agenda_places}
 use Rattle.org_engine.specs.declared.question.Form.{Form}
 use Rattle.org_engine.specs.declared.question.Form.TheVariants.{Places, Text}
 use Rattle.org_engine.proofs.ListLemmas.{all_files, all_named}

@@ -24,7 +24,7 @@ use Rattle.org_engine.specs.World.{WorldView, FileView, State, PinView}
 use Rattle.org_engine.specs.Step.{Query, Shown, Command, AddFile, DropFile, EditFile, Complete, At, Inherit, SetProfile, PinWorld, Unpin, TextOf, KeywordsOf, Version, Ask, Serial, Refused, Outcome, step, changes, refused, pinned_by, unpinned_by, world_of, is_session, added, dropped, put, edited, text_seen, with_file, with_text, without, file_named, is_missing}
 use Rattle.org_engine.proofs.StepWords.{profiled, is_unused, answer, kept_world, completed_at}
 use Rattle.org_engine.specs.Views.{scopes_named}
-use Rattle.org_engine.proofs.ViewWords.{step_text, table_view}
+use Rattle.org_engine.proofs.ViewWords.{table_view}
 use Rattle.org_engine.specs.Rest.{LimitsAreNamed, PinsKeepTheWorld, CommandsLeaveTheRest, IsNoName, KeepsOrder, KeepsRest, TablesAreOverTheirFiles, TakesOut, changed_by, names_in, names_of, over_all}
 use Rattle.org_engine.proofs.LawLemmas.{next_state}
 
