@@ -60,6 +60,5 @@ pub use read_file::ReadFile;
 pub use reminders::{Window, rows_between};
 pub use rows::{LoadReport, ShownClock, ShownSum, ViewRow};
 pub use template::{MEMBERS, Template, template_line};
-pub use titles::title_words;
 pub use visible::{Escape, push_visible};
 pub use when::{date_of, time_of};
