@@ -9,6 +9,7 @@ use crate::view::{Chosen, Days, agenda_over};
 use org_agenda::{Row, RowKind};
 use org_base::Fault;
 use org_cal::{Day, push_time};
+use org_client::Titles;
 use org_inherit::{Heading, Inherits};
 use org_look::{DayLook, Sheet, Timed, Tone, cut, half_hours, push_hours};
 use std::alloc::{AllocError, Global};
@@ -33,8 +34,9 @@ pub fn day_picture(
         Vec::new(alloc)
     };
     let minute = chosen.moment.minute.minutes();
+    let titles = Titles::new(alloc, inherits)?;
     let page = Page {
-        inherits,
+        titles: &titles,
         look: DayLook {
             columns: usize::from(canvas.columns).min(WIDEST),
             signs: canvas.signs,
@@ -89,12 +91,12 @@ fn part_of(row: &Row) -> Part {
 
 // What a picture of a day is made of.
 #[derive(Clone, Copy)]
-struct Page<'a, 'b> {
-    inherits: &'a Inherits<'b>,
+struct Page<'a, 'b, 'c> {
+    titles: &'a Titles<'b, 'c>,
     look: DayLook,
 }
 
-impl Page<'_, '_> {
+impl Page<'_, '_, '_> {
     fn push(&self, alloc: Global, out: &mut Sheet, rows: &[Row]) -> Result<(), Fault> {
         self.push_all_day(alloc, out, rows)?;
         let timed = self.rows_by_hours(alloc, rows)?;
@@ -202,7 +204,7 @@ impl Page<'_, '_> {
         let number = format!(in alloc; "{} d.", row.number)?;
         let mut line = format!(in alloc; "{:>5}  ", number.as_str())?;
         line.push_str(self.label(alloc, row)?.as_str())?;
-        if let Some(heading) = Heading::find(self.inherits, row.file, row.heading) {
+        if let Some(heading) = Heading::find(self.titles.inherits(), row.file, row.heading) {
             line.push_str("  ")?;
             push_shown(&mut line, heading.category())?;
         }
@@ -217,11 +219,11 @@ impl Page<'_, '_> {
             signs: self.look.signs,
             most: None,
         };
-        label_of(alloc, self.inherits, row, &wording)
+        label_of(alloc, self.titles, row, &wording)
     }
 
     fn tone(&self, row: &Row) -> Tone {
-        tone_of(self.inherits, row)
+        tone_of(self.titles.inherits(), row)
     }
 
     // Appends the line of a row behind a front.

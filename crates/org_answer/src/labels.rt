@@ -5,7 +5,7 @@ ghost use Rattle.org_answer.specs.Pictures.{GivesEntries, stand_of};
 use org_agenda::{Row, RowKind};
 use org_base::Fault;
 use org_cal::push_time;
-use org_client::title_words;
+use org_client::Titles;
 use org_inherit::{Heading, Inherits};
 use org_look::{Entry, Signs, Stand, Tone};
 use std::alloc::{AllocError, Global};
@@ -33,7 +33,7 @@ impl Wording {
 /// The rows of a day as a picture has them, an entry for each in their order; those that aren't said have no label.
 pub(crate) fn entries_of(
     alloc: Global,
-    inherits: &Inherits<'_>,
+    titles: &Titles<'_, '_>,
     rows: &[Row],
     wording: &Wording,
 ) -> Result<Vec<Entry>, Fault>
@@ -42,7 +42,7 @@ pub(crate) fn entries_of(
     let mut entries = Vec::new(alloc);
     let mut own: usize = 0;
     for row in rows {
-        let entry = entry_of(alloc, inherits, row, wording, own)?;
+        let entry = entry_of(alloc, titles, row, wording, own)?;
         own = own.saturating_add(usize::from(entry.stand == Stand::Own));
         entries.push(entry)?;
     }
@@ -52,7 +52,7 @@ pub(crate) fn entries_of(
 // The entry of a row after so many others that are of the day itself.
 fn entry_of(
     alloc: Global,
-    inherits: &Inherits<'_>,
+    titles: &Titles<'_, '_>,
     row: &Row,
     wording: &Wording,
     before: usize,
@@ -69,8 +69,8 @@ fn entry_of(
     }
     Ok(Entry {
         stand,
-        label: label_of(alloc, inherits, row, wording)?,
-        tone: tone_of(inherits, row),
+        label: label_of(alloc, titles, row, wording)?,
+        tone: tone_of(titles.inherits(), row),
     })
 }
 
@@ -105,12 +105,12 @@ fn is_done(inherits: &Inherits<'_>, row: &Row) -> bool {
 /// The time of a row or its sign, then its keyword, its priority and its title.
 pub(crate) fn label_of(
     alloc: Global,
-    inherits: &Inherits<'_>,
+    titles: &Titles<'_, '_>,
     row: &Row,
     wording: &Wording,
 ) -> Result<String, Fault> {
     let mut label = String::new(alloc);
-    let Some(heading) = Heading::find(inherits, row.file, row.heading) else {
+    let Some(heading) = Heading::find(titles.inherits(), row.file, row.heading) else {
         return Ok(label);
     };
     if wording.has_time {
@@ -125,7 +125,7 @@ pub(crate) fn label_of(
         push_shown(&mut label, priority)?;
         label.push_str("] ")?;
     }
-    let words = title_words(alloc, heading.title())?;
+    let words = titles.words(alloc, row.file, row.heading)?;
     push_shown(&mut label, words.as_slice())?;
     Ok(label)
 }

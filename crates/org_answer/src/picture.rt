@@ -10,6 +10,7 @@ use crate::view::{Chosen, agenda_over};
 use org_agenda::Agenda;
 use org_base::Fault;
 use org_cal::Day;
+use org_client::Titles;
 use org_inherit::Inherits;
 use org_look::{
     Entry, Grid, GridDay, Narrow, Plan, Sheet, Tone, Week, grid_lines, push_listed_day,
@@ -48,7 +49,8 @@ pub fn calendar_picture(
             most: (calendar.view == View::Month && grid.is_some()).then_some(calendar.lines),
         },
     };
-    let weeks = all_weeks(alloc, inherits, &agenda, &drawing)?;
+    let titles = Titles::new(alloc, inherits)?;
+    let weeks = all_weeks(alloc, &titles, &agenda, &drawing)?;
     let mut sheet = Sheet::new(alloc);
     drawing.push(alloc, &mut sheet, weeks.as_slice())?;
     let has_row = weeks.iter().any(has_row);
@@ -78,7 +80,7 @@ fn has_row(week: &WeekDays) -> bool {
 #[tactic(auto, using(crate::proofs::PictureLemmas::adds_one))]
 fn all_weeks(
     alloc: Global,
-    inherits: &Inherits<'_>,
+    titles: &Titles<'_, '_>,
     agenda: &Agenda,
     drawing: &Drawing<'_>,
 ) -> Result<Vec<WeekDays>, Fault>
@@ -86,7 +88,7 @@ fn all_weeks(
 {
     let mut weeks = Vec::new(alloc);
     for week in 0..agenda.count() / 7 {
-        weeks.push(week_of(alloc, inherits, agenda, drawing, 7 * week)?)?;
+        weeks.push(week_of(alloc, titles, agenda, drawing, 7 * week)?)?;
     }
     Ok(weeks)
 }
@@ -95,7 +97,7 @@ fn all_weeks(
 #[tactic(auto, using(crate::proofs::PictureLemmas::adds_one))]
 fn week_of(
     alloc: Global,
-    inherits: &Inherits<'_>,
+    titles: &Titles<'_, '_>,
     agenda: &Agenda,
     drawing: &Drawing<'_>,
     first: u32,
@@ -106,7 +108,7 @@ fn week_of(
     let (_, week) = agenda.day(first).iso_week();
     let mut days = Vec::new(alloc);
     for place in 0..7 {
-        let day = day_of(alloc, inherits, agenda, drawing, first + place)?;
+        let day = day_of(alloc, titles, agenda, drawing, first + place)?;
         days.push(day)?;
     }
     Ok(WeekDays {
@@ -118,7 +120,7 @@ fn week_of(
 // The day so many days after the first of an agenda.
 fn day_of(
     alloc: Global,
-    inherits: &Inherits<'_>,
+    titles: &Titles<'_, '_>,
     agenda: &Agenda,
     drawing: &Drawing<'_>,
     ahead: u32,
@@ -127,7 +129,7 @@ fn day_of(
     ensures value { GivesDay result agenda.now ahead }
 {
     let rows = agenda.rows(alloc, ahead)?;
-    let entries = entries_of(alloc, inherits, rows.as_slice(), &drawing.wording)?;
+    let entries = entries_of(alloc, titles, rows.as_slice(), &drawing.wording)?;
     Ok(drawing.day(alloc, agenda.day(ahead), entries)?)
 }
 

@@ -93,6 +93,9 @@ impl<'a> Members<'a> {
         ensures ok { Puts result self.old self.new (title_members self.old.only title.now) }
     {
         self.text("title", title)?;
+        if self.only.is_some() && !self.is_asked("words") {
+            return Ok(());
+        }
         let words = title_words(self.alloc, title)?;
         self.text("words", words.as_slice())
     }

@@ -8,7 +8,7 @@ use org_stamp::stamps_in;
 use std::alloc::{AllocError, Global};
 
 /// The words of a title without its active stamps, with one space between any two; a title that is nothing else whole.
-pub fn title_words(alloc: Global, title: &[u8]) -> Result<Vec<u8>, AllocError>
+pub(crate) fn title_words(alloc: Global, title: &[u8]) -> Result<Vec<u8>, AllocError>
     ensures value { GivesItems result (title_words title.now) }
 {
     let beside = beside_stamps(alloc, title)?;

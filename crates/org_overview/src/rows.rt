@@ -10,7 +10,7 @@ use crate::words::push_name;
 use org_agenda::{Row, RowKind};
 use org_base::{Fault, Texts};
 use org_cal::TimeOfDay;
-use org_client::{FileSet, ReadFile, title_words};
+use org_client::{FileSet, ReadFile, Titles};
 use org_inherit::{Heading, Inherits};
 use org_page::{Hours, LinkPlace, Row as PageRow, StampPlace, Stand};
 use org_store::Place;
@@ -21,11 +21,12 @@ use std::str;
 // What stands in place of a path where a text came from standard input.
 const STANDARD_INPUT: &str = "-";
 
-/// Files of which rows are shown, what their headings inherit, and the page that is asked for.
+/// Files of which rows are shown, what their headings inherit, the words of their titles, and the page that is asked for.
 #[derive(Drop)]
 pub(crate) struct Linked<'a, 'b, T: Text> {
     pub(crate) files: &'a FileSet<T>,
     pub(crate) scopes: &'a Inherits<'b>,
+    pub(crate) titles: &'a Titles<'a, 'b>,
     pub(crate) wish: &'a Wish<'a>,
 }
 
@@ -72,7 +73,7 @@ pub(crate) fn page_row<T: Text>(
     let place = seen.files.place(row.file, row.heading);
     let mut shown = bare_row(alloc, row, byte_of(place, row.stamp_at));
     put_place(alloc, &mut shown, seen, row.file, place)?;
-    put_heading(alloc, &mut shown, seen.scopes, row)?;
+    put_heading(alloc, &mut shown, seen.titles, row)?;
     Ok(shown)
 }
 
@@ -182,23 +183,25 @@ fn link_path<T: Text>(file: &ReadFile<T>) -> &str {
 fn put_heading(
     alloc: Global,
     shown: &mut PageRow,
-    inherits: &Inherits<'_>,
+    titles: &Titles<'_, '_>,
     row: &Row,
 ) -> Result<(), Fault>
     ensures same { OnOk result (shown_mark shown.new ≡ shown_mark shown.old) }
     ensures memory { IsOkUnless result memory_fault }
 {
-    let Some(heading) = Heading::find(inherits, row.file, row.heading) else {
+    let Some(heading) = Heading::find(titles.inherits(), row.file, row.heading) else {
         return Ok(());
     };
-    put_line(alloc, shown, &heading)?;
+    put_line(shown, &heading)?;
+    let words = titles.words(alloc, row.file, row.heading)?;
+    shown.words.push_str(text_of(words.as_slice()))?;
     let tags = heading.tags()?;
     put_tags(shown, &tags)?;
     Ok(())
 }
 
-// Puts what a heading's own line says.
-fn put_line(alloc: Global, shown: &mut PageRow, heading: &Heading<'_, '_>) -> Result<(), AllocError>
+// Puts the keyword and the priority of a heading.
+fn put_line(shown: &mut PageRow, heading: &Heading<'_, '_>) -> Result<(), AllocError>
     ensures same { OnOk result (shown_mark shown.new ≡ shown_mark shown.old) }
 {
     shown.is_done = heading.is_done();
@@ -208,8 +211,6 @@ fn put_line(alloc: Global, shown: &mut PageRow, heading: &Heading<'_, '_>) -> Re
     if let Some(priority) = heading.priority() {
         shown.priority.push_str(text_of(priority))?;
     }
-    let words = title_words(alloc, heading.title())?;
-    shown.words.push_str(text_of(words.as_slice()))?;
     Ok(())
 }
 
