@@ -1,6 +1,7 @@
 pub mod Ahead
 pub mod Asked
 pub mod Chosen
+pub mod Examples
 pub mod Ical
 pub mod Limits
 pub mod Painted

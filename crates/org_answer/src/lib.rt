@@ -22,6 +22,7 @@ mod expression;
 mod hours;
 mod ical;
 mod labels;
+pub mod laws;
 mod limits;
 mod names;
 mod once_words;
