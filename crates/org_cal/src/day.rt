@@ -1,12 +1,12 @@
 //! Days of the calendar.
-ghost use Rattle.std.specs.Prelude.{◌≡◌, ◌↔◌, ◌+◌, ◌%◌, ◌≤◌, ℕ, pos, ◌+ℤ◌, ◌≤ℤ◌, IfOk, IfErr, IsSome, IfSome};
+ghost use Rattle.std.specs.Prelude.{◌≡◌, ◌↔◌, ◌+◌, ◌%◌, ◌≤◌, ℕ, pos, ◌+ℤ◌, ◌≤ℤ◌, IfOk, IfErr, IsSome, IfSome, is_some};
 ghost use Rattle.std.specs.Prelude.{◌≢◌, Some, None};
 ghost use Rattle.jiff.specs.Words.{epoch_day, monday_zero, date_add};
 ghost use Rattle.org_cal.specs.Added.{IsAdded, HasDayAfter};
 ghost use Rattle.org_cal.specs.Days.{IsDay, IsYearMonthDay, day_number, IsDayOf};
 ghost use Rattle.org_cal.specs.Faults.{date_fault};
 ghost use Rattle.org_cal.specs.Parts.{month_day_of, month_of, weekday_of, year_of};
-ghost use Rattle.org_cal.specs.Texts.{date_of, day_of};
+ghost use Rattle.org_cal.specs.Texts.{date_of, day_of, is_year_month_day};
 ghost use Rattle.org_cal.specs.Weeks.{iso_week, iso_year, monday_of};
 ghost use Rattle.org_cal.specs.declared.day.TheConstants.{LAST_DAY, UNIX_EPOCH};
 ghost use Rattle.org_cal.specs.declared.unit.Unit.TheVariants.{Hour, Day as DayUnit, Week, Month, Year};
@@ -84,6 +84,25 @@ impl Day {
                 Day::of_parts(year, two_digits(*e, *f)?, two_digits(*g, *h)?)
             }
             _ => None,
+        }
+    }
+
+    /// Whether the text spells a day, `YYYY-MM-DD`. Which one it is isn't worked out.
+    pub fn is_text(text: &[u8]) -> bool
+        ensures value { result ≡ is_some (date_of text.now) }
+    {
+        match text {
+            [a, b, c, d, b'-', e, f, b'-', g, h] => {
+                match (
+                    four_digits(*a, *b, *c, *d),
+                    two_digits(*e, *f),
+                    two_digits(*g, *h),
+                ) {
+                    (Some(year), Some(month), Some(day)) => is_year_month_day(year, month, day),
+                    _ => false,
+                }
+            }
+            _ => false,
         }
     }
 
@@ -256,4 +275,16 @@ impl Day {
             number: number as u32,
         })
     }
+}
+
+// Whether the calendar has this day of the years 1 to 9999.
+fn is_year_month_day(year: u16, month: u8, day: u8) -> bool
+    ensures value { result ≡ is_year_month_day year month day }
+{
+    1 <= year
+        && year <= 9999
+        && 1 <= month
+        && month <= 12
+        && 1 <= day
+        && day <= civil::days_in_month(year as i16, month)
 }

@@ -19,7 +19,7 @@ pub step : (b : ℕ) (bs : List ℕ) (at : ℕ) → pairs_from (b ∷ bs) at 0 �
 unfolding pairs_from
 step b bs at = refl
 
-none_of : (at : ℕ) → pairs_from [] at 0 ≡ []
+pub none_of : (at : ℕ) → pairs_from [] at 0 ≡ []
 unfolding pairs_from
 none_of at = refl
 

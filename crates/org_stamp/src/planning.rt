@@ -5,7 +5,7 @@ ghost use Rattle.org_base.specs.Words.{is_space};
 ghost use Rattle.org_stamp.specs.Pair.{EndsBehind, EndsFrom, IsFirstPair, clock_stamp, is_clock, is_planning, pair_at, pair_of, word_at};
 
 use crate::pair::{Pair, PlanningKeyword};
-use crate::read::{ranged_len, single_of, stamp_of};
+use crate::read::{begins_inactive, begins_single, ranged_len, single_of, stamp_of};
 use crate::stamp::Stamp;
 use crate::word::leading_spaces;
 
@@ -95,7 +95,13 @@ pub fn clock_stamp(line: &[u8]) -> Option<Stamp>
 pub fn is_planning(line: &[u8]) -> bool
     ensures value { result ≡ is_planning line.now }
 {
-    next_pair(line, 0).is_some()
+    let (_, bytes) = past_spaces(line);
+    let Some((_, len)) = planning_word(bytes) else {
+        return false;
+    };
+    let (_, behind) = bytes.split_at(len);
+    let (_, rest) = past_spaces(behind);
+    begins_single(rest)
 }
 
 /// Whether the line is a clock line. The second stamp of a range doesn't decide it, and isn't read.
@@ -108,8 +114,5 @@ pub fn is_clock(line: &[u8]) -> bool
         return false;
     }
     let (_, rest) = past_spaces(&text[6..]);
-    match single_of(rest) {
-        Some((stamp, _)) => !stamp.active,
-        None => false,
-    }
+    begins_inactive(rest)
 }

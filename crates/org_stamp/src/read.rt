@@ -1,11 +1,12 @@
 //! A stamp at a place of a line.
-ghost use Rattle.std.specs.Prelude.{◌≡◌, ◌+◌, ◌-◌, ◌≤◌, ◌<◌, ◌^◌, length, take, drop, position, Some, IfSome};
+ghost use Rattle.std.specs.Prelude.{◌≡◌, ◌+◌, ◌-◌, ◌≤◌, ◌<◌, ◌^◌, length, take, drop, position, Some, IfSome, is_some};
 ghost use Rattle.std.specs.List.{position_or_len};
 ghost use Rattle.org_stamp.specs.Read.{IsOnlySingle, NoneIsLonger, closed, ranged, ranged_len, single_of, stamp_of};
 ghost use Rattle.org_stamp.specs.CanPrint.{CanPrint};
+ghost use Rattle.org_stamp.specs.Seen.{begins_inactive, begins_single};
 ghost use Rattle.org_stamp.specs.Stamp.{IsSingle, IsStamp, is_close, with_last};
 
-use crate::inner::inner_of;
+use crate::inner::{inner_of, is_inner};
 use crate::stamp::Stamp;
 use memchr::memchr2;
 
@@ -90,6 +91,43 @@ pub(crate) fn single_of(bytes: &[u8]) -> Option<(Stamp, usize)>
         [b'<' | b'[', ..] => single_before(bytes, first_close(bytes)),
         _ => None,
     }
+}
+
+// Whether a stamp of one day stands at the front. What it says isn't worked out where it has printed form.
+#[tactic(auto, unfolding(crate::specs::Read::single_of))]
+pub(crate) fn begins_single(bytes: &[u8]) -> bool
+    ensures value { result ≡ begins_single bytes.now }
+{
+    match bytes {
+        [b'<', rest @ ..] => is_closed(true, rest, first_close(rest)),
+        [b'[', rest @ ..] => is_closed(false, rest, first_close(rest)),
+        _ => false,
+    }
+}
+
+// Whether an inactive stamp of one day stands at the front.
+#[tactic(auto, using(crate::proofs::SeenLemmas::inactive_front, crate::proofs::SeenLemmas::other_front, crate::proofs::SeenLemmas::no_front))]
+pub(crate) fn begins_inactive(bytes: &[u8]) -> bool
+    ensures value { result ≡ begins_inactive bytes.now }
+{
+    let Some((first, rest)) = bytes.split_first() else {
+        return false;
+    };
+    *first == b'[' && is_closed(false, rest, first_close(rest))
+}
+
+// Whether a stamp stands before the first closing bracket, which is at that place.
+fn is_closed(active: bool, bytes: &[u8], close: usize) -> bool
+    requires close { close ≡ position_or_len is_close bytes.now }
+    ensures value { result ≡ is_some (closed active bytes.now (position is_close bytes.now)) }
+{
+    let Some(bracket) = bytes.get(close) else {
+        return false;
+    };
+    if *bracket != if active { b'>' } else { b']' } {
+        return false;
+    }
+    is_inner(active, &bytes[..close])
 }
 
 // The longest stamp at the front, and its length, where the first closing bracket is known.
