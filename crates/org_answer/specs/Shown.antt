@@ -1,5 +1,5 @@
 -- How lines are printed (profile): colours as terminals have them (ECMA-48, "SGR").
-use Rattle.std.specs.Prelude.{◌≡◌, ℕ, Bool, true, false, if◌then◌else◌, List, [], ◌∷◌, ◌++◌, codes, decimal, length, ◌==◌, ◌⊎◌, Result, OnOk, Vec}
+use Rattle.std.specs.Prelude.{◌≡◌, ℕ, Bool, true, false, not, ◌&&◌, if◌then◌else◌, Option, is_none, List, [], ◌∷◌, ◌++◌, codes, decimal, length, ◌==◌, ◌⊎◌, Result, OnOk, Vec}
 use Rattle.org_agenda.specs.declared.row.RowKind.{RowKind}
 use Rattle.org_agenda.specs.declared.row.RowKind.TheVariants.{LateSchedule, LateDeadline, Warning}
 use Rattle.org_client.specs.Clean.{IsClean}
@@ -35,6 +35,14 @@ shown_text is_seen text = if is_seen then visible Caret text else text
 -- a line in a colour
 abbrev pub shown_line : List ℕ → Bool → List ℕ → List ℕ
 shown_line color is_seen text = color ++ shown_text is_seen text ++ (if length color == 0 then [] else 27 ∷ codes "[0m") ++ 10 ∷ []
+
+-- the text of a view is printed as it stands: without colours, into a pipe, and whole
+abbrev pub is_bare_form : Form → Bool → Bool → Option ℕ → Bool
+is_bare_form Plain colored seen limit = not colored && not seen && is_none limit
+is_bare_form _ colored seen limit = false
+
+abbrev pub is_bare : PrintOptions → Bool
+is_bare look = is_bare_form look.form look.is_colored look.is_seen look.limit
 
 -- no control character of a file may stand in what is printed in this form
 abbrev pub is_safe : Form → Bool → Bool

@@ -59,7 +59,7 @@ pub fn has_stamp(line: &Line) -> bool {
 
 /// The bytes of a view's text, line by line, as far as its lines are given.
 #[tactic(auto, using(crate::proofs::ShownLemmas::no_lines))]
-pub fn answer_bytes<T: Text>(
+pub(crate) fn lines_bytes<T: Text>(
     alloc: Global,
     files: &LoadReport<'_, '_, T>,
     view: &str,

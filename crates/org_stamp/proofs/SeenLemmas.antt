@@ -85,9 +85,9 @@ other_front b bytes rest e unlike = elim (cases_Bool (b == 91)) [
       other
       ∙ sym (ap begins_inactive e
       ∙ elim (cases_Bool (b == 60)) [
-          | inl opens ↦ rw opens (not_active true rest (closed true rest (position is_close rest)) refl)
-          | inr neither ↦ rw (neither, other) refl
-        ])
+        | inl opens ↦ rw opens (not_active true rest (closed true rest (position is_close rest)) refl)
+        | inr neither ↦ rw (neither, other) refl
+      ])
 ]
 
 pub no_front : (bytes : List ℕ) → length bytes ≡ 0 → begins_inactive bytes ≡ false
