@@ -1,3 +1,4 @@
+pub mod AlikeLemmas
 pub mod SumLemmas
 pub mod PutLemmas
 pub mod ReplaceLemmas

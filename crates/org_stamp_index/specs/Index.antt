@@ -1,5 +1,5 @@
 -- What the indexes of a file's stamps hold (profile).
-use Rattle.std.specs.Prelude.{◌≡◌, ◌<◌, ◌≤◌, ◌^◌, ℕ, ◌+◌, ◌-◌, Bool, min, nat_lt, not, if◌then◌else◌, List, [], ◌∷◌, ◌++◌, Some, Vec, length, replicate, slice_get, slice_set}
+use Rattle.std.specs.Prelude.{◌≡◌, ◌<◌, ◌≤◌, ◌^◌, ℕ, ◌+◌, ◌-◌, Bool, true, map, min, nat_lt, not, if◌then◌else◌, List, [], ◌∷◌, ◌++◌, Some, Vec, length, replicate, slice_get, slice_set}
 use Rattle.std.specs.List.{between, splice, sum_by}
 use Rattle.org_base.specs.declared.profile.Profile.{Profile}
 use Rattle.org_entry.specs.declared.entry.Entry.{Entry}
@@ -20,6 +20,18 @@ is_waiting s = not (is_reminding s)
 abbrev pub ids_of : Profile → (EntryStamp → Bool) → ℕ → List EntryStamp → List (ℕ × Reach)
 ids_of p wanted id [] = []
 ids_of p wanted id (s ∷ ss) = if wanted s then (id, reach_of p s.stamp) ∷ ids_of p wanted (id + 1) ss else ids_of p wanted (id + 1) ss
+
+-- what is kept of a stamp beside its id: whether it presses, and what decides to which days it may matter
+abbrev pub kept_of : Profile → EntryStamp → Bool × Reach
+kept_of p s = (is_reminding s, reach_of p s.stamp)
+
+-- of the stamps of two entries, read by these settings, the same is kept
+abbrev pub AreKeptAlike : Profile → FileSettings → Entry → Entry → Type 0
+AreKeptAlike p settings e d = map (kept_of p) (active_stamps settings e) ≡ map (kept_of p) (active_stamps settings d)
+
+-- it is where the answer is yes
+abbrev pub AreKeptAlikeIf : Profile → FileSettings → Entry → Entry → Bool → Type 0
+AreKeptAlikeIf p settings e d answer = answer ≡ true → AreKeptAlike p settings e d
 
 -- the same of entries, with the first id of each
 abbrev pub all_ids : Profile → (EntryStamp → Bool) → FileSettings → List ℕ → List Entry → List (ℕ × Reach)

@@ -4,9 +4,10 @@ ghost use Rattle.std.specs.List.Sorted.{IsStrictlySortedBy};
 ghost use Rattle.std.specs.Ordering.{nat_cmp};
 ghost use Rattle.org_base.specs.Codes.{memory_fault};
 ghost use Rattle.org_index.specs.Ticks.{Examines};
-ghost use Rattle.org_stamp_index.specs.Index.{AreFresh, HasPut, HasSet, HasTaken, HaveTaken, IsCopy, IsIndexOf, IsReplaced, PutsIds};
+ghost use Rattle.org_stamp_index.specs.Index.{AreFresh, AreKeptAlikeIf, HasPut, HasSet, HasTaken, HaveTaken, IsCopy, IsIndexOf, IsReplaced, PutsIds};
 ghost use Rattle.org_stamp_index.specs.Near.{CountsNearOf, HoldNearOf};
 
+use crate::alike::are_alike;
 use crate::heading_ids::{add_headings, renumber_headings, sort_once, splice_ids};
 use crate::near_query::{NearQuery, is_reminding};
 use org_base::{Code, Fault, Meter, Profile};
@@ -14,7 +15,7 @@ use org_entry::{Entry, EntryStamp, write_active};
 use org_index::DayIndex;
 use org_outline::Outline;
 use org_settings::Settings;
-use std::alloc::Global;
+use std::alloc::{AllocError, Global};
 use std::ops::Range;
 use std::rc::Rc;
 
@@ -92,6 +93,23 @@ impl StampIndex {
         let first = self.put_stamps(place, own.as_slice())?;
         self.first_id_of[place] = first;
         Ok(())
+    }
+
+    // Whether of the stamps of two entries the same is kept, wherever they stand: then one in the place of the other changes nothing.
+    pub(crate) fn keeps_alike(
+        &self,
+        alloc: Global,
+        entry: &Entry,
+        other: &Entry,
+    ) -> Result<bool, AllocError>
+        ensures alike { IfOk result (AreKeptAlikeIf self.now.profile self.now.settings.value entry.now other.now) }
+    {
+        let settings = self.settings.as_ref();
+        let mut stamps = Vec::new(alloc);
+        write_active(&mut stamps, settings, entry)?;
+        let mut others = Vec::new(alloc);
+        write_active(&mut others, settings, other)?;
+        Ok(are_alike(self.profile, stamps.as_slice(), others.as_slice()))
     }
 
     // Puts the stamps of the entries of an outline in the place of those of an earlier one, whose entries in a range were replaced:

@@ -84,7 +84,7 @@ impl IndexedOutline {
     }
 
     /// Puts an entry, which others may hold too, in the place of the one at a place. Where both have one level it costs what the
-    /// stamps of both cost, unless others share what is kept: then it is copied first. Out of memory is the only refusal, and
+    /// stamps of both cost; where what is kept of them differs and others share it, it is copied first. Out of memory is the only refusal, and
     /// leaves the entries as before.
     pub fn set(&mut self, alloc: Global, place: usize, entry: &Rc<Entry>) -> Result<(), Fault>
         requires { place < length self.old }
@@ -140,6 +140,10 @@ impl IndexedOutline {
     {
         if index.as_ref().needs_rebuild() {
             return None;
+        }
+        let before = self.outline.entry(place);
+        if index.as_ref().keeps_alike(alloc, before, entry).ok()? {
+            return Some(index);
         }
         let mut index = own_copy(index).ok()?;
         index.set(alloc, &self.outline, place, entry).ok()?;

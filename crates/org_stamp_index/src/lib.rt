@@ -4,7 +4,8 @@
 //!
 //! It keeps two indexes of its headings' stamps: of those that press, in the planning line of a heading without a done
 //! keyword, and of all others, which neither warn nor are late. An entry that is put in the place of another one takes
-//! the other's stamps out and puts its own in; nothing else is looked at. Contracts see entries and settings alone: no
+//! the other's stamps out and puts its own in, unless the same is kept of both; nothing else is
+//! looked at. Contracts see entries and settings alone: no
 //! answer depends on whether indexes are kept.
 //!
 //! Ids of stamps count up and are never given twice. One list leads from an id to the place of its heading, another
@@ -21,6 +22,7 @@
 //! Lines of `org_store/src/outline.rt`. Tests: `org_tests/src/examined.rt`.
 #![tactic(auto)]
 
+mod alike;
 mod heading_ids;
 mod index;
 mod indexed_outline;
