@@ -12,8 +12,8 @@ use Rattle.org_inherit.specs.Scope.{Scope}
 use Rattle.org_agenda.specs.Bound.{RowsAreOfNear, gives_row, is_some_row, kept_at, kept_from, kept_of}
 use Rattle.org_agenda.specs.Days.{source_rows}
 use Rattle.org_agenda.specs.Near.{IsSound, is_near}
-use Rattle.org_agenda.specs.Sources.{entry_sources, owner_of, sources_at, sources_of}
-use Rattle.org_agenda.proofs.SourcesWords.{head_sources, sources_from}
+use Rattle.org_agenda.specs.Sources.{entry_sources, owner_of, sources_of}
+use Rattle.org_agenda.proofs.SourcesWords.{head_sources, sources_at, sources_from}
 use Rattle.org_agenda.specs.declared.source.HeadingStamp.{HeadingStamp}
 use Rattle.org_agenda.proofs.ListLemmas.{filter_append}
 use Rattle.org_agenda.proofs.NearRowLemmas.{rows_are_near}

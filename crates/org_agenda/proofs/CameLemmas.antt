@@ -15,8 +15,8 @@ use Rattle.org_settings.specs.Settings.{FileSettings}
 use Rattle.org_agenda.specs.Came.{Ascend, AreReadOf, IsEarlier, IsNoLater, ListsAscend, SourcesAscend}
 use Rattle.org_agenda.specs.Lists.{Listing, Ranked, file_rows, is_listed}
 use Rattle.org_agenda.proofs.ListsWords.{head_rows, ranked_row, rows_from}
-use Rattle.org_agenda.specs.Sources.{entry_sources, owner_of, sources_at, sources_of, under}
-use Rattle.org_agenda.proofs.SourcesWords.{head_sources, sources_from}
+use Rattle.org_agenda.specs.Sources.{entry_sources, owner_of, sources_of, under}
+use Rattle.org_agenda.proofs.SourcesWords.{head_sources, sources_at, sources_from}
 use Rattle.org_agenda.specs.declared.source.HeadingRef.{HeadingRef}
 use Rattle.org_agenda.specs.declared.source.HeadingStamp.{HeadingStamp}
 
@@ -161,18 +161,18 @@ module _ (listing : Listing) where
     rows_of_file : AllByRecursion (IsRowIn file) (rows_from listing scope file 0 scope.entries)
     rows_of_file = weaker (IsRowFrom file 0) (IsRowIn file) (λ r is. is.0) (rows_from listing scope file 0 scope.entries) (rows_in 0 scope.entries)
 
-  all_from : (k : ℕ) (ss : List Scope) → AllByRecursion (IsRowFromFile k) (file_rows listing None k ss)
+  all_from : (k : ℕ) (ss : List Scope) → AllByRecursion (IsRowFromFile k) (file_rows listing k ss)
   all_from k [] = tt
   all_from k (s ∷ ss) =
-      all_joined (IsRowFromFile k) (rows_from listing s k 0 s.entries) (file_rows listing None (k + 1) ss)
+      all_joined (IsRowFromFile k) (rows_from listing s k 0 s.entries) (file_rows listing (k + 1) ss)
       (weaker (IsRowIn k) (IsRowFromFile k) (λ r is. omega (arith, is)) (rows_from listing s k 0 s.entries) (rows_of_file s k))
-      (weaker (IsRowFromFile (k + 1)) (IsRowFromFile k) (λ r is. omega (arith, is)) (file_rows listing None (k + 1) ss) (all_from (k + 1) ss))
+      (weaker (IsRowFromFile (k + 1)) (IsRowFromFile k) (λ r is. omega (arith, is)) (file_rows listing (k + 1) ss) (all_from (k + 1) ss))
 
-  all_ascend : (k : ℕ) (ss : List Scope) → Ascend IsEarlier (file_rows listing None k ss)
+  all_ascend : (k : ℕ) (ss : List Scope) → Ascend IsEarlier (file_rows listing k ss)
   all_ascend k [] = tt
   all_ascend k (s ∷ ss) =
       joined IsEarlier (IsRowIn k) (IsRowFromFile (k + 1)) (λ x y a b. inl (omega (arith, a, b)))
-      (rows_from listing s k 0 s.entries) (file_rows listing None (k + 1) ss) (rows_ascend s k 0 s.entries) (rows_of_file s k) (all_ascend (k + 1) ss) (all_from (k + 1) ss)
+      (rows_from listing s k 0 s.entries) (file_rows listing (k + 1) ss) (rows_ascend s k 0 s.entries) (rows_of_file s k) (all_ascend (k + 1) ss) (all_from (k + 1) ss)
 
 pub lists_ascend : ListsAscend
 lists_ascend listing scopes = all_ascend listing 0 scopes

@@ -11,8 +11,8 @@ use Rattle.org_head.specs.declared.head.Head.{Head}
 use Rattle.org_inherit.specs.Hidden.{is_hidden}
 use Rattle.org_inherit.specs.Scope.{Scope}
 use Rattle.org_agenda.specs.Kept.{HiddenGiveNoStamps, HiddenStandNowhere, IsInSight}
-use Rattle.org_agenda.specs.Lists.{Listing, Ranked, file_rows, is_listed, is_over, list_rows}
-use Rattle.org_agenda.proofs.ListsWords.{head_rows, over_rows, ranked_row, rows_from}
+use Rattle.org_agenda.specs.Lists.{Listing, Ranked, file_rows, is_listed, list_rows}
+use Rattle.org_agenda.proofs.ListsWords.{head_rows, ranked_row, rows_from}
 use Rattle.org_agenda.specs.Order.{by_key}
 use Rattle.org_agenda.specs.Sources.{entry_sources, file_sources, owner_of, sources_of, under}
 use Rattle.org_agenda.proofs.SourcesWords.{head_sources, sources_from}
@@ -59,28 +59,22 @@ module _ (listing : Listing) (scope : Scope) (file : ℕ) where
   rows_shown i [] = All-nil OfFile
   rows_shown i (e ∷ es) = All-append OfFile (head_rows listing scope file i e e.head) (rows_from listing scope file (i + 1) es) (head_shown i e e.head) (rows_shown (i + 1) es)
 
-  over_shown : (over : Option ℕ) → All OfFile (over_rows listing over scope file)
-  over_shown over = elim (cases_Bool (is_over over file)) [
-    | inl yes' ↦ rw yes' (rows_shown 0 scope.entries)
-    | inr no' ↦ rw no' (All-nil OfFile)
-  ]
-
 abbrev RowInSight : List Scope → Ranked → Type 0
 RowInSight all r = IsInSight all r.row.file r.row.heading
 
-files_shown : (listing : Listing) (over : Option ℕ) (all : List Scope) (file : ℕ) (scopes : List Scope) → AreFrom all file scopes → All (RowInSight all) (file_rows listing over file scopes)
-files_shown listing over all file [] are = All-nil (RowInSight all)
-files_shown listing over all file (scope ∷ scopes) are =
-    All-append (RowInSight all) (over_rows listing over scope file) (file_rows listing over (file + 1) scopes)
-    (All-weaker (OfFile listing scope file) (RowInSight all) (λ r is. in_sight all file r.row.file r.row.heading scope scopes are is) (over_rows listing over scope file) (over_shown listing scope file over))
-    (files_shown listing over all (file + 1) scopes (from_next all file scope scopes are))
+files_shown : (listing : Listing) (all : List Scope) (file : ℕ) (scopes : List Scope) → AreFrom all file scopes → All (RowInSight all) (file_rows listing file scopes)
+files_shown listing all file [] are = All-nil (RowInSight all)
+files_shown listing all file (scope ∷ scopes) are =
+    All-append (RowInSight all) (rows_from listing scope file 0 scope.entries) (file_rows listing (file + 1) scopes)
+    (All-weaker (OfFile listing scope file) (RowInSight all) (λ r is. in_sight all file r.row.file r.row.heading scope scopes are is) (rows_from listing scope file 0 scope.entries) (rows_shown listing scope file 0 scope.entries))
+    (files_shown listing all (file + 1) scopes (from_next all file scope scopes are))
 
 pub stand_nowhere : HiddenStandNowhere
 unfolding list_rows
-stand_nowhere listing over scopes =
-    let came : List Ranked = file_rows listing over 0 scopes in
+stand_nowhere listing scopes =
+    let came : List Ranked = file_rows listing 0 scopes in
     All-map (λ (row : Row). IsInSight scopes row.file row.heading) (λ (r : Ranked). r.row) (by_key (λ (r : Ranked). r.priority) PRIORITIES came)
-    (all_by (RowInSight scopes) (λ (r : Ranked). r.priority) PRIORITIES came (files_shown listing over scopes 0 scopes (λ k. ap (slice_get scopes) (omega arith))))
+    (all_by (RowInSight scopes) (λ (r : Ranked). r.priority) PRIORITIES came (files_shown listing scopes 0 scopes (λ k. ap (slice_get scopes) (omega arith))))
 
 -- stamps of agendas
 abbrev IsOwn : HeadingRef → HeadingStamp → Type 0

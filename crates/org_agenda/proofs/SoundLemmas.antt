@@ -40,8 +40,8 @@ use Rattle.org_stamp.proofs.ReadLemmas.{single_found}
 use Rattle.org_stamp.proofs.SpelledLemmas.{inner_is_spelled}
 pub use Rattle.org_agenda.specs.Came.{AreReadOf}
 use Rattle.org_agenda.specs.Near.{IsSound, ReadStampsAreSound}
-use Rattle.org_agenda.specs.Sources.{entry_sources, file_sources, owner_of, sources_at, sources_of, under}
-use Rattle.org_agenda.proofs.SourcesWords.{head_sources, sources_from}
+use Rattle.org_agenda.specs.Sources.{entry_sources, file_sources, owner_of, sources_of, under}
+use Rattle.org_agenda.proofs.SourcesWords.{head_sources, sources_at, sources_from}
 use Rattle.org_agenda.specs.declared.source.HeadingRef.{HeadingRef}
 use Rattle.org_entry.specs.declared.active.Role.{Role}
 use Rattle.org_entry.specs.declared.active.Role.TheVariants.{Plain, Scheduled, Deadline}

@@ -1,5 +1,5 @@
 -- In which order rows come before they are arranged: by file, heading and place (profile).
-use Rattle.std.specs.Prelude.{◌≡◌, ◌⊎◌, ◌<◌, ◌≤◌, ℕ, List, [], ◌∷◌, map, None}
+use Rattle.std.specs.Prelude.{◌≡◌, ◌⊎◌, ◌<◌, ◌≤◌, ℕ, List, [], ◌∷◌, map}
 use Rattle.std.specs.List.{AllByRecursion}
 use Rattle.org_entry.specs.Entry.{entry_of}
 use Rattle.org_inherit.specs.Scope.{Scope}
@@ -33,4 +33,4 @@ SourcesAscend = (scopes : List Scope) → AreReadOf scopes → Ascend IsNoLater 
 
 -- the rows of a list come by file and heading, each heading once
 abbrev pub ListsAscend : Type 0
-ListsAscend = (listing : Listing) (scopes : List Scope) → Ascend IsEarlier (file_rows listing None 0 scopes)
+ListsAscend = (listing : Listing) (scopes : List Scope) → Ascend IsEarlier (file_rows listing 0 scopes)

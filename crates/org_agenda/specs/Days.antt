@@ -79,7 +79,7 @@ range_numbers s range begins day = option_map_or (λ last. (day - begins + 1, la
 -- the two numbers in the label of a kind. A range has day and number of days, a late row the days since the stamp's own
 -- day, a warning the days to the one of which it warns; all others have 0
 abbrev pub numbers : Profile → RowKind → Stamp → ℕ → ℕ × ℕ
-numbers p InRange s day = range_numbers s s.last (shown_from p s day) day
+numbers p InRange s day = option_map_or (λ last. (day - shown_from p s day + 1, last.0 - s.day + 1)) s.last (0, 0)
 numbers p LateSchedule s day = (day - s.day, 0)
 numbers p Warning s day = (due_day p s day - day, 0)
 numbers p LateDeadline s day = (day - s.day, 0)

@@ -1,5 +1,5 @@
 -- Worked examples: what the definitions say of inputs at which a wrong rule says something else.
-use Rattle.std.specs.Prelude.{◌≡◌, ℕ, true, List, [], ◌∷◌, None, Some, codes, map}
+use Rattle.std.specs.Prelude.{◌≡◌, ℕ, true, List, [], ◌∷◌, None, codes, map}
 use Rattle.std.specs.Option.{option_map}
 use Rattle.org_agenda.specs.Days.{day_rows}
 use Rattle.org_agenda.specs.Lists.{list_rows, Listing, Matching, Named, Open, row_at}
@@ -53,13 +53,11 @@ on_day day = record {
   stamp = record { active = true; day = day; time = None; end_time = None; repeater = None; delay = None; last = None };
 }
 
--- an open list shows a heading neither with a done keyword nor without one, a list of keywords shows those alone, and a
--- list over a file that file. Two equal stamps give two rows. Rows of one priority stand in the order of files, and a heading
--- has the tags of those above it (Org manual 9.6, "The Global TODO List"; "Tag Inheritance"; profile)
+-- an open list shows a heading neither with a done keyword nor without one, and a list of keywords shows those alone. Two equal
+-- stamps give two rows. Rows of one priority stand in the order of files, and a heading has the tags of those above it (Org manual 9.6, "The Global TODO List"; "Tag Inheritance"; profile)
 pub record ExamplesHold : Type 0 where
-  pub open_alone : list_rows Open None (file_of (codes "* DONE A\n* B\n* TODO C\n") ∷ []) ≡ row_at 0 2 ∷ []
-  pub named_alone : list_rows (Named (codes "DONE" ∷ [])) None (file_of (codes "* TODO A\n* DONE B\n") ∷ []) ≡ row_at 0 1 ∷ []
-  pub over_one_file : list_rows Open (Some 1) (file_of (codes "* TODO A\n") ∷ file_of (codes "* TODO B\n") ∷ []) ≡ row_at 1 0 ∷ []
-  pub files_in_order : list_rows Open None (file_of (codes "* TODO A\n") ∷ file_of (codes "* TODO B\n") ∷ []) ≡ row_at 0 0 ∷ row_at 1 0 ∷ []
+  pub open_alone : list_rows Open (file_of (codes "* DONE A\n* B\n* TODO C\n") ∷ []) ≡ row_at 0 2 ∷ []
+  pub named_alone : list_rows (Named (codes "DONE" ∷ [])) (file_of (codes "* TODO A\n* DONE B\n") ∷ []) ≡ row_at 0 1 ∷ []
+  pub files_in_order : list_rows Open (file_of (codes "* TODO A\n") ∷ file_of (codes "* TODO B\n") ∷ []) ≡ row_at 0 0 ∷ row_at 1 0 ∷ []
   pub equal_rows_stand_twice : map (λ row. row.kind) (day_rows One (on_day 100 ∷ on_day 100 ∷ []) 100 100) ≡ OnDay ∷ OnDay ∷ []
-  pub inherited : (moment : Moment) → list_rows (of_work moment) None (one_below ∷ []) ≡ row_at 0 0 ∷ row_at 0 1 ∷ []
+  pub inherited : (moment : Moment) → list_rows (of_work moment) (one_below ∷ []) ≡ row_at 0 0 ∷ row_at 0 1 ∷ []

@@ -20,7 +20,7 @@ ShowsList result scopes rows = Answers result (list_lines scopes rows) (map (row
 
 -- the list of all files
 abbrev pub ShowsListing : {E : Type 0} → Result Answer E → List Scope → Listing → Type 0
-ShowsListing result scopes listing = ShowsList result scopes (list_rows listing None scopes)
+ShowsListing result scopes listing = ShowsList result scopes (list_rows listing scopes)
 
 -- an agenda: a line for each day and each row
 abbrev pub ShowsAgenda : {E : Type 0} → Result Answer E → List Scope → AgendaView → Type 0

@@ -40,7 +40,7 @@ pub(crate) fn todo_list(
     requires read { AreRead inherits.now }
     ensures value { ShowsListing result inherits.now (todo_listing words.now) }
 {
-    let rows = todo_rows(alloc, inherits, None, words)?;
+    let rows = todo_rows(alloc, inherits, words)?;
     list_answer(alloc, inherits, rows.as_slice())
 }
 
@@ -54,7 +54,7 @@ pub fn match_list(
     requires read { AreRead inherits.now }
     ensures value { ShowsListing result inherits.now (Matching expression.now moment) }
 {
-    let rows = match_rows(alloc, inherits, None, expression, moment)?;
+    let rows = match_rows(alloc, inherits, expression, moment)?;
     list_answer(alloc, inherits, rows.as_slice())
 }
 

@@ -60,7 +60,10 @@ matching_of expr moment scope = record { entries = scope.entries; counted = hold
 
 -- a file with the headings that count: without an expression all, else those of which it holds
 abbrev pub counted_of : Option Expr → Moment → Scope → Counted
-counted_of expression moment scope = option_map_or (λ expr. matching_of expr moment scope) expression (whole_of scope)
+counted_of expression moment scope = record {
+  entries = scope.entries;
+  counted = option_map_or (λ expr. holds_of expr moment scope) expression (replicate (length scope.entries) true);
+}
 
 -- files with the headings that count
 abbrev pub counted_files : Option (Bor Expr) → Moment → List Scope → List Counted
@@ -68,7 +71,7 @@ counted_files expression moment scopes = map (counted_of (option_copied expressi
 
 -- what the headings of a file that count have of a measure, in sum
 abbrev pub file_sum : (Entry → ℕ) → Counted → ℕ
-file_sum f file = whole_sum f file.entries file.counted
+file_sum f file = sum_below (own_at f file.entries file.counted) (length file.entries)
 
 -- what a heading and all below it that count have of a measure, in sum
 abbrev pub heading_sum : (Entry → ℕ) → Counted → ℕ → ℕ

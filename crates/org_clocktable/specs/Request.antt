@@ -34,7 +34,7 @@ as_text bytes = if is_utf8 bytes then Some bytes else None
 -- the expression from a place of the text on, if one is written; refused where it is no UTF-8, which doesn't occur in a text that
 -- is
 abbrev pub expression_from : List ℕ → Option ℕ → Option (Option (List ℕ))
-expression_from text at = option_map_or (λ bytes. option_map Some (as_text bytes)) (option_map (λ i. drop i text) at) (Some None)
+expression_from text at = option_map_or (λ bytes. option_map Some (if is_utf8 bytes then Some bytes else None)) (option_map (λ i. drop i text) at) (Some None)
 
 -- what options ask for, with their expression, the days of their block and their level
 abbrev pub asked_in : List ℕ → Draft → Option (List ℕ) → ℕ × ℕ → ℕ → TableRequest (List ℕ)

@@ -27,7 +27,7 @@ rows_at days most file counted i = level_rows most file i (heading_sum (clock_mi
 -- the rows of all headings of a file
 abbrev pub heading_rows : ℕ × ℕ → ℕ → ℕ → Counted → List TableRow
 heading_rows days most file counted =
-    found_from (λ i e. entry_rows most file i (heading_sum (clock_minutes days) counted i) (heading_sum effort_minutes counted i) e) 0 counted.entries
+    found_from (λ i e. level_rows most file i (heading_sum (clock_minutes days) counted i) (heading_sum effort_minutes counted i) (level_of e)) 0 counted.entries
 
 -- the rows of a file, if it has clocks in the days: its own, and those of its headings
 abbrev pub file_rows : ℕ × ℕ → ℕ → ℕ → Counted → List TableRow
@@ -49,8 +49,8 @@ line_at days most file i = rows_at days most file.place file.counted.now i
 
 -- the rows of files, of which the first stands at a place
 abbrev pub files_rows : ℕ × ℕ → ℕ → ℕ → List Counted → List TableRow
-files_rows days most file files = found_from (λ k counted. file_rows days most k counted) file files
+files_rows days most file files = found_from (file_rows days most) file files
 
 -- the rows of the days from a first to a last: the total, then files and headings in their order
 unfoldable pub step_rows : ℕ × ℕ → ℕ → List Counted → List TableRow
-step_rows days most files = record { of = All; clock = total (clock_minutes days) files; effort = total effort_minutes files } ∷ files_rows days most 0 files
+step_rows days most files = record { of = All; clock = total (clock_minutes days) files; effort = total effort_minutes files } ∷ found_from (file_rows days most) 0 files

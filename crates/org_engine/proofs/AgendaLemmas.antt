@@ -1,5 +1,5 @@
 -- What an agenda over the files of a world shows.
-use Rattle.std.proofs.Common.{◌≡◌, ◌∙◌, ℕ, zero, suc, ◌+◌, ◌-◌, ◌<◌, ◌≤◌, List, ◌++◌, arith, map, refl, ap, ap₂}
+use Rattle.std.proofs.Common.{◌≡◌, ◌∙◌, ℕ, zero, suc, ◌+◌, ◌-◌, ◌<◌, ◌≤◌, List, ◌++◌, arith, false, map, refl, ap, ap₂}
 use Rattle.std.specs.Prelude.{Option, None, Some}
 use Rattle.std.proofs.lemmas.Bool.{lt-leb, le-leb}
 use Rattle.std.specs.List.{concat, flat_map, range_with_len}
@@ -25,6 +25,7 @@ use Rattle.org_engine.specs.Places.{agenda_in, days_shown, in_form, line_places}
 use Rattle.org_engine.specs.declared.question.Form.{Form}
 use Rattle.org_engine.specs.declared.question.Form.TheVariants.{Places, Text}
 use Rattle.org_engine.proofs.ListLemmas.{all_files, all_named}
+use Rattle.org_engine.proofs.RenderLemmas.{agenda_is}
 use Rattle.org_cal.specs.declared.moment.Moment.{Moment}
 use Rattle.org_engine.specs.World.{WorldView}
 
@@ -64,6 +65,7 @@ pub days_are : (form : Form) (first count : ℕ) (world : WorldView) (p : Profil
 days_are Text first count world p moment same is =
     ap (λ scopes. days_over p scopes moment.day first count) (all_named (scopes_of world))
     ∙ (λ i. days_over (same i) (scopes_of world) (is i).day first count)
+    ∙ agenda_is false (scopes_of world) _
 days_are Places first count world p moment same is =
     ap₂ (λ files scopes. line_places files (days_shown p scopes moment.day first count)) (all_files world.files) (all_named (scopes_of world))
     ∙ (λ i. line_places world.files (days_shown (same i) (scopes_of world) (is i).day first count))

@@ -1,18 +1,20 @@
 -- What a list over the files of a world shows.
-use Rattle.std.proofs.Common.{◌≡◌, ◌≢◌, ◌∙◌, ◌+◌, ℕ, List, [], ◌∷◌, Bool, Bor, ap, ap₂, inl, inr, refl, sym}
+use Rattle.std.proofs.Common.{◌≡◌, ◌≢◌, ◌∙◌, ◌+◌, ℕ, List, [], ◌∷◌, Bool, Bor, ap, inl, inr, refl, sym}
 use Rattle.org_agenda.specs.Lists.{Listing, Matching, list_rows, todo_listing}
 use Rattle.org_base.specs.Codes.{memory_fault}
 use Rattle.org_base.specs.declared.fault.Fault.{Fault}
 use Rattle.org_inherit.specs.Scope.{Scope}
+use Rattle.org_store.specs.Outline.{scope_of}
+use Rattle.std.proofs.lemmas.Bool.{cases_Bool}
 use Rattle.org_layout.specs.Lines.{list_lines}
-use Rattle.org_engine.specs.Places.{files_named, in_form, line_places, list_in, list_shown}
-use Rattle.org_engine.specs.Places.{list_places}
+use Rattle.org_engine.specs.PlaceLaws.{list_shown}
+use Rattle.org_engine.specs.Places.{in_form, line_places, list_in}
 use Rattle.org_engine.specs.declared.question.Form.{Form}
 use Rattle.org_engine.specs.declared.question.Form.TheVariants.{Places, Text}
 use Rattle.org_match.specs.Patterns.{regexp_fault}
 use Rattle.org_match.specs.Refusal.{AreReadable, IsRefusal, patterns}
 use Rattle.org_match.proofs.Refusable.{readable_or_refused}
-use Rattle.std.specs.Prelude.{None, Option, Result, Ok, Err, IfErr, IfOk, Some, bytes_eq, chars, cond, false, is_some, not, true}
+use Rattle.std.specs.Prelude.{None, Option, Result, Ok, Err, IfErr, IfOk, Some, bytes_eq, chars, cond, false, is_some, map, not, true}
 use Rattle.org_engine.specs.Outlines.{scopes_of}
 use Rattle.std.specs.Option.{option_copied, option_map}
 use Rattle.std.specs.Str.{IsUtf8}
@@ -20,12 +22,12 @@ use Rattle.org_cal.specs.declared.moment.Moment.{Moment}
 use Rattle.org_base.specs.declared.code.Code.TheVariants as code
 use Rattle.org_base.specs.declared.fault.Fault.TheVariants.{Plain}
 use Rattle.org_expression.specs.Grammar.{Expr, Reads}
-use Rattle.org_engine.specs.Questions.{IsMissingFault, IsPlaceOver, IsUnread, TellsOf}
+use Rattle.org_engine.specs.Questions.{IsMissingFault, IsUnread, TellsOf}
 use Rattle.org_engine.proofs.QuestionsWords.{IsReadAs}
+use Rattle.org_engine.proofs.RenderLemmas.{list_is}
 use Rattle.org_engine.specs.Step.{MatchList, Refused, Reply, Shown, TodoList, file_named, is_missing, over_file, place_named, render_view}
 use Rattle.org_engine.specs.declared.question.View.TheVariants.{Match, Todo}
-use Rattle.org_engine.specs.Views.{scopes_named}
-use Rattle.org_engine.specs.Views.{list_view}
+use Rattle.org_engine.specs.Views.{files_named, is_wanted, scopes_named, world_over}
 use Rattle.org_engine.specs.World.{FileView, WorldView}
 
 -- a refusal that doesn't stand for memory
@@ -43,16 +45,27 @@ pub all_files : (files : List FileView) → files_named None files ≡ files
 all_files [] = refl
 all_files (file ∷ files) = ap (λ xs. file ∷ xs) (all_files files)
 
-pub list_are : (form : Form) (listing : Listing) (over : Option ℕ) (world : WorldView) →
-    in_form form None (λ scopes. list_lines scopes (list_rows listing over scopes)) (λ scopes. list_shown listing over scopes) world ≡ list_in form listing over world
-unfolding list_view list_places
-list_are Text listing over world = ap (λ scopes. list_lines scopes (list_rows listing over scopes)) (all_named (scopes_of world))
-list_are Places listing over world = ap₂ (λ files scopes. line_places files (list_shown listing over scopes)) (all_files world.files) (all_named (scopes_of world))
+-- what inheritance looks at in the files that a view is over
+named_there : (file : Option (List ℕ)) (inherited : List (List ℕ)) (files : List FileView) →
+    scopes_named file (map (λ (f : FileView). scope_of inherited f.name f.text) files) ≡ map (λ (f : FileView). scope_of inherited f.name f.text) (files_named file files)
+named_there file inherited [] = refl
+named_there file inherited (f ∷ fs) = elim (cases_Bool (is_wanted file f.name)) [
+  | inl yes' ↦ rw yes' (ap (λ ss. scope_of inherited f.name f.text ∷ ss) (named_there file inherited fs))
+  | inr no' ↦ rw no' (named_there file inherited fs)
+]
+
+pub scopes_there : (file : Option (List ℕ)) (world : WorldView) → scopes_named file (scopes_of world) ≡ scopes_of (world_over file world)
+scopes_there file world = named_there file world.inherited world.files
+
+pub list_are : (form : Form) (listing : Listing) (file : Option (List ℕ)) (world : WorldView) →
+    in_form form file (λ scopes. list_lines scopes (list_rows listing scopes)) (λ scopes. list_shown listing scopes) world ≡ list_in form listing (world_over file world)
+list_are Text listing file world = ap (λ scopes. list_lines scopes (list_rows listing scopes)) (scopes_there file world) ∙ list_is false (scopes_of (world_over file world)) _
+list_are Places listing file world = ap (λ scopes. line_places (files_named file world.files) (list_shown listing scopes)) (scopes_there file world)
 
 -- the same of a match list, at the moment of the world
-pub matching_are : (form : Form) (expr : Expr) (moment : Moment) (over : Option ℕ) (world : WorldView) → moment ≡ world.moment →
-    in_form form None (λ scopes. list_lines scopes (list_rows (Matching expr moment) over scopes)) (λ scopes. list_shown (Matching expr moment) over scopes) world ≡ list_in form (Matching expr world.moment) over world
-matching_are form expr moment over world is = list_are form (Matching expr moment) over world ∙ ap (λ m. list_in form (Matching expr m) over world) is
+pub matching_are : (form : Form) (expr : Expr) (moment : Moment) (file : Option (List ℕ)) (world : WorldView) → moment ≡ world.moment →
+    in_form form file (λ scopes. list_lines scopes (list_rows (Matching expr moment) scopes)) (λ scopes. list_shown (Matching expr moment) scopes) world ≡ list_in form (Matching expr world.moment) (world_over file world)
+matching_are form expr moment file world is = list_are form (Matching expr moment) file world ∙ ap (λ m. list_in form (Matching expr m) (world_over file world)) is
 
 -- where a file is found it is there, and where none is found it isn't
 mapped : (place : Option ℕ) → is_some (option_map (λ (n : ℕ). n + 1) place) ≡ is_some place
@@ -68,11 +81,9 @@ place_known name (file ∷ files) = by (bytes_eq name file.name) (place_known na
     by true rest = refl
     by false rest = mapped (place_named name files) ∙ rest
 
-pub over_there : (name : List ℕ) (world : WorldView) (place : ℕ) → place_named name world.files ≡ Some place → IsPlaceOver (Some name) world (Some place)
-over_there name world place at = (ap not (sym (place_known name world.files)) ∙ ap (λ o. not (is_some o)) at, sym at)
-
-pub over_gone : (name : List ℕ) (world : WorldView) → place_named name world.files ≡ None → IsMissingFault (Some name) world (Plain code.Unknown)
-over_gone name world at = (ap not (sym (place_known name world.files)) ∙ ap (λ o. not (is_some o)) at, refl)
+-- where a file has the name it isn't missing, and where none has it is
+pub is_there_or_gone : (name : List ℕ) (world : WorldView) (there : Bool) → is_some (place_named name world.files) ≡ there → is_missing (Some name) world.files ≡ not there
+is_there_or_gone name world there at = ap not (sym (place_known name world.files) ∙ at)
 
 -- the file that a list is over is there, or it isn't
 there_is : (file : Option (List ℕ)) (world : WorldView) (reply shown : Reply) → is_missing file world.files ≡ false → reply ≡ shown → over_file file world reply ≡ shown
@@ -82,24 +93,24 @@ is_gone : (file : Option (List ℕ)) (world : WorldView) (reply : Reply) (fault 
 is_gone file world reply fault (missing, is) = ap (λ b. cond b (Refused (Plain code.Unknown)) reply) missing ∙ ap Refused (sym is)
 
 -- the answers to a TODO list
-pub todo_shown : (form : Form) (file : Option (Bor (List ℕ))) (words : Bor (List (List ℕ))) (world : WorldView) (over : Option ℕ) (text : List ℕ) →
-    IsPlaceOver (option_copied file) world over → text ≡ list_in form (todo_listing words.now) over world → TellsOf (Todo file words) form world (Shown text)
-todo_shown form file words world over text (there, place) is =
-    (TodoList (option_copied file) words.now, refl, there_is (option_copied file) world _ _ there (ap Shown (sym (is ∙ ap (λ o. list_in form (todo_listing words.now) o world) place))))
+pub todo_shown : (form : Form) (file : Option (Bor (List ℕ))) (words : Bor (List (List ℕ))) (world : WorldView) (text : List ℕ) →
+    is_missing (option_copied file) world.files ≡ false → text ≡ list_in form (todo_listing words.now) (world_over (option_copied file) world) → TellsOf (Todo file words) form world (Shown text)
+todo_shown form file words world text there is =
+    (TodoList (option_copied file) words.now, refl, there_is (option_copied file) world _ _ there (ap Shown (sym is)))
 
 pub todo_declined : (form : Form) (file : Option (Bor (List ℕ))) (words : Bor (List (List ℕ))) (world : WorldView) (fault : Fault) →
     IsMissingFault (option_copied file) world fault → TellsOf (Todo file words) form world (Refused fault)
 todo_declined form file words world fault why = (TodoList (option_copied file) words.now, refl, is_gone (option_copied file) world _ fault why)
 
 -- the answers to a match list
-pub match_shown : (form : Form) (file : Option (Bor (List ℕ))) (asked : Bor (List ℕ)) (world : WorldView) (over : Option ℕ) (expr : Expr) (text : List ℕ) →
-    IsPlaceOver (option_copied file) world over → Reads (chars asked.now) expr → AreReadable (patterns expr) → text ≡ list_in form (Matching expr world.moment) over world → TellsOf (Match file asked) form world (Shown text)
-match_shown form file asked world over expr text (there, place) reads readable is =
-    (MatchList (option_copied file) (Ok expr), (refl, (reads, readable)), there_is (option_copied file) world _ _ there (ap Shown (sym (is ∙ ap (λ o. list_in form (Matching expr world.moment) o world) place))))
+pub match_shown : (form : Form) (file : Option (Bor (List ℕ))) (asked : Bor (List ℕ)) (world : WorldView) (expr : Expr) (text : List ℕ) → is_missing (option_copied file) world.files ≡ false →
+    Reads (chars asked.now) expr → AreReadable (patterns expr) → text ≡ list_in form (Matching expr world.moment) (world_over (option_copied file) world) → TellsOf (Match file asked) form world (Shown text)
+match_shown form file asked world expr text there reads readable is =
+    (MatchList (option_copied file) (Ok expr), (refl, (reads, readable)), there_is (option_copied file) world _ _ there (ap Shown (sym is)))
 
-pub match_declined : (form : Form) (file : Option (Bor (List ℕ))) (asked : Bor (List ℕ)) (world : WorldView) (over : Option ℕ) (fault : Fault) →
-    IsPlaceOver (option_copied file) world over → IsUnread asked.now fault → TellsOf (Match file asked) form world (Refused fault)
-match_declined form file asked world over fault (there, place) why =
+pub match_declined : (form : Form) (file : Option (Bor (List ℕ))) (asked : Bor (List ℕ)) (world : WorldView) (fault : Fault) →
+    is_missing (option_copied file) world.files ≡ false → IsUnread asked.now fault → TellsOf (Match file asked) form world (Refused fault)
+match_declined form file asked world fault there why =
     (MatchList (option_copied file) (Err fault), (refl, why), there_is (option_copied file) world _ _ there refl)
 
 -- a file that isn't there is told, whatever the text is read as

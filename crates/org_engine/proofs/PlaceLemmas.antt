@@ -14,7 +14,7 @@ use Rattle.org_store.proofs.HeadingLemmas.{headings_are_there}
 use Rattle.org_layout.specs.declared.shown.Line.{Line}
 use Rattle.org_layout.specs.declared.shown.Line.TheVariants as line
 use Rattle.org_engine.specs.PlaceLaws.{LeadsBack, LeadsTo, LeadsToOf, PlacesLeadBack, VersionsLeadBack, files_for, named_by}
-use Rattle.org_engine.specs.Places.{files_named}
+use Rattle.org_engine.specs.Views.{files_named}
 use Rattle.org_engine.specs.Views.{is_wanted}
 use Rattle.org_engine.specs.Step.{Command, AddFile, At, Ask, Complete, DropFile, EditFile, Inherit, PinWorld, Refused, SetProfile, TextOf, KeywordsOf, Version, Unpin, added, changes, dropped, edited, file_named, is_session, pinned_by, put, refused, released, step, text_seen, unpinned_by, world_for, world_of}
 use Rattle.org_engine.proofs.StepWords.{completed_at, is_unused, kept_world, profiled, text_at}

@@ -3,7 +3,6 @@ use Rattle.std.proofs.Common.{◌≡◌, ◌∙◌, ℕ, List, [], ◌∷◌, �
 use Rattle.std.specs.Prelude.{None, Option, Some, Ok, Err, flat_map}
 use Rattle.std.specs.List.{concat, range_with_len}
 use Rattle.org_agenda.specs.Days.{AgendaView, day_rows}
-use Rattle.org_agenda.specs.Lists.{Matching, todo_listing}
 use Rattle.org_agenda.specs.declared.row.Row.{Row}
 use Rattle.org_base.specs.declared.code.Code.TheVariants as code
 use Rattle.org_base.specs.declared.fault.Fault.{Fault}
@@ -19,14 +18,10 @@ use Rattle.org_layout.specs.Shown.{line_text, lines_of, row_line, step_lines_sho
 use Rattle.org_layout.proofs.ShownWords.{lines_on}
 use Rattle.org_layout.specs.declared.shown.Line.TheVariants as line
 use Rattle.org_engine.specs.PlaceLaws.{AreOfOneList, TextAndPlacesAreOfOneList, files_for, has_efforts, lines_for, scopes_for}
-use Rattle.org_agenda.specs.Lists.{Listing}
-use Rattle.org_engine.specs.Places.{days_shown, files_named, line_places, list_shown, steps_shown, table_shown}
-use Rattle.org_engine.proofs.ViewWords.{agenda_places, table_places}
-use Rattle.org_engine.specs.Places.{list_places}
+use Rattle.org_engine.specs.Places.{agenda_in, days_shown, line_places, steps_shown}
 use Rattle.org_engine.specs.Step.{ClockTable, DayAgenda, MatchList, Query, Refused, Shown, TodoList, Unread, is_missing, render_view}
-use Rattle.org_engine.specs.Views.{scopes_named, steps_in, steps_text}
-use Rattle.org_engine.proofs.ViewWords.{agenda_view, step_text, table_view}
-use Rattle.org_engine.specs.Views.{list_view}
+use Rattle.org_engine.specs.Views.{files_named, steps_in, steps_text, world_over}
+use Rattle.org_engine.proofs.ViewWords.{step_text}
 use Rattle.org_engine.specs.Outlines.{scopes_of}
 use Rattle.org_engine.specs.World.{FileView, WorldView}
 use Rattle.org_engine.specs.declared.question.Form.TheVariants.{Places, Text}
@@ -46,7 +41,7 @@ flat_flat f g h [] same = refl
 flat_flat f g h (x ∷ xs) same = ap (λ zs. zs ++ concat (map h xs)) (same x) ∙ ap (λ zs. flat_map f (g x) ++ zs) (flat_flat f g h xs same) ∙ sym (flat_append f (g x) (flat_map g xs))
 
 -- a list
-list_is : (efforts : Bool) (scopes : List Scope) (rows : List Row) → list_lines scopes rows ≡ flat_map (line_text efforts scopes) (map (row_line None) rows)
+pub list_is : (efforts : Bool) (scopes : List Scope) (rows : List Row) → list_lines scopes rows ≡ flat_map (line_text efforts scopes) (map (row_line None) rows)
 list_is efforts scopes rows = flat_mapped (line_text efforts scopes) (row_line None) rows
 
 -- an agenda
@@ -55,7 +50,7 @@ day_is : (efforts : Bool) (scopes : List Scope) (agenda : AgendaView) (day : ℕ
 unfolding day_lines
 day_is efforts scopes agenda day = ap (λ zs. line_text efforts scopes (line.Day day) ++ zs) (flat_mapped (line_text efforts scopes) (row_line (Some day)) (day_rows agenda.profile agenda.sources agenda.today day))
 
-agenda_is : (efforts : Bool) (scopes : List Scope) (agenda : AgendaView) → agenda_lines scopes agenda ≡ flat_map (line_text efforts scopes) (lines_of agenda)
+pub agenda_is : (efforts : Bool) (scopes : List Scope) (agenda : AgendaView) → agenda_lines scopes agenda ≡ flat_map (line_text efforts scopes) (lines_of agenda)
 agenda_is efforts scopes agenda =
     flat_flat (line_text efforts scopes) (lines_on agenda) (day_lines agenda.profile scopes agenda.sources agenda.today) (range_with_len agenda.first agenda.count) (day_is efforts scopes agenda)
 
@@ -64,51 +59,25 @@ step_is : (table : TableRequest Expr) (scopes : List Scope) (files : List Counte
     step_text table scopes files days ≡ flat_map (line_text table.with_effort scopes) (step_lines_shown days (step_rows days table.most files))
 step_is table scopes files days = ap (λ zs. line_text table.with_effort scopes (line.Step days.0 days.1) ++ zs) (flat_mapped (line_text table.with_effort scopes) line.Table (step_rows days table.most files))
 
-steps_are : (table : TableRequest Expr) (scopes : List Scope) (files : List Counted) →
+pub steps_are : (table : TableRequest Expr) (scopes : List Scope) (files : List Counted) →
     steps_text table scopes files (steps_in table) ≡ flat_map (line_text table.with_effort scopes) (steps_shown table files)
 steps_are table scopes files =
     flat_flat (line_text table.with_effort scopes) (λ (days : ℕ × ℕ). step_lines_shown days (step_rows days table.most files)) (step_text table scopes files) (steps_in table) (step_is table scopes files)
 
 -- a view over all files
-all_scopes : (scopes : List Scope) → scopes_named None scopes ≡ scopes
-all_scopes [] = refl
-all_scopes (scope ∷ scopes) = ap (λ xs. scope ∷ xs) (all_scopes scopes)
-
 all_files : (files : List FileView) → files_named None files ≡ files
 all_files [] = refl
 all_files (file ∷ files) = ap (λ xs. file ∷ xs) (all_files files)
 
--- the text of a list, and where its lines lead
-list_text : (listing : Listing) (over : Option ℕ) (world : WorldView) →
-    list_view listing over world ≡ flat_map (line_text false (scopes_named None (scopes_of world))) (list_shown listing over (scopes_of world))
-unfolding list_view
-list_text listing over world =
-    list_is false (scopes_of world) _ ∙ ap (λ scopes. flat_map (line_text false scopes) (list_shown listing over (scopes_of world))) (sym (all_scopes (scopes_of world)))
-
-list_leads : (listing : Listing) (over : Option ℕ) (world : WorldView) →
-    list_places listing over world ≡ line_places (files_named None world.files) (list_shown listing over (scopes_of world))
-unfolding list_places
-list_leads listing over world = ap (λ files. line_places files (list_shown listing over (scopes_of world))) (sym (all_files world.files))
-
--- the same of an agenda
+-- the text of an agenda, and where its lines lead
 days_text : (first count : ℕ) (world : WorldView) →
-    agenda_view first count world ≡ flat_map (line_text false (scopes_named None (scopes_of world))) (days_shown world.profile (scopes_of world) world.moment.day first count)
+    agenda_in Text first count world ≡ flat_map (line_text false (scopes_of (world_over None world))) (days_shown world.profile (scopes_of world) world.moment.day first count)
 days_text first count world =
-    agenda_is false (scopes_of world) _
-    ∙ ap (λ scopes. flat_map (line_text false scopes) (days_shown world.profile (scopes_of world) world.moment.day first count)) (sym (all_scopes (scopes_of world)))
+    ap (λ files. flat_map (line_text false (scopes_of (record world { files = files }))) (days_shown world.profile (scopes_of world) world.moment.day first count)) (sym (all_files world.files))
 
 days_lead : (first count : ℕ) (world : WorldView) →
-    agenda_places first count world ≡ line_places (files_named None world.files) (days_shown world.profile (scopes_of world) world.moment.day first count)
+    agenda_in Places first count world ≡ line_places (files_named None world.files) (days_shown world.profile (scopes_of world) world.moment.day first count)
 days_lead first count world = ap (λ files. line_places files (days_shown world.profile (scopes_of world) world.moment.day first count)) (sym (all_files world.files))
-
--- and of a clock table
-table_text : (table : TableRequest Expr) (world : WorldView) →
-    table_view table world ≡ flat_map (line_text table.with_effort (scopes_named table.file (scopes_of world))) (table_shown table world.moment (scopes_named table.file (scopes_of world)))
-table_text table world = steps_are table (scopes_named table.file (scopes_of world)) _
-
-table_leads : (table : TableRequest Expr) (world : WorldView) →
-    table_places table world ≡ line_places (files_named table.file world.files) (table_shown table world.moment (scopes_named table.file (scopes_of world)))
-table_leads table world = refl
 
 -- what a view answers that may be refused
 shown_is : (b : Bool) (f : Fault) (x shown : List ℕ) → cond b (Refused f) (Shown x) ≡ Shown shown → x ≡ shown
@@ -158,13 +127,13 @@ unread_is f false file world = refl
 
 pub of_one_list : TextAndPlacesAreOfOneList
 of_one_list (TodoList file words) world =
-    one_list (TodoList file words) world (is_missing file world.files) (fault.Plain code.Unknown) _ _ refl refl (list_text (todo_listing words) _ world) (list_leads (todo_listing words) _ world)
+    one_list (TodoList file words) world (is_missing file world.files) (fault.Plain code.Unknown) _ _ refl refl refl refl
 of_one_list (MatchList file (Ok expr)) world =
-    one_list (MatchList file (Ok expr)) world (is_missing file world.files) (fault.Plain code.Unknown) _ _ refl refl (list_text (Matching expr world.moment) _ world) (list_leads (Matching expr world.moment) _ world)
+    one_list (MatchList file (Ok expr)) world (is_missing file world.files) (fault.Plain code.Unknown) _ _ refl refl refl refl
 of_one_list (MatchList file (Err f)) world =
     no_list (MatchList file (Err f)) world (unread_fault file world f (is_missing file world.files)) (unread_is f (is_missing file world.files) file world) (unread_is f (is_missing file world.files) file world)
 of_one_list (DayAgenda first count) world =
     one_list (DayAgenda first count) world false (fault.Plain code.Unknown) _ _ refl refl (days_text first count world) (days_lead first count world)
 of_one_list (ClockTable table) world =
-    one_list (ClockTable table) world (is_missing table.file world.files) (fault.Plain code.Unknown) _ _ refl refl (table_text table world) (table_leads table world)
+    one_list (ClockTable table) world (is_missing table.file world.files) (fault.Plain code.Unknown) _ _ refl refl refl refl
 of_one_list (Unread f) world = no_list (Unread f) world f refl refl

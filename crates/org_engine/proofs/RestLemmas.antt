@@ -1,6 +1,6 @@
--- What commands leave as it was, what a session pins, and over which files a table is.
+-- What commands leave as it was, what a session pins, and over which files a view is.
 use Rattle.org_engine.specs.declared.limits.TheConstants.{LAST_SERIAL}
-use Rattle.std.proofs.Common.{◌≡◌, ◌≢◌, ◌∙◌, ◌+◌, eq-eqb, ℕ, List, [], ◌∷◌, ◌++◌, Bool, true, false, cond, refl, ap, sym, eqb, map, inl, inr}
+use Rattle.std.proofs.Common.{◌≡◌, ◌≢◌, ◌∙◌, ◌+◌, eq-eqb, ℕ, List, [], ◌∷◌, ◌++◌, Bool, true, false, cond, refl, ap, sym, eqb, inl, inr}
 use Rattle.std.specs.Prelude.{Option, None, Some, Result, Ok, Err, nat_le, is_some, not}
 use Rattle.std.specs.Str.{bytes_eq, is_utf8}
 use Rattle.std.proofs.lemmas.Bool.{cases_Bool, false_from_ne_true}
@@ -12,20 +12,14 @@ use Rattle.org_base.specs.declared.code.Code.TheVariants as code
 use Rattle.org_base.specs.declared.fault.Fault.{Fault}
 use Rattle.org_base.specs.declared.fault.Fault.TheVariants as fault
 use Rattle.org_base.specs.declared.profile.Profile.{Profile}
-use Rattle.org_clocktable.specs.Request.{TableRequest}
-use Rattle.org_expression.specs.Grammar.{Expr}
-use Rattle.org_store.specs.Outline.{scope_of}
-use Rattle.org_inherit.specs.Scope.{Scope}
-use Rattle.org_engine.specs.Places.{files_named, table_in}
-use Rattle.org_engine.proofs.ViewWords.{table_places}
-use Rattle.org_engine.specs.declared.question.Form.TheVariants.{Places, Text}
+use Rattle.org_agenda.specs.Lists.{Listing, Matching, todo_listing}
+use Rattle.org_engine.specs.Places.{list_in, table_in}
 use Rattle.org_engine.specs.declared.question.Form.{Form}
 use Rattle.org_engine.specs.World.{WorldView, FileView, State, PinView}
-use Rattle.org_engine.specs.Step.{Query, Shown, Command, AddFile, DropFile, EditFile, Complete, At, Inherit, SetProfile, PinWorld, Unpin, TextOf, KeywordsOf, Version, Ask, Serial, Refused, Outcome, step, changes, refused, pinned_by, unpinned_by, world_of, is_session, added, dropped, put, edited, text_seen, with_file, with_text, without, file_named, is_missing}
+use Rattle.org_engine.specs.Step.{ClockTable, DayAgenda, MatchList, Query, Shown, TodoList, Unread, Command, AddFile, DropFile, EditFile, Complete, At, Inherit, SetProfile, PinWorld, Unpin, TextOf, KeywordsOf, Version, Ask, Serial, Refused, Outcome, step, changes, refused, pinned_by, unpinned_by, world_of, is_session, added, dropped, put, edited, text_seen, with_file, with_text, without, file_named, is_missing}
 use Rattle.org_engine.proofs.StepWords.{profiled, is_unused, answer, kept_world, completed_at}
-use Rattle.org_engine.specs.Views.{scopes_named}
-use Rattle.org_engine.proofs.ViewWords.{table_view}
-use Rattle.org_engine.specs.Rest.{LimitsAreNamed, PinsKeepTheWorld, CommandsLeaveTheRest, IsNoName, KeepsOrder, KeepsRest, TablesAreOverTheirFiles, TakesOut, changed_by, names_in, names_of, over_all}
+use Rattle.org_engine.specs.Views.{files_named, world_over}
+use Rattle.org_engine.specs.Rest.{LimitsAreNamed, PinsKeepTheWorld, CommandsLeaveTheRest, IsNoName, KeepsOrder, KeepsRest, ListsAreOverTheirFiles, TablesAreOverTheirFiles, TakesOut, changed_by, names_in, names_of}
 use Rattle.org_engine.proofs.LawLemmas.{next_state}
 
 pub limits : LimitsAreNamed
@@ -323,24 +317,8 @@ leave_the_rest s = (
   in_order s,
 )
 
--- tables over a file
-module _ (name : List ℕ) (inherited : List (List ℕ)) where
-  abbrev scopes : List FileView → List Scope
-  scopes files = map (λ (file : FileView). scope_of inherited file.name file.text) files
-
-  none_named : (files : List FileView) → IsNoName name files → scopes_named (Some name) (scopes files) ≡ []
-  none_named [] none = refl
-  none_named (f ∷ fs) none =
-      let P : FileView → Type 0 = λ file. name ≢ file.name in
-      rw (no_name name f.name (All-head P f fs none)) (none_named fs (All-tail P f fs none))
-
-  one_named : (file : FileView) (before behind : List FileView) → name ≡ file.name → IsNoName name before → IsNoName name behind →
-      scopes_named (Some name) (scopes (before ++ file ∷ behind)) ≡ scopes (file ∷ [])
-  one_named file [] behind is none more = rw (ap (λ (n : List ℕ). bytes_eq name n) (sym is) ∙ named name) (ap (λ (ss : List Scope). scope_of inherited file.name file.text ∷ ss) (none_named behind more))
-  one_named file (f ∷ fs) behind is none more =
-      let P : FileView → Type 0 = λ g. name ≢ g.name in
-      rw (no_name name f.name (All-head P f fs none)) (one_named file fs behind is (All-tail P f fs none) more)
-
+-- views over a file
+module _ (name : List ℕ) where
   none_files : (files : List FileView) → IsNoName name files → files_named (Some name) files ≡ []
   none_files [] none = refl
   none_files (f ∷ fs) none =
@@ -361,25 +339,36 @@ module _ (name : List ℕ) (inherited : List (List ℕ)) where
     | inr no' ↦ rw no' (one_found file fs behind is)
   ]
 
-same_table : (table : TableRequest Expr) (file : FileView) (before behind : List FileView) (world : WorldView) → table.file ≡ Some file.name → world.files ≡ before ++ file ∷ behind →
-    IsNoName file.name before → IsNoName file.name behind → table_view table world ≡ table_view (over_all table) (record world { files = file ∷ [] })
-same_table table file before behind world over is none more =
-    rw (over, is, one_named file.name world.inherited file before behind refl none more) refl
+-- the world of that file alone
+world_alone : (file : FileView) (before behind : List FileView) (world : WorldView) → world.files ≡ before ++ file ∷ behind → IsNoName file.name before → IsNoName file.name behind →
+    world_over (Some file.name) world ≡ record world { files = file ∷ [] }
+world_alone file before behind world is none more =
+    ap (λ fs. record world { files = fs }) (ap (files_named (Some file.name)) is ∙ one_file file.name file before behind refl none more)
 
-same_places : (table : TableRequest Expr) (file : FileView) (before behind : List FileView) (world : WorldView) → table.file ≡ Some file.name → world.files ≡ before ++ file ∷ behind →
-    IsNoName file.name before → IsNoName file.name behind → table_places table world ≡ table_places (over_all table) (record world { files = file ∷ [] })
-same_places table file before behind world over is none more =
-    rw (over, is, one_file file.name world.inherited file before behind refl none more, one_named file.name world.inherited file before behind refl none more) refl
-
--- its text, and where its lines lead
-in_either : (form : Form) (table : TableRequest Expr) (file : FileView) (before behind : List FileView) (world : WorldView) → table.file ≡ Some file.name → world.files ≡ before ++ file ∷ behind →
-    IsNoName file.name before → IsNoName file.name behind → table_in form table world ≡ table_in form (over_all table) (record world { files = file ∷ [] })
-in_either Text table file before behind world over is none more = same_table table file before behind world over is none more
-in_either Places table file before behind world over is none more = same_places table file before behind world over is none more
+is_there : (name : Option (List ℕ)) (file : FileView) (before behind : List FileView) (world : WorldView) → name ≡ Some file.name → world.files ≡ before ++ file ∷ behind → is_missing name world.files ≡ false
+is_there name file before behind world over is =
+    ap (λ (n : Option (List ℕ)). is_missing n world.files) over
+    ∙ ap not (ap (λ (fs : List FileView). is_some (file_named file.name fs)) is ∙ one_found file.name file before behind refl)
 
 pub tables_over : TablesAreOverTheirFiles
 tables_over table form file before behind s over is none more =
-    let there : is_some (file_named file.name s.world.files) ≡ true = ap (λ (fs : List FileView). is_some (file_named file.name fs)) is ∙ one_found file.name s.world.inherited file before behind refl in
-    let same = in_either form table file before behind s.world over is none more in
-    let is_there : is_missing table.file s.world.files ≡ false = ap (λ (name : Option (List ℕ)). is_missing name s.world.files) over ∙ ap not there in
-    rw is_there (ap Shown same)
+    let one : WorldView = record s.world { files = file ∷ [] } in
+    let same : table_in form table (world_over table.file s.world) ≡ table_in form table one =
+    ap (λ name. table_in form table (world_over name s.world)) over ∙ ap (table_in form table) (world_alone file before behind s.world is none more) in
+    rw (is_there table.file file before behind s.world over is) (ap Shown same)
+
+-- so does a list
+listed : (form : Form) (listing : Listing) (name : Option (List ℕ)) (file : FileView) (before behind : List FileView) (world : WorldView) → name ≡ Some file.name → world.files ≡ before ++ file ∷ behind →
+    IsNoName file.name before → IsNoName file.name behind → list_in form listing (world_over name world) ≡ list_in form listing (record world { files = file ∷ [] })
+listed form listing name file before behind world over is none more =
+    ap (λ n. list_in form listing (world_over n world)) over ∙ ap (list_in form listing) (world_alone file before behind world is none more)
+
+pub lists_over : ListsAreOverTheirFiles
+lists_over (TodoList wanted words) form file before behind s over is none more =
+    rw (is_there wanted file before behind s.world over is) (ap Shown (listed form (todo_listing words) wanted file before behind s.world over is none more))
+lists_over (MatchList wanted (Ok expr)) form file before behind s over is none more =
+    rw (is_there wanted file before behind s.world over is) (ap Shown (listed form (Matching expr s.world.moment) wanted file before behind s.world over is none more))
+lists_over (MatchList wanted (Err fault)) form file before behind s over is none more = rw (is_there wanted file before behind s.world over is) refl
+lists_over (DayAgenda first count) form file before behind s over is none more = absurd over
+lists_over (ClockTable table) form file before behind s over is none more = absurd over
+lists_over (Unread fault) form file before behind s over is none more = absurd over

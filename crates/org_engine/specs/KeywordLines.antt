@@ -34,5 +34,5 @@ last_end found = option_map_or (λ last. line_end last.is_done) found []
 -- the lines of keywords, after one of this kind or none: a line for each sequence, its keywords in their order with a space
 -- between, and a bar before the done ones
 abbrev pub keyword_lines : Option Kind → List Keyword → List ℕ
-keyword_lines last [] = last_end last
+keyword_lines last [] = option_map_or (λ kind. line_end kind.is_done) last []
 keyword_lines last (k ∷ ks) = gap_before last (kind_of k) ++ (k.word ++ keyword_lines (Some (kind_of k)) ks)

@@ -1,7 +1,7 @@
 -- Laws of places: where the lines of a view lead, and what a command does that is made from there (profile).
-use Rattle.std.specs.Prelude.{◌≡◌, ◌≢◌, ℕ, Bool, true, false, List, [], Option, None, Some, IsSome, Result, Ok, Err, slice_get}
+use Rattle.std.specs.Prelude.{◌≡◌, ◌≢◌, ℕ, Bool, true, false, List, [], Option, None, Some, IsSome, Result, Ok, Err, map, slice_get}
 use Rattle.std.specs.List.{flat_map}
-use Rattle.org_agenda.specs.Lists.{Matching, todo_listing}
+use Rattle.org_agenda.specs.Lists.{Listing, Matching, list_rows, todo_listing}
 use Rattle.org_base.specs.declared.code.Code.TheVariants as code
 use Rattle.org_base.specs.declared.fault.Fault.{Fault}
 use Rattle.org_base.specs.declared.fault.Fault.TheVariants as fault
@@ -13,22 +13,22 @@ use Rattle.org_inherit.specs.Scope.{Scope}
 use Rattle.org_store.specs.Begun.{entry_there}
 use Rattle.org_store.specs.Places.{HasLine, place_at}
 use Rattle.org_store.specs.declared.place.Place.{Place}
-use Rattle.org_layout.specs.Shown.{line_text}
+use Rattle.org_layout.specs.Shown.{line_text, row_line}
 use Rattle.org_layout.specs.declared.shown.Line.{Line}
 use Rattle.org_layout.specs.declared.shown.Line.TheVariants as line
 use Rattle.org_engine.specs.Laws.{IsIn, after_all}
 use Rattle.org_engine.specs.Outlines.{scopes_of}
-use Rattle.org_engine.specs.Places.{days_shown, files_named, line_places, list_shown, table_shown}
-use Rattle.org_engine.specs.Step.{ClockTable, Command, Complete, DayAgenda, EditFile, MatchList, Query, Refused, Serial, Shown, TodoList, Unread, edited, file_named, is_session, place_in, step, render_view, world_for}
-use Rattle.org_engine.specs.Views.{scopes_named}
+use Rattle.org_engine.specs.Places.{days_shown, line_places, table_shown}
+use Rattle.org_engine.specs.Step.{ClockTable, Command, Complete, DayAgenda, EditFile, MatchList, Query, Refused, Serial, Shown, TodoList, Unread, edited, file_named, is_session, step, render_view, world_for}
+use Rattle.org_engine.specs.Views.{files_named, world_over}
 use Rattle.org_engine.specs.World.{FileView, State, WorldView}
 use Rattle.org_engine.specs.declared.question.Form.TheVariants.{Places, Text}
 
--- the file that a question names for its rows: a clock table alone counts files by those that it is over
+-- the file that a question names, if its view is over one: its rows count files by those that it is over
 abbrev pub named_by : Query → Option (List ℕ)
 named_by (ClockTable table) = table.file
-named_by (TodoList file words) = None
-named_by (MatchList file read) = None
+named_by (TodoList file words) = file
+named_by (MatchList file read) = file
 named_by (DayAgenda first count) = None
 named_by (Unread fault) = None
 
@@ -38,7 +38,7 @@ files_for question world = files_named (named_by question) world.files
 
 -- what inheritance looks at in each of the files that the rows of a question are of
 abbrev pub scopes_for : Query → WorldView → List Scope
-scopes_for question world = scopes_named (named_by question) (scopes_of world)
+scopes_for question world = scopes_of (world_over (named_by question) world)
 
 -- whether the rows of a question show efforts
 abbrev pub has_efforts : Query → Bool
@@ -48,13 +48,17 @@ has_efforts (MatchList file read) = false
 has_efforts (DayAgenda first count) = false
 has_efforts (Unread fault) = false
 
+-- what the lines of a list stand for
+abbrev pub list_shown : Listing → List Scope → List Line
+list_shown listing scopes = map (row_line None) (list_rows listing scopes)
+
 -- what the lines of a question's view stand for
 abbrev pub lines_for : Query → WorldView → List Line
-lines_for (TodoList file words) world = list_shown (todo_listing words) (place_in file world.files) (scopes_of world)
-lines_for (MatchList file (Ok expr)) world = list_shown (Matching expr world.moment) (place_in file world.files) (scopes_of world)
+lines_for (TodoList file words) world = list_shown (todo_listing words) (scopes_of (world_over file world))
+lines_for (MatchList file (Ok expr)) world = list_shown (Matching expr world.moment) (scopes_of (world_over file world))
 lines_for (MatchList file (Err fault)) world = []
 lines_for (DayAgenda first count) world = days_shown world.profile (scopes_of world) world.moment.day first count
-lines_for (ClockTable table) world = table_shown table world.moment (scopes_named table.file (scopes_of world))
+lines_for (ClockTable table) world = table_shown table world.moment (scopes_of (world_over table.file world))
 lines_for (Unread fault) world = []
 
 -- text and places are two renderings of one list of lines, and are refused alike

@@ -107,5 +107,5 @@ IsListOver name _ = ⊥
 -- a list over one file is the list over all files of a world that has that file alone
 abbrev pub ListsAreOverTheirFiles : Type 0
 ListsAreOverTheirFiles = (question : Query) (form : Form) (file : FileView) (before behind : List FileView) (s : State) → IsListOver file.name question →
-    s.world.files ≡ before ++ file ∷ behind → IsNoName file.name before →
+    s.world.files ≡ before ++ file ∷ behind → IsNoName file.name before → IsNoName file.name behind →
     (step (Ask question form None) s).reply ≡ (step (Ask (list_over_all question) form None) (with_files (file ∷ []) s)).reply

@@ -1,7 +1,5 @@
 -- Views of a world (Org manual 9.6, "Weekly/daily agenda"; "The Global TODO List"; "Matching tags and properties"; "The
 -- clock table").
-use Rattle.org_layout.specs.Lines.{list_lines}
-use Rattle.org_agenda.specs.Lists.{Listing, list_rows}
 use Rattle.std.specs.Option.{option_map_or}
 use Rattle.std.specs.Prelude.{ℕ, List, Bool, true, if◌then◌else◌, [], ◌∷◌, map, Option, filter, bytes_eq}
 use Rattle.org_base.specs.declared.profile.Profile.{Profile}
@@ -17,11 +15,7 @@ use Rattle.org_clocktable.specs.Table.{step_rows}
 use Rattle.org_expression.specs.Grammar.{Expr}
 use Rattle.org_layout.specs.Tables.{step_lines}
 use Rattle.org_engine.specs.Outlines.{scopes_of}
-use Rattle.org_engine.specs.World.{WorldView}
-
--- the text of a list over all files, or over the one at a place: the lines of its rows
-unfoldable pub list_view : Listing → Option ℕ → WorldView → List ℕ
-list_view listing over world = list_lines (scopes_of world) (list_rows listing over (scopes_of world))
+use Rattle.org_engine.specs.World.{FileView, WorldView}
 
 -- the text of an agenda of so many days from a first one on, over all active stamps
 abbrev pub days_over : Profile → List Scope → ℕ → ℕ → ℕ → List ℕ
@@ -31,15 +25,23 @@ days_over p scopes today first count = agenda_lines scopes (record { profile = p
 abbrev pub is_wanted : Option (List ℕ) → List ℕ → Bool
 is_wanted file name = option_map_or (λ wanted. bytes_eq wanted name) file true
 
+-- the files that a view is over
+abbrev pub files_named : Option (List ℕ) → List FileView → List FileView
+files_named file files = filter (λ (own : FileView). is_wanted file own.name) files
+
+-- a world with the files alone that a view is over: all, or the one of a name
+abbrev pub world_over : Option (List ℕ) → WorldView → WorldView
+world_over file world = record world { files = filter (λ (own : FileView). option_map_or (λ name. bytes_eq name own.name) file true) world.files }
+
 -- a file, if a view is over it
 abbrev pub wanted_scope : Option (List ℕ) → Scope → List Scope
 wanted_scope file scope = if is_wanted file scope.file then scope ∷ [] else []
 
--- the files that a view is over: all, or the one that it names
+-- what inheritance looks at in each of the files that a view is over
 abbrev pub scopes_named : Option (List ℕ) → List Scope → List Scope
 scopes_named file scopes = filter (λ (scope : Scope). is_wanted file scope.file) scopes
 
--- and what inheritance looks at in each of them, of a world
+-- the same of a world
 abbrev pub scopes_over : Option (List ℕ) → WorldView → List Scope
 scopes_over file world = scopes_named file (scopes_of world)
 

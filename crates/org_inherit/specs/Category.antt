@@ -21,7 +21,7 @@ category_of name = stem (base_name name)
 
 -- what a file says of the category of its headings: its value of CATEGORY, else its category, else its name
 abbrev pub file_category : Scope → List ℕ
-file_category scope = unwrap_or (option_or (file_value scope (codes "CATEGORY")) scope.settings.category) (category_of scope.file)
+file_category scope = unwrap_or (option_or (file_value scope (codes "CATEGORY")) scope.settings.category) (stem (base_name scope.file))
 
 -- the own CATEGORY, else that of the nearest ancestor that has one, else the file's category, which is given
 abbrev pub category_under : List Entry → List ℕ → ℕ → List ℕ
@@ -31,6 +31,6 @@ category_under es file i = unwrap_or (nearest_value es (codes "CATEGORY") i) fil
 abbrev pub first_categories : List Entry → List ℕ → ℕ → List (List ℕ)
 first_categories es file count = map (category_under es file) (range_with_len 0 count)
 
--- the category of the entry at a place
+-- the category of the entry at a place: the own CATEGORY, else that of the nearest ancestor that has one, else the file's
 abbrev pub category : Scope → ℕ → List ℕ
-category scope i = category_under scope.entries (file_category scope) i
+category scope i = unwrap_or (nearest_value scope.entries (codes "CATEGORY") i) (file_category scope)

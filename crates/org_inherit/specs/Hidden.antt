@@ -14,7 +14,7 @@ is_archive tag = bytes_eq tag (codes "ARCHIVE")
 
 -- an entry hides itself and what is below it: its heading line has the word COMMENT or names the tag ARCHIVE
 abbrev pub hides : Entry → Bool
-hides e = option_map_or (λ head. head.comment || list_any is_archive (map (bytes_in e.text) head.tags)) e.head false
+hides e = option_map_or (λ head. head.comment || list_any (λ tag. bytes_eq tag (codes "ARCHIVE")) (map (bytes_in e.text) head.tags)) e.head false
 
 -- an entry is hidden if it or an ancestor hides
 abbrev pub is_hidden : List Entry → ℕ → Bool

@@ -14,9 +14,9 @@ use Rattle.org_outline.specs.Tree.{ancestors}
 abbrev pub own_tags : Entry → List (List ℕ)
 own_tags e = option_map_or (λ head. map (bytes_in e.text) head.tags) e.head []
 
--- the own tags of the entry at a place
+-- the own tags of the entry at a place: those that its heading line names, in order and each as often as it is named
 abbrev pub own_tags_at : List Entry → ℕ → List (List ℕ)
-own_tags_at es j = get_or (map own_tags es) j []
+own_tags_at es j = get_or (map (λ (e : Entry). option_map_or (λ head. map (bytes_in e.text) head.tags) e.head []) es) j []
 
 -- the ancestors from the outermost, then the entry
 abbrev pub lineage : List Entry → ℕ → List ℕ
@@ -43,9 +43,9 @@ tags_in text spans = map (bytes_in text) spans
 abbrev pub tags_at : List (List ℕ) → List Entry → ℕ → List (List ℕ)
 tags_at file_tags es i = with_tags [] (file_tags ++ flat_map (own_tags_at es) (lineage es i))
 
--- all tags of the entry at a place: the file's, the inherited and its own
+-- all tags of the entry at a place: the file's, the ancestors' own from the outermost, and its own; of equal ones the first stays
 abbrev pub all_tags : Scope → ℕ → List (List ℕ)
-all_tags scope i = tags_at scope.settings.file_tags scope.entries i
+all_tags scope i = fold with_tag [] (scope.settings.file_tags ++ flat_map (own_tags_at scope.entries) (lineage scope.entries i))
 
 -- each tag with a colon after it
 abbrev pub closed_tags : List (List ℕ) → List ℕ

@@ -33,17 +33,17 @@ front_value (e ∷ es) name = option_map_or (λ head. None) e.head (value_in e.d
 abbrev pub value_of_file : List Entry → FileSettings → List ℕ → Option (List ℕ)
 value_of_file es settings name = option_or (front_value es name) (value_in settings.properties name)
 
--- the value that the file itself gives a name
+-- the value that the file itself gives a name: the drawer of the lines before the first heading, else its settings
 abbrev pub file_value : Scope → List ℕ → Option (List ℕ)
-file_value scope name = value_of_file scope.entries scope.settings name
+file_value scope name = option_or (front_value scope.entries name) (value_in scope.settings.properties name)
 
 -- the name is among those whose values are inherited
 abbrev pub is_inherited : List (List ℕ) → List ℕ → Bool
 is_inherited names name = list_any (same_word name) names
 
--- the value of a name that isn't special. The own one; else, if the name is inherited, that of the nearest ancestor that
+-- the value of a name that isn't special. The own one; else, if the name is one of the inherited, that of the nearest ancestor that
 -- has one, else the file's
 abbrev pub plain_value : Scope → ℕ → List ℕ → Option (List ℕ)
 plain_value scope i name =
-    if is_inherited scope.inherited name then option_or (nearest_value scope.entries name i) (file_value scope name)
+    if list_any (same_word name) scope.inherited then option_or (nearest_value scope.entries name i) (file_value scope name)
     else own_value scope.entries name i

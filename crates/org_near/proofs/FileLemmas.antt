@@ -12,8 +12,8 @@ use Rattle.org_entry.specs.declared.entry.Entry.{Entry}
 use Rattle.org_index.proofs.CandidateLemmas.{Rise, rises}
 use Rattle.org_index.proofs.FilterLemmas.{contains_cases}
 use Rattle.org_inherit.specs.Scope.{Scope}
-use Rattle.org_agenda.specs.Sources.{file_sources, sources_at, sources_of}
-use Rattle.org_agenda.proofs.SourcesWords.{sources_from}
+use Rattle.org_agenda.specs.Sources.{file_sources, sources_of}
+use Rattle.org_agenda.proofs.SourcesWords.{sources_at, sources_from}
 use Rattle.org_agenda.specs.declared.source.HeadingStamp.{HeadingStamp}
 use Rattle.org_agenda.proofs.ListLemmas.{filter_append}
 use Rattle.org_near.specs.Near.{asked_in, asked_of, is_asked, sources_if}

@@ -16,8 +16,8 @@ use Rattle.org_index.specs.Near.{touches, warns}
 use Rattle.org_inherit.specs.Hidden.{is_hidden}
 use Rattle.org_inherit.specs.Scope.{Scope}
 use Rattle.org_agenda.specs.Bound.{kept_at, kept_from}
-use Rattle.org_agenda.specs.Sources.{entry_sources, owner_of, sources_at, under}
-use Rattle.org_agenda.proofs.SourcesWords.{head_sources}
+use Rattle.org_agenda.specs.Sources.{entry_sources, owner_of, under}
+use Rattle.org_agenda.proofs.SourcesWords.{head_sources, sources_at}
 use Rattle.org_agenda.specs.declared.source.HeadingRef.{HeadingRef}
 use Rattle.org_agenda.proofs.ListLemmas.{filter_append}
 use Rattle.org_stamp_index.specs.NearQuery.{asked_of as stamps_asked, is_asked as stamp_asked}

@@ -15,7 +15,7 @@ is_smaller _ _ = false
 
 -- the parent: the greatest earlier heading of a smaller level, if there is one
 abbrev pub parent : List (Option ℕ) → ℕ → Option ℕ
-parent ls i = greatest_below (λ j. is_smaller (level_at ls j) (level_at ls i)) i
+parent ls i = greatest_below (λ j. is_smaller (get_or ls j None) (get_or ls i None)) i
 
 -- what stands later ends the subtree: a heading that isn't of a larger level; an entry that is no heading has no subtree
 abbrev pub ends : Option ℕ → Option ℕ → Bool

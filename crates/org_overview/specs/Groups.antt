@@ -1,5 +1,5 @@
 -- Tables of tasks.
-use Rattle.std.specs.Prelude.{◌≡◌, ℕ, List, [], ◌∷◌, ◌++◌, None, IfOk, OnOk, Result, Vec, map}
+use Rattle.std.specs.Prelude.{◌≡◌, ℕ, List, [], ◌∷◌, ◌++◌, IfOk, OnOk, Result, Vec, map}
 use Rattle.org_agenda.specs.Lists.{list_rows, Open}
 use Rattle.org_agenda.specs.declared.row.Row.{Row}
 use Rattle.org_client.specs.Files.{NamedText}
@@ -53,4 +53,4 @@ GivesGroups result files scopes rows = IfOk result (λ groups. ShowsGroups group
 
 -- those of the list of open headings
 abbrev pub GivesTasks : {A E : Type 0} → Result (Vec TaskGroup A) E → List NamedText → List Scope → Type 0
-GivesTasks result files scopes = GivesGroups result files scopes (list_rows Open None scopes)
+GivesTasks result files scopes = GivesGroups result files scopes (list_rows Open scopes)

@@ -1,5 +1,5 @@
 -- A page of files.
-use Rattle.std.specs.Prelude.{◌≡◌, ℕ, ◌+◌, ◌-◌, ◌*◌, List, None, IfOk, Result, String, map, string_bytes}
+use Rattle.std.specs.Prelude.{◌≡◌, ℕ, ◌+◌, ◌-◌, ◌*◌, List, IfOk, Result, String, map, string_bytes}
 use Rattle.std.specs.List.{range_with_len}
 use Rattle.org_agenda.specs.Days.{day_rows}
 use Rattle.org_agenda.specs.Lists.{list_rows, Open}
@@ -56,7 +56,7 @@ pub record IsOverview (files : List NamedText) (scopes : List Scope) (wish : Wis
   pub soon : ShowsSoon page.soon.items files (rows_on scopes wish wish.moment.day)
   pub coming : map day_marks page.days.items ≡ map (own_on files scopes wish) (range_with_len (wish.moment.day + 1) wish.ahead)
   pub month : weeks_cells page.month.weeks.items ≡ map (cell_on files scopes wish) (range_with_len wish.first (7 * wish.weeks))
-  pub tasks : ShowsGroups page.groups.items files scopes (list_rows Open None scopes)
+  pub tasks : ShowsGroups page.groups.items files scopes (list_rows Open scopes)
   pub chart : ShowsChart page.chart page.clocked (chart_days wish.moment.day) scopes
   pub sums : sums_minutes page.sums.rows.items ≡ map row_minutes (wish_rows wish scopes)
 

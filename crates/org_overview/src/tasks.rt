@@ -31,7 +31,7 @@ pub(crate) fn open_groups<T: Text>(
     ensures value { GivesTasks result seen.now.files.now.files seen.now.scopes.now }
     ensures memory { IsOkUnless result memory_fault }
 {
-    let rows = todo_rows(alloc, seen.scopes, None, &Texts::new(alloc))?;
+    let rows = todo_rows(alloc, seen.scopes, &Texts::new(alloc))?;
     groups_of(alloc, seen, rows.as_slice())
 }
 

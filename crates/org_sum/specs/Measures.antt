@@ -16,7 +16,7 @@ minutes_of days clocks = sum_by (λ c. minutes_in c days) clocks
 
 -- the minutes of an entry's clocks in the days
 unfoldable pub clock_minutes : ℕ × ℕ → Entry → ℕ
-clock_minutes days e = minutes_of days e.details.clocks
+clock_minutes days e = sum_by (λ c. minutes_in c days) e.details.clocks
 
 -- the effort of an entry's own property; 0 where there is none, or the text is no effort
 unfoldable pub effort_minutes : Entry → ℕ

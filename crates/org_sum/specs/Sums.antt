@@ -1,10 +1,9 @@
 -- Sums over subtrees (Org manual 9.6, "The clock table").
 use Rattle.std.specs.Prelude.{ℕ, zero, suc, ◌+◌, Bool, false, ◌&&◌, ◌||◌, ◌==◌, if◌then◌else◌, Option, None, Some, is_some, List, [], ◌∷◌, length, map}
-use Rattle.std.specs.List.{range_with_len}
+use Rattle.std.specs.List.{list_any, range_with_len}
 use Rattle.org_entry.specs.declared.entry.Entry.{Entry}
 use Rattle.org_outline.specs.Levels.{level_of, levels}
-use Rattle.org_outline.specs.Laws.{is_above}
-use Rattle.org_outline.specs.Tree.{parent}
+use Rattle.org_outline.specs.Tree.{ancestors, parent}
 use Rattle.org_sum.specs.Measures.{clock_minutes, effort_minutes}
 
 -- f 0 + f 1 + .., n terms
@@ -16,9 +15,9 @@ sum_below f (suc n) = sum_below f n + f n
 abbrev pub own : (Entry → ℕ) → Entry → Bool → ℕ
 own f e counts = if is_some (level_of e) && counts then f e else 0
 
--- what the entry at a place counts
+-- what the entry at a place counts: its amount where it is a heading that counts
 abbrev pub own_at : (Entry → ℕ) → List Entry → List Bool → ℕ → ℕ
-own_at f (e ∷ es) (c ∷ cs) zero = own f e c
+own_at f (e ∷ es) (c ∷ cs) zero = if is_some (level_of e) && c then f e else 0
 own_at f (e ∷ es) (c ∷ cs) (suc j) = own_at f es cs j
 own_at f _ _ j = 0
 
@@ -28,7 +27,7 @@ sums_before f es cs = map (sum_below (own_at f es cs)) (range_with_len 0 (length
 
 -- the sum of heading i: over all headings that are i or have i as an ancestor, what they count
 abbrev pub subtree_sum : (Entry → ℕ) → List Entry → List Bool → ℕ → ℕ
-subtree_sum f es cs i = sum_below (λ j. if (j == i) || is_above (levels es) i j then own_at f es cs j else 0) (length es)
+subtree_sum f es cs i = sum_below (λ j. if (j == i) || list_any (λ k. k == i) (ancestors (levels es) j) then own_at f es cs j else 0) (length es)
 
 -- that of each entry
 abbrev pub subtree_sums : (Entry → ℕ) → List Entry → List Bool → List ℕ

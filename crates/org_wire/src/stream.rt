@@ -2,7 +2,8 @@
 ghost use Rattle.std.specs.Prelude.{◌≡◌, ◌≤◌, true, false, ◌≢◌};
 ghost use Rattle.org_base.specs.Codes.{code_of};
 ghost use Rattle.org_wire.specs.Counting.{CountsAlong};
-ghost use Rattle.org_wire.specs.Devices.{most_reads, StaysBounded, IsAnyBroken};
+ghost use Rattle.org_wire.specs.declared.input.TheConstants.{MOST_READS};
+ghost use Rattle.org_wire.specs.Devices.{StaysBounded, IsAnyBroken};
 ghost use Rattle.org_wire.specs.Input.{left, held};
 ghost use Rattle.org_wire.specs.Replies.{CountsWrite, fault_bytes, reply_bytes, BreaksOff, WritesTo, device_fault};
 ghost use Rattle.org_wire.specs.Run.{AnswersAllSpelled, AreUntouched, IsSpelledRun, broken, unbegun};
@@ -69,7 +70,7 @@ pub fn run<R: Read, W: Write, T: Text>(
     ensures device { result ≡ broken → IsAnyBroken reader.new writer.new }
     ensures fine { result ≢ broken → (reader.new.failed ≡ 0) × (writer.new.failed ≡ 0) }
     ensures flushed { result ≢ broken → writer.old.is_flushed ≡ true → writer.new.is_flushed ≡ true }
-    ensures bounded { reader.new.calls ≤ most_reads }
+    ensures bounded { reader.new.calls ≤ MOST_READS }
 {
     run_counted(alloc, reader, writer, engine, options)
 }
@@ -96,7 +97,7 @@ pub fn run_counted<R: Read, W: Write, T: Text>(
     ensures device { result ≡ broken → IsAnyBroken reader.new writer.new }
     ensures fine { result ≢ broken → (reader.new.failed ≡ 0) × (writer.new.failed ≡ 0) }
     ensures flushed { result ≢ broken → writer.old.is_flushed ≡ true → writer.new.is_flushed ≡ true }
-    ensures bounded { reader.new.calls ≤ most_reads }
+    ensures bounded { reader.new.calls ≤ MOST_READS }
 {
     let Ok(line) = LineBuffer::new(alloc) else {
         return End::Stopped(Code::Memory);

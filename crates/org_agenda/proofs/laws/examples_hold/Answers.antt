@@ -10,7 +10,6 @@ unfolding by_key day_rows lib.Utf8.encode list_rows occurs range_start source_ro
 returns c = record {
   open_alone = refl;
   named_alone = refl;
-  over_one_file = refl;
   files_in_order = refl;
   equal_rows_stand_twice = refl;
   inherited = λ moment. refl;

@@ -1,4 +1,4 @@
-use Rattle.org_engine.proofs.ListFileLemmas as lemmas
+use Rattle.org_engine.proofs.RestLemmas as lemmas
 use Rattle.org_engine.proofs.laws.lists_are_over_their_files.Goals as goal
 
 pub returns : goal.returns
