@@ -5,7 +5,7 @@ ghost use Rattle.org_answer.specs.Ahead.{IsLater};
 use crate::calendar::{asked_calendar, canvas_of};
 use crate::clock::typed_moment;
 use crate::filters::Filters;
-use crate::options::{clock_options, texts};
+use crate::options::{clock_options, refused_word, texts};
 use crate::problem::Problem;
 use clap::ArgMatches;
 use org_answer::{ClockQuery, Days, Query};
@@ -67,7 +67,7 @@ fn asked_days(own: &ArgMatches<'_>, days: Option<u32>, moment: &Moment) -> Resul
     let period = match own.get_str("DATE") {
         Some(text) => match Period::of_word(text.as_bytes(), moment.day) {
             Some(period) => period,
-            None => return Err(Problem::Date),
+            None => return Err(refused_word(text, Problem::Date)),
         },
         None => one_day(moment.day),
     };
@@ -193,7 +193,7 @@ pub fn asked_period(own: &ArgMatches<'_>, today: Day) -> Result<Period, Problem>
             return Err(Problem::To);
         }
         let block = block.unwrap_or("thisweek");
-        return typed_days(block, today).ok_or(Problem::Block);
+        return typed_days(block, today).ok_or(refused_word(block, Problem::Block));
     };
     if block.is_some() {
         return Err(Problem::From);

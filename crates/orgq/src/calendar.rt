@@ -1,6 +1,7 @@
 //! Which days a calendar shows, and how.
 
 use crate::environment::{Variable, value_of};
+use crate::options::refused_word;
 use crate::problem::Problem;
 use clap::ArgMatches;
 use org_answer::{Calendar, Canvas, Days, View};
@@ -28,7 +29,8 @@ pub fn asked_calendar(
         (Some("month"), date) => (View::Month, date),
         (Some("week"), date) => (View::Week, date),
         (date, None) => (View::Month, date),
-        (_, Some(_)) => return Err(Problem::View),
+        (Some(word), Some(_)) => return Err(refused_word(word, Problem::View)),
+        (None, Some(_)) => return Err(Problem::View),
     };
     let day = match date {
         Some(text) => day_typed(text, moment.day)?,
@@ -50,7 +52,7 @@ const LINES: u32 = 6;
 fn day_typed(text: &str, today: Day) -> Result<Day, Problem> {
     match Period::of_word(text.as_bytes(), today) {
         Some(period) => Ok(period.first),
-        None => Err(Problem::Date),
+        None => Err(refused_word(text, Problem::Date)),
     }
 }
 

@@ -1,5 +1,6 @@
 //! The command that shows a view anew whenever a file changed or a minute passed.
 
+use crate::arguments::is_command;
 use crate::exit::{BAD_ARGUMENTS, STOPPED};
 use crate::file_list::INPUT;
 use crate::files::push_paths;
@@ -36,6 +37,10 @@ pub fn follow<
 ) -> Result<u8, Problem> {
     if has_own_options(matches) {
         return Err(Problem::FollowFront);
+    }
+    let words = own.get_strs("PATH").unwrap_or(&[]);
+    if words.iter().any(|word| is_command(word)) {
+        return Err(Problem::FollowOf);
     }
     if own.get_strs("file").unwrap_or(&[]).contains(&INPUT) {
         return Err(Problem::FollowInput);

@@ -138,3 +138,14 @@ pub fn clock_options(alloc: Global, own: &ArgMatches<'_>) -> Result<String, Allo
     }
     Ok(text)
 }
+
+/// Why a word is refused that may begin with a hyphen: two in front are those of an option, which its command doesn't have.
+pub fn refused_word(word: &str, otherwise: Problem) -> Problem {
+    let Some(option) = word.strip_prefix("--") else {
+        return otherwise;
+    };
+    match option.split('=').next() {
+        Some("limit") => Problem::LimitOf,
+        _ => Problem::Option,
+    }
+}

@@ -43,6 +43,8 @@ pub enum Problem {
     FollowFront,
     /// What standard input says is asked for again and again.
     FollowInput,
+    /// A command stands behind follow that has no view.
+    FollowOf,
     /// A template has a brace alone, or a name that no member has.
     Format,
     /// A template and another form.
@@ -72,6 +74,8 @@ pub enum Problem {
     OneFile,
     /// A word says no date that a heading can get.
     OneDate,
+    /// A word with two hyphens in front names no option of its command.
+    Option,
     Order,
     /// A page is asked for in another form.
     Page,
@@ -148,6 +152,9 @@ impl Problem {
             Problem::FollowFront => "files without -f and options of rows stand after follow",
             Problem::FollowInput =>
                 "follow reads files again and again, and standard input only once",
+            Problem::FollowOf => {
+                "follow shows agenda, calendar, todo, match, clock, clocks, next, keywords, tags or check, and no other command"
+            }
             Problem::Format => NO_FORMAT,
             Problem::FormatBeside => "--format goes neither with --json nor with --csv nor with -n",
             Problem::Grid => "--grid shows one day",
@@ -171,6 +178,7 @@ impl Problem {
             Problem::NoKeyword => "set takes a keyword: set FILE:LINE KEYWORD",
             Problem::Place => "a heading is named by FILE:LINE, as -n prints it, or by --match",
             Problem::PlaceBeside => "a heading is named either by FILE:LINE or by --match",
+            Problem::Option => "no such option of this command; --help behind it names them",
             Problem::Order => "the day of --to is before that of --from",
             Problem::Page => "page has one form, without -n, --json, --csv and --format",
             Problem::Properties => {
