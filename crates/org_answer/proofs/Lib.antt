@@ -4,5 +4,6 @@ pub mod IcalLemmas
 pub mod LimitLemmas
 pub mod PaintedLemmas
 pub mod PictureLemmas
+pub mod RowLemmas
 pub mod ShownLemmas
 pub mod WordLemmas

@@ -152,7 +152,7 @@ pub fn answer(
     }
 }
 
-fn next_answer(
+pub(crate) fn next_answer(
     alloc: Global,
     inherits: &Inherits<'_>,
     chosen: &Chosen<'_>,
@@ -166,7 +166,7 @@ fn next_answer(
     rows_ahead(alloc, inherits, &agenda, &chosen.moment, within)
 }
 
-fn since_answer(
+pub(crate) fn since_answer(
     alloc: Global,
     inherits: &Inherits<'_>,
     chosen: &Chosen<'_>,
@@ -195,7 +195,7 @@ fn match_answer(
 }
 
 #[tactic(auto, using(crate::proofs::AskedLemmas::tabled))]
-fn clock(
+pub(crate) fn clock(
     alloc: Global,
     inherits: &Inherits<'_>,
     table: &ClockQuery<'_>,

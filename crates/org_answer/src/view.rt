@@ -1,10 +1,12 @@
 //! The text of views, with what each of its lines stands for.
-ghost use Rattle.std.specs.Prelude.{◌+◌, ◌≤◌};
+ghost use Rattle.std.specs.Prelude.{◌≡◌, ◌+◌, ◌≤◌};
+ghost use Rattle.std.specs.List.{list_any};
 ghost use Rattle.org_agenda.specs.Lists.{todo_listing, Matching};
 ghost use Rattle.org_base.specs.Results.{Gives, GivesItems};
 ghost use Rattle.org_cal.specs.declared.day.TheConstants.{LAST_DAY};
 ghost use Rattle.org_client.specs.Files.{AreRead};
 ghost use Rattle.org_answer.specs.Chosen.{ShowsDays, chosen_sources, over_chosen};
+ghost use Rattle.org_answer.specs.Limits.{is_row};
 ghost use Rattle.org_answer.specs.Views.{ShowsList, ShowsListing};
 
 use crate::limits::is_row;
@@ -26,7 +28,9 @@ pub struct Answer {
 
 impl Answer {
     /// Whether a row has a line.
-    pub fn has_row(&self) -> bool {
+    pub fn has_row(&self) -> bool
+        ensures value { result ≡ list_any is_row self.now.lines.items }
+    {
         self.lines.iter().any(is_row)
     }
 }

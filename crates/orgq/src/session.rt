@@ -24,7 +24,7 @@ use crate::words::print_words;
 use clap::ArgMatches;
 use org_answer::{
     Form, Picture, PrintOptions, Query, Question, WordKind, answer, answer_bytes, calendar_picture,
-    check, day_picture, has_stamp, ical_of, lines_within, picture_bytes,
+    check, day_picture, has_row, has_stamp, ical_of, lines_within, picture_bytes,
 };
 use org_base::Fault;
 use org_cal::Moment;
@@ -184,14 +184,11 @@ fn over_files<R: AllocGlobal + Files + Env + Input + Print + Eprint + Clone + Dr
     let mut file_set: FileSet<Whole> = FileSet::new(rt.alloc(), inherited);
     let paths = paths(rt, matches, &[])?;
     let left_out = load_all(rt, &mut file_set, paths.as_slice(), &Reading::of(matches))?;
-    let status = match text_of(rt, &file_set, question, look) {
-        Ok((has_row, text)) => {
-            let status = status_of(has_row, left_out);
-            if matches.get_flag("quiet") {
-                status
-            } else {
-                print_all(rt, text.as_slice(), status)
-            }
+    let is_quiet = matches.get_flag("quiet");
+    let status = match text_of(rt, &file_set, question, look, is_quiet) {
+        Ok((has_row, None)) => status_of(has_row, left_out),
+        Ok((has_row, Some(text))) => {
+            print_all(rt, text.as_slice(), status_of(has_row, left_out))
         }
         Err(fault) => {
             let typed = filters.expression.unwrap_or(question.asked.expression());
@@ -202,18 +199,24 @@ fn over_files<R: AllocGlobal + Files + Env + Input + Print + Eprint + Clone + Dr
     Ok(status)
 }
 
-// Whether there is a row, and what is printed.
+// Whether there is a row, and what is printed, if anything is to be.
 fn text_of<R: AllocGlobal + Eprint>(
     rt: &R,
     file_set: &FileSet<Whole>,
     question: &Question<'_, '_>,
     look: &PrintOptions<'_, '_>,
-) -> Result<(bool, Vec<u8>), Fault> {
+    is_quiet: bool,
+) -> Result<(bool, Option<Vec<u8>>), Fault> {
     let inherits = file_set.inherits()?;
     if let Query::Todo(words) = question.asked {
         say_unknown(rt, &inherits, words);
     }
-    let printed = printed_of(rt.alloc(), file_set, &inherits, question, look)?;
+    let printed = if is_quiet {
+        (finds_row(rt.alloc(), &inherits, question, look)?, None)
+    } else {
+        let (has_row, text) = printed_of(rt.alloc(), file_set, &inherits, question, look)?;
+        (has_row, Some(text))
+    };
     // Nothing is needed but the text.
     if look.is_last {
         forget(inherits);
@@ -221,7 +224,23 @@ fn text_of<R: AllocGlobal + Eprint>(
     Ok(printed)
 }
 
-// The same, of files with what their headings inherit.
+// Whether there is a row, where nothing is printed.
+fn finds_row(
+    alloc: Global,
+    inherits: &Inherits<'_>,
+    question: &Question<'_, '_>,
+    look: &PrintOptions<'_, '_>,
+) -> Result<bool, Fault>
+    requires read { AreRead inherits.now }
+{
+    let Query::Ical(days) = question.asked else {
+        return has_row(alloc, inherits, question);
+    };
+    let ical = ical_of(alloc, inherits, &question.chosen(), *days, look.limit)?;
+    Ok(ical.has_component)
+}
+
+// Whether there is a row, and what is printed, of files with what their headings inherit.
 fn printed_of(
     alloc: Global,
     file_set: &FileSet<Whole>,

@@ -1,0 +1,1 @@
+printf '* Only one <2024-03-08 Fri>\n' > dated.org
