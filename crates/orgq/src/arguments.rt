@@ -1,11 +1,11 @@
 //! The program's arguments.
 
-use clap::{Arg, ArgAction, Command, value_parser};
-use org_base::MOST_DAYS;
+use crate::act_arguments::{with_acts, with_clock_acts};
+use crate::option_lines::{is_valued, with_options, word, words};
+use clap::Command;
 use std::alloc::{AllocError, Global};
 
-// Options, one a line: the letter, the name, the name of the value and what it does, with semicolons between; of the first
-// two last fields some are empty. Those of all commands first, then those of one.
+// Lines of options: those of all commands first, then those of one.
 const OF_ALL: &str = "\
 f;file;PATH;A file, or a folder, whose *.org files are meant; - is standard input
 ;name;NAME;The name of the text on standard input
@@ -74,26 +74,6 @@ d;days;N;How many days from today on, 1 to 366; without it 30
 ;since;DATE TIME;What begins after that moment and no later than now, each time of a stamp
 ;lead;MINUTES;With --since, so many minutes ahead, 0 to 100000";
 
-const OF_ACTS: &str = "\
-;match;EXPR;The heading of which the expression holds, in place of FILE:LINE
-;dry-run;;Nothing is written; the same is printed";
-
-const OF_CLOCK_IN: &str = "\
-;match;EXPR;The heading of which the expression holds, in place of FILE:LINE
-;switch;;The clock that runs is ended first
-;dry-run;;Nothing is written; the same is printed";
-
-const OF_CLOCK_OUT: &str = ";dry-run;;Nothing is written; the same is printed";
-
-const OF_ADD: &str = "\
-t;todo;KEYWORD;Its keyword, one of the file's
-;tag;TAG;A tag; there may be several
-;priority;X;Its priority: a letter, or a number 0 to 64
-;scheduled;DATE;When it is scheduled, as of schedule
-;deadline;DATE;Its deadline, as of deadline
-;under;PLACE;The heading below which it goes, as FILE:LINE
-;dry-run;;Nothing is written; the same is printed";
-
 const OF_CHECK: &str = "\
 ;only;KIND,..;These kinds of findings, in place of the usual ones
 ;not;KIND,..;Without these kinds
@@ -127,20 +107,6 @@ pub fn takes_value(name: &str) -> bool {
         || is_valued(OF_FOLLOW, name)
 }
 
-fn is_valued(options: &'static str, name: &str) -> bool {
-    options.split('\n').any(|line| {
-        let mut fields = line.split(';');
-        let is_named = fields.next() == Some(name) || fields.next() == Some(name);
-        is_named && !name.is_empty() && has_value(line)
-    })
-}
-
-fn has_value(line: &str) -> bool {
-    line.split(';')
-        .nth(2)
-        .is_some_and(|value| !value.is_empty())
-}
-
 /// The arguments that the program takes.
 pub fn command<'a>(alloc: Global) -> Result<Command<'a>, AllocError> {
     let clock = with_clock_acts(alloc, clock(alloc)?)?;
@@ -148,16 +114,6 @@ pub fn command<'a>(alloc: Global) -> Result<Command<'a>, AllocError> {
     let command = command.subcommand(ical(alloc)?)?.subcommand(page(alloc)?)?;
     let command = command.subcommand(config(alloc)?)?;
     with_acts(alloc, command.subcommand(follow(alloc)?)?)
-}
-
-// Those that change files, after others.
-fn with_acts<'a>(alloc: Global, command: Command<'a>) -> Result<Command<'a>, AllocError> {
-    command
-        .subcommand(act_done(alloc)?)?
-        .subcommand(act_set(alloc)?)?
-        .subcommand(act_schedule(alloc)?)?
-        .subcommand(act_deadline(alloc)?)?
-        .subcommand(act_add(alloc)?)
 }
 
 // The commands that give a view or words; that of clock tables is given.
@@ -260,36 +216,6 @@ fn clock<'a>(alloc: Global) -> Result<Command<'a>, AllocError> {
     with_options(alloc, clock, OF_CLOCK, false)
 }
 
-// What is said of the clock that runs, and done to it, in place of a table.
-fn with_clock_acts<'a>(alloc: Global, clock: Command<'a>) -> Result<Command<'a>, AllocError> {
-    clock
-        .args_conflicts_with_subcommands(true)
-        .disable_help_subcommand(true)
-        .subcommand(clock_in(alloc)?)?
-        .subcommand(clock_out(alloc, "out", "The clock that runs ends")?)?
-        .subcommand(clock_out(alloc, "cancel", "The clock that runs is taken away")?)?
-        .subcommand(Command::new(alloc, "status").about("The clock that runs, for a status bar"))
-}
-
-fn clock_in<'a>(alloc: Global) -> Result<Command<'a>, AllocError> {
-    let place = word(
-        alloc,
-        "PLACE",
-        "The heading, as FILE:LINE; or --match names it",
-    );
-    let begin = Command::new(alloc, "in").about("A clock of a heading begins");
-    with_options(alloc, begin.arg(place)?, OF_CLOCK_IN, false)
-}
-
-fn clock_out<'a>(
-    alloc: Global,
-    name: &'static str,
-    about: &'static str,
-) -> Result<Command<'a>, AllocError> {
-    let end = Command::new(alloc, name).about(about);
-    with_options(alloc, end, OF_CLOCK_OUT, false)
-}
-
 fn clocks<'a>(alloc: Global) -> Result<Command<'a>, AllocError> {
     let block = word(
         alloc,
@@ -336,129 +262,4 @@ fn check<'a>(alloc: Global) -> Result<Command<'a>, AllocError> {
     let files = words(alloc, "FILE", "A file or folder, as -f, of any name");
     let check = Command::new(alloc, "check").about("What looks planned and will not show");
     with_options(alloc, check.arg(files)?, OF_CHECK, false)
-}
-
-fn act_done<'a>(alloc: Global) -> Result<Command<'a>, AllocError> {
-    let done = Command::new(alloc, "done").about(
-        "A heading of a file is done: it gets a done keyword, or its stamps shift",
-    );
-    with_place(
-        alloc,
-        done,
-        "The done keyword; without it the first one of the heading's",
-    )
-}
-
-fn act_set<'a>(alloc: Global) -> Result<Command<'a>, AllocError> {
-    let set = Command::new(alloc, "set").about("A heading of a file gets a keyword");
-    with_place(alloc, set, "The keyword")
-}
-
-// What names a heading and a keyword.
-fn with_place<'a>(
-    alloc: Global,
-    command: Command<'a>,
-    keyword: &'static str,
-) -> Result<Command<'a>, AllocError> {
-    let place = word(
-        alloc,
-        "PLACE",
-        "The heading, as FILE:LINE; with --match the keyword stands here",
-    );
-    let command = command.arg(place)?.arg(word(alloc, "KEYWORD", keyword))?;
-    with_options(alloc, command, OF_ACTS, false)
-}
-
-fn act_schedule<'a>(alloc: Global) -> Result<Command<'a>, AllocError> {
-    let schedule = Command::new(alloc, "schedule").about(
-        "A heading of a file is scheduled for a date, or no longer",
-    );
-    with_date(alloc, schedule)
-}
-
-fn act_deadline<'a>(alloc: Global) -> Result<Command<'a>, AllocError> {
-    let deadline = Command::new(alloc, "deadline").about(
-        "A heading of a file gets a deadline, or loses it",
-    );
-    with_date(alloc, deadline)
-}
-
-fn act_add<'a>(alloc: Global) -> Result<Command<'a>, AllocError> {
-    let add = Command::new(alloc, "add").about(
-        "A new heading, behind all others of a file or below one",
-    );
-    let title = words(
-        alloc,
-        "TITLE",
-        "Its title; with - at the end standard input is its body",
-    );
-    with_options(alloc, add.arg(title)?, OF_ADD, false)
-}
-
-// What names a heading and a date.
-fn with_date<'a>(alloc: Global, command: Command<'a>) -> Result<Command<'a>, AllocError> {
-    let place = word(
-        alloc,
-        "PLACE",
-        "The heading, as FILE:LINE; with --match the date stands here",
-    );
-    let date = word(
-        alloc,
-        "DATE",
-        "The date: tomorrow, fri, +3d, 2024-02-28; none takes it away",
-    );
-    let time = word(alloc, "TIME", "A time of that day: 9:30, 9:30-10:15");
-    let command = command.arg(place.allow_hyphen_values(true))?;
-    let command = command.arg(date.allow_hyphen_values(true))?.arg(time)?;
-    with_options(alloc, command, OF_ACTS, false)
-}
-
-fn word<'a>(alloc: Global, name: &'static str, help: &'static str) -> Arg<'a> {
-    Arg::new(alloc, name).help(help).action(ArgAction::Set)
-}
-
-fn words<'a>(alloc: Global, name: &'static str, help: &'static str) -> Arg<'a> {
-    word(alloc, name, help)
-        .num_args(0..)
-        .action(ArgAction::Append)
-}
-
-fn with_options<'a>(
-    alloc: Global,
-    mut command: Command<'a>,
-    table: &'static str,
-    is_global: bool,
-) -> Result<Command<'a>, AllocError> {
-    for line in table.lines() {
-        command = command.arg(option(alloc, line).global(is_global))?;
-    }
-    Ok(command)
-}
-
-fn option<'a>(alloc: Global, line: &'static str) -> Arg<'a> {
-    let mut fields = line.splitn(4, ';');
-    let letter = fields.next().unwrap_or("");
-    let name = fields.next().unwrap_or("");
-    let value = fields.next().unwrap_or("");
-    let mut arg = word(alloc, name, fields.next().unwrap_or("")).long(name);
-    if let Some(letter) = letter.chars().next() {
-        arg = arg.short(letter);
-    }
-    if value.is_empty() {
-        return arg.action(ArgAction::SetTrue);
-    }
-    let arg = arg.value_name(value);
-    match name {
-        "file" | "inherit" | "only" | "not" | "tag" | "properties" => arg.action(ArgAction::Append),
-        "from" | "to" | "at" | "since" | "format" | "scheduled" | "deadline" | "link" | "output" =>
-            { arg.allow_hyphen_values(true) }
-        "limit" | "times" => arg.value_parser(value_parser!(u32).range(1..=1_000_000)),
-        "profile" => arg.value_parser(value_parser!(u32).range(1..=2)),
-        "days" => arg.value_parser(value_parser!(u32).range(1..=i64::from(MOST_DAYS))),
-        "level" => arg.value_parser(value_parser!(u32).range(1..=99)),
-        "columns" => arg.value_parser(value_parser!(u32).range(20..=1000)),
-        "lines" => arg.value_parser(value_parser!(u32).range(2..=60)),
-        "within" | "lead" => arg.value_parser(value_parser!(u32).range(0..=100_000)),
-        _ => arg,
-    }
 }

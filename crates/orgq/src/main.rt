@@ -3,6 +3,7 @@
 #![tactic(auto)]
 
 mod act;
+mod act_arguments;
 mod adding;
 mod amending;
 mod arguments;
@@ -28,6 +29,7 @@ mod joined;
 mod keywords;
 pub mod laws;
 mod one_match;
+mod option_lines;
 mod options;
 mod out;
 mod page;

@@ -1,0 +1,141 @@
+//! The arguments of commands that change files.
+
+use crate::option_lines::{with_options, word, words};
+use clap::Command;
+use std::alloc::{AllocError, Global};
+
+// Lines of options.
+const OF_ACTS: &str = "\
+;match;EXPR;The heading of which the expression holds, in place of FILE:LINE
+;dry-run;;Nothing is written; the same is printed";
+
+const OF_CLOCK_IN: &str = "\
+;match;EXPR;The heading of which the expression holds, in place of FILE:LINE
+;switch;;The clock that runs is ended first
+;dry-run;;Nothing is written; the same is printed";
+
+const OF_CLOCK_OUT: &str = ";dry-run;;Nothing is written; the same is printed";
+
+const OF_ADD: &str = "\
+t;todo;KEYWORD;Its keyword, one of the file's
+;tag;TAG;A tag; there may be several
+;priority;X;Its priority: a letter, or a number 0 to 64
+;scheduled;DATE;When it is scheduled, as of schedule
+;deadline;DATE;Its deadline, as of deadline
+;under;PLACE;The heading below which it goes, as FILE:LINE
+;dry-run;;Nothing is written; the same is printed";
+
+/// Those that change files, after others.
+pub fn with_acts<'a>(alloc: Global, command: Command<'a>) -> Result<Command<'a>, AllocError> {
+    command
+        .subcommand(act_done(alloc)?)?
+        .subcommand(act_set(alloc)?)?
+        .subcommand(act_schedule(alloc)?)?
+        .subcommand(act_deadline(alloc)?)?
+        .subcommand(act_add(alloc)?)
+}
+
+/// What is said of the clock that runs, and done to it, in place of a table.
+pub fn with_clock_acts<'a>(alloc: Global, clock: Command<'a>) -> Result<Command<'a>, AllocError> {
+    clock
+        .args_conflicts_with_subcommands(true)
+        .disable_help_subcommand(true)
+        .subcommand(clock_in(alloc)?)?
+        .subcommand(clock_out(alloc, "out", "The clock that runs ends")?)?
+        .subcommand(clock_out(alloc, "cancel", "The clock that runs is taken away")?)?
+        .subcommand(Command::new(alloc, "status").about("The clock that runs, for a status bar"))
+}
+
+fn clock_in<'a>(alloc: Global) -> Result<Command<'a>, AllocError> {
+    let place = word(
+        alloc,
+        "PLACE",
+        "The heading, as FILE:LINE; or --match names it",
+    );
+    let begin = Command::new(alloc, "in").about("A clock of a heading begins");
+    with_options(alloc, begin.arg(place)?, OF_CLOCK_IN, false)
+}
+
+fn clock_out<'a>(
+    alloc: Global,
+    name: &'static str,
+    about: &'static str,
+) -> Result<Command<'a>, AllocError> {
+    let end = Command::new(alloc, name).about(about);
+    with_options(alloc, end, OF_CLOCK_OUT, false)
+}
+
+fn act_done<'a>(alloc: Global) -> Result<Command<'a>, AllocError> {
+    let done = Command::new(alloc, "done").about(
+        "A heading of a file is done: it gets a done keyword, or its stamps shift",
+    );
+    with_place(
+        alloc,
+        done,
+        "The done keyword; without it the first one of the heading's",
+    )
+}
+
+fn act_set<'a>(alloc: Global) -> Result<Command<'a>, AllocError> {
+    let set = Command::new(alloc, "set").about("A heading of a file gets a keyword");
+    with_place(alloc, set, "The keyword")
+}
+
+// What names a heading and a keyword.
+fn with_place<'a>(
+    alloc: Global,
+    command: Command<'a>,
+    keyword: &'static str,
+) -> Result<Command<'a>, AllocError> {
+    let place = word(
+        alloc,
+        "PLACE",
+        "The heading, as FILE:LINE; with --match the keyword stands here",
+    );
+    let command = command.arg(place)?.arg(word(alloc, "KEYWORD", keyword))?;
+    with_options(alloc, command, OF_ACTS, false)
+}
+
+fn act_schedule<'a>(alloc: Global) -> Result<Command<'a>, AllocError> {
+    let schedule = Command::new(alloc, "schedule").about(
+        "A heading of a file is scheduled for a date, or no longer",
+    );
+    with_date(alloc, schedule)
+}
+
+fn act_deadline<'a>(alloc: Global) -> Result<Command<'a>, AllocError> {
+    let deadline = Command::new(alloc, "deadline").about(
+        "A heading of a file gets a deadline, or loses it",
+    );
+    with_date(alloc, deadline)
+}
+
+fn act_add<'a>(alloc: Global) -> Result<Command<'a>, AllocError> {
+    let add = Command::new(alloc, "add").about(
+        "A new heading, behind all others of a file or below one",
+    );
+    let title = words(
+        alloc,
+        "TITLE",
+        "Its title; with - at the end standard input is its body",
+    );
+    with_options(alloc, add.arg(title)?, OF_ADD, false)
+}
+
+// What names a heading and a date.
+fn with_date<'a>(alloc: Global, command: Command<'a>) -> Result<Command<'a>, AllocError> {
+    let place = word(
+        alloc,
+        "PLACE",
+        "The heading, as FILE:LINE; with --match the date stands here",
+    );
+    let date = word(
+        alloc,
+        "DATE",
+        "The date: tomorrow, fri, +3d, 2024-02-28; none takes it away",
+    );
+    let time = word(alloc, "TIME", "A time of that day: 9:30, 9:30-10:15");
+    let command = command.arg(place.allow_hyphen_values(true))?;
+    let command = command.arg(date.allow_hyphen_values(true))?.arg(time)?;
+    with_options(alloc, command, OF_ACTS, false)
+}
