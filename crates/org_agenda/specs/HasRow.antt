@@ -1,5 +1,5 @@
 -- Whether there is a row (profile).
-use Rattle.std.specs.Prelude.{ℕ, Bool, true, false, ◌&&◌, nat_lt, List, [], ◌∷◌, ◌++◌, None, Result}
+use Rattle.std.specs.Prelude.{ℕ, Bool, true, false, ◌&&◌, nat_lt, List, [], ◌∷◌, ◌++◌, Result}
 use Rattle.org_base.specs.Results.{Gives}
 use Rattle.org_inherit.specs.Scope.{Scope}
 use Rattle.org_agenda.specs.Days.{start_key}
@@ -17,9 +17,9 @@ abbrev pub has_row : List Row → Bool
 has_row [] = false
 has_row (row ∷ rows) = true
 
--- whether a list of all files has a row is told, unless it's refused
+-- whether a list has a row is told, unless it's refused
 abbrev pub TellsRow : {E : Type 0} → Result Bool E → Listing → List Scope → Type 0
-TellsRow result listing scopes = Gives result (has_row (list_rows listing None scopes))
+TellsRow result listing scopes = Gives result (has_row (list_rows listing scopes))
 
 -- a row's priority is one of those that there are, so that a list has the row
 abbrev pub has_priority : Ranked → Bool

@@ -19,7 +19,7 @@ use org_inherit::{Inherit, Inherits};
 use org_match::{Match, Matcher};
 use std::alloc::Global;
 
-/// Whether [`todo_rows`](crate::todo_rows) of all files has a row.
+/// Whether [`todo_rows`](crate::todo_rows) has a row.
 pub fn has_todo_row(alloc: Global, inherits: &Inherits<'_>, words: &Texts) -> Result<bool, Fault>
     requires heads { AllHaveHeads inherits.now }
     ensures value { TellsRow result (todo_listing words.now) inherits.now }
@@ -29,7 +29,7 @@ pub fn has_todo_row(alloc: Global, inherits: &Inherits<'_>, words: &Texts) -> Re
     has_chosen_row(alloc, inherits, &mut choice)
 }
 
-/// Whether [`match_rows`](crate::match_rows) of all files has a row.
+/// Whether [`match_rows`](crate::match_rows) has a row.
 pub fn has_match_row(
     alloc: Global,
     inherits: &Inherits<'_>,

@@ -80,5 +80,5 @@ matched (Err fault) scopes text now expression reads tells = tt
 
 -- the lines of a list
 pub listed : (result : Result Bool Fault) (scopes : List Scope) (listing : Listing) → TellsRow result listing scopes → TellsListing result scopes listing
-listed (Ok found) scopes listing tells = tells ∙ of_rows None (list_rows listing None scopes)
+listed (Ok found) scopes listing tells = tells ∙ of_rows None (list_rows listing scopes)
 listed (Err fault) scopes listing tells = tt

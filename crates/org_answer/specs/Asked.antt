@@ -80,7 +80,7 @@ abbrev pub TellsDays : {E : Type 0} → Result Bool E → List Scope → Chosen 
 TellsDays result scopes chosen days = TellsRow result (lines_of (over_chosen chosen scopes days.first days.count))
 
 abbrev pub TellsListing : {E : Type 0} → Result Bool E → List Scope → Listing → Type 0
-TellsListing result scopes listing = TellsRow result (map (row_line None) (list_rows listing None scopes))
+TellsListing result scopes listing = TellsRow result (map (row_line None) (list_rows listing scopes))
 
 abbrev pub TellsMatch : Result Bool Fault → List Scope → List ℕ → Moment → Type 0
 TellsMatch (Err fault) scopes text now = Unit {0}
