@@ -9,7 +9,7 @@ use crate::view::{Chosen, Days, agenda_over};
 use org_agenda::{Row, RowKind};
 use org_base::Fault;
 use org_cal::{Day, push_time};
-use org_client::Titles;
+use org_client::KeptHeadings;
 use org_inherit::{Heading, Inherits};
 use org_look::{DayLook, Sheet, Timed, Tone, cut, half_hours, push_hours};
 use std::alloc::{AllocError, Global};
@@ -34,7 +34,7 @@ pub fn day_picture(
         Vec::new(alloc)
     };
     let minute = chosen.moment.minute.minutes();
-    let titles = Titles::new(alloc, inherits)?;
+    let titles = KeptHeadings::new(alloc, inherits)?;
     let page = Page {
         titles: &titles,
         look: DayLook {
@@ -92,7 +92,7 @@ fn part_of(row: &Row) -> Part {
 // What a picture of a day is made of.
 #[derive(Clone, Copy)]
 struct Page<'a, 'b, 'c> {
-    titles: &'a Titles<'b, 'c>,
+    titles: &'a KeptHeadings<'b, 'c>,
     look: DayLook,
 }
 

@@ -5,7 +5,7 @@ ghost use Rattle.org_answer.specs.Pictures.{GivesEntries, stand_of};
 use org_agenda::{Row, RowKind};
 use org_base::Fault;
 use org_cal::push_time;
-use org_client::Titles;
+use org_client::KeptHeadings;
 use org_inherit::{Heading, Inherits};
 use org_look::{Entry, Signs, Stand, Tone};
 use std::alloc::{AllocError, Global};
@@ -33,7 +33,7 @@ impl Wording {
 /// The rows of a day as a picture has them, an entry for each in their order; those that aren't said have no label.
 pub(crate) fn entries_of(
     alloc: Global,
-    titles: &Titles<'_, '_>,
+    titles: &KeptHeadings<'_, '_>,
     rows: &[Row],
     wording: &Wording,
 ) -> Result<Vec<Entry>, Fault>
@@ -52,7 +52,7 @@ pub(crate) fn entries_of(
 // The entry of a row after so many others that are of the day itself.
 fn entry_of(
     alloc: Global,
-    titles: &Titles<'_, '_>,
+    titles: &KeptHeadings<'_, '_>,
     row: &Row,
     wording: &Wording,
     before: usize,
@@ -105,7 +105,7 @@ fn is_done(inherits: &Inherits<'_>, row: &Row) -> bool {
 /// The time of a row or its sign, then its keyword, its priority and its title.
 pub(crate) fn label_of(
     alloc: Global,
-    titles: &Titles<'_, '_>,
+    titles: &KeptHeadings<'_, '_>,
     row: &Row,
     wording: &Wording,
 ) -> Result<String, Fault> {

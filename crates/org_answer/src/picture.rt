@@ -10,7 +10,7 @@ use crate::view::{Chosen, agenda_over};
 use org_agenda::Agenda;
 use org_base::Fault;
 use org_cal::Day;
-use org_client::Titles;
+use org_client::KeptHeadings;
 use org_inherit::Inherits;
 use org_look::{
     Entry, Grid, GridDay, Narrow, Plan, Sheet, Tone, Week, grid_lines, push_listed_day,
@@ -49,7 +49,7 @@ pub fn calendar_picture(
             most: (calendar.view == View::Month && grid.is_some()).then_some(calendar.lines),
         },
     };
-    let titles = Titles::new(alloc, inherits)?;
+    let titles = KeptHeadings::new(alloc, inherits)?;
     let weeks = all_weeks(alloc, &titles, &agenda, &drawing)?;
     let mut sheet = Sheet::new(alloc);
     drawing.push(alloc, &mut sheet, weeks.as_slice())?;
@@ -80,7 +80,7 @@ fn has_row(week: &WeekDays) -> bool {
 #[tactic(auto, using(crate::proofs::PictureLemmas::adds_one))]
 fn all_weeks(
     alloc: Global,
-    titles: &Titles<'_, '_>,
+    titles: &KeptHeadings<'_, '_>,
     agenda: &Agenda,
     drawing: &Drawing<'_>,
 ) -> Result<Vec<WeekDays>, Fault>
@@ -97,7 +97,7 @@ fn all_weeks(
 #[tactic(auto, using(crate::proofs::PictureLemmas::adds_one))]
 fn week_of(
     alloc: Global,
-    titles: &Titles<'_, '_>,
+    titles: &KeptHeadings<'_, '_>,
     agenda: &Agenda,
     drawing: &Drawing<'_>,
     first: u32,
@@ -120,7 +120,7 @@ fn week_of(
 // The day so many days after the first of an agenda.
 fn day_of(
     alloc: Global,
-    titles: &Titles<'_, '_>,
+    titles: &KeptHeadings<'_, '_>,
     agenda: &Agenda,
     drawing: &Drawing<'_>,
     ahead: u32,

@@ -16,5 +16,6 @@ pub mod PairLemmas
 pub mod PutLemmas
 pub mod ReminderLemmas
 pub mod StampLemmas
+pub mod StandLemmas
 pub mod StringLemmas
 pub mod VisibleLemmas

@@ -108,6 +108,9 @@ whole_members only scope i e head = heading_members only scope i e head ++ detai
 
 -- the same of a heading that is found
 
+abbrev pub title_members_of : Option (List ℕ) → FoundHeading → List ℕ
+title_members_of only h = title_members only (bytes_in h.entry.now.text h.head.now.title)
+
 abbrev pub head_members_of : Option (List ℕ) → FoundHeading → List ℕ
 head_members_of only h = head_members only h.inherit.now h.place h.entry.now h.head.now
 

@@ -9,7 +9,7 @@ pub mod Fields
 pub mod Files
 pub mod HeadingMembers
 pub mod Headings
-pub mod KeptWords
+pub mod KeptHeadings
 pub mod Json
 pub mod JsonLaws
 pub mod JsonReading

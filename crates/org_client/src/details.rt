@@ -2,6 +2,7 @@
 ghost use Rattle.std.specs.Prelude.{◌≡◌, ◌<◌, ◌++◌, length, reverse, slice_get, OnOk};
 ghost use Rattle.org_base.specs.Results.{Gives, GivesItems};
 ghost use Rattle.org_client.specs.HeadingMembers.{details_members_of, effort_member, path_member_of, planning_members, stamp_member, title_of, titles_above, titles_at};
+ghost use Rattle.org_client.specs.KeptHeadings.{StandsIn};
 ghost use Rattle.org_client.specs.Members.{Puts};
 ghost use Rattle.org_entry.specs.Planning.{entry_planning};
 ghost use Rattle.org_inherit.specs.Special.{stamp_span};
@@ -9,9 +10,10 @@ ghost use Rattle.org_outline.specs.Levels.{levels};
 ghost use Rattle.org_outline.specs.Tree.{ancestors};
 
 use crate::fields::between;
+use crate::kept_headings::KeptHeadings;
 use crate::members::Members;
 use org_base::{Fault, Span, Texts};
-use org_drawer::effort_minutes;
+use org_drawer::{Planning, effort_minutes};
 use org_entry::Entry;
 use org_inherit::Heading;
 use org_outline::Outline;
@@ -23,43 +25,66 @@ use std::alloc::{AllocError, Global};
 pub(crate) fn put_details(
     alloc: Global,
     to: &mut Members<'_>,
+    kept: &KeptHeadings<'_, '_>,
     heading: &Heading<'_, '_>,
 ) -> Result<(), Fault>
+    requires there { StandsIn kept.now heading.now }
     ensures ok { Puts result to.old to.new (details_members_of to.old.only heading.now) }
 {
-    put_planning(to, heading.entry)?;
+    put_planning(to, kept, heading)?;
     put_effort(to, heading.entry)?;
     put_path(alloc, to, heading)
 }
 
-fn put_planning(to: &mut Members<'_>, entry: &Entry) -> Result<(), AllocError>
+// Puts the stamps of the planning line, which is read once or may be kept.
+#[tactic(auto, using(crate::proofs::StandLemmas::planning_there))]
+fn put_planning(
+    to: &mut Members<'_>,
+    kept: &KeptHeadings<'_, '_>,
+    heading: &Heading<'_, '_>,
+) -> Result<(), AllocError>
+    requires there { StandsIn kept.now heading.now }
+    ensures ok { Puts result to.old to.new (planning_members to.old.only heading.now.entry.now) }
+{
+    let planning = kept.planning(heading.file, heading.place);
+    put_stamps(to, heading.entry, &planning)
+}
+
+fn put_stamps(
+    to: &mut Members<'_>,
+    entry: &Entry,
+    planning: &Option<Planning>,
+) -> Result<(), AllocError>
+    requires own { planning.now ≡ entry_planning entry.now }
     ensures ok { Puts result to.old to.new (planning_members to.old.only entry.now) }
 {
-    put_stamp(to, entry, "scheduled", PlanningKeyword::Scheduled)?;
-    put_stamp(to, entry, "deadline", PlanningKeyword::Deadline)?;
-    put_stamp(to, entry, "closed", PlanningKeyword::Closed)
+    put_stamp(to, entry, planning, "scheduled", PlanningKeyword::Scheduled)?;
+    put_stamp(to, entry, planning, "deadline", PlanningKeyword::Deadline)?;
+    put_stamp(to, entry, planning, "closed", PlanningKeyword::Closed)
 }
 
 // Puts what stands between the brackets of the stamp under a keyword.
 fn put_stamp(
     to: &mut Members<'_>,
     entry: &Entry,
+    planning: &Option<Planning>,
     name: &str,
     word: PlanningKeyword,
 ) -> Result<(), AllocError>
+    requires own { planning.now ≡ entry_planning entry.now }
     ensures ok { Puts result to.old to.new (stamp_member to.old.only name.now word entry.now) }
 {
-    match part_under(entry, word) {
+    match part_under(planning, word) {
         Some(part) => to.text(name, between(entry.part(part))),
         None => Ok(()),
     }
 }
 
-// The part of the entry's text that the stamp under a keyword takes, if there is one.
-fn part_under(entry: &Entry, word: PlanningKeyword) -> Option<Span>
-    ensures value { result ≡ stamp_span word (entry_planning entry.now) }
+// The part of an entry's text that the stamp under a keyword takes, if there is one.
+fn part_under(planning: &Option<Planning>, word: PlanningKeyword) -> Option<Span>
+    ensures value { result ≡ stamp_span word planning.now }
 {
-    match entry.planning() {
+    match planning {
         Some(planning) => planning.part(word),
         None => None,
     }

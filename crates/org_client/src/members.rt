@@ -2,14 +2,16 @@
 ghost use Rattle.std.specs.Prelude.{◌≡◌, ◌++◌, [], bytes_eq, decimal, option_copied, OnOk};
 ghost use Rattle.org_base.specs.Results.{Gives};
 ghost use Rattle.org_cal.specs.Texts.{date_text, time_text};
-ghost use Rattle.org_client.specs.HeadingMembers.{title_members};
+ghost use Rattle.org_client.specs.HeadingMembers.{title_members_of};
 ghost use Rattle.org_client.specs.Json.{begun};
+ghost use Rattle.org_client.specs.KeptHeadings.{StandsIn};
 ghost use Rattle.org_client.specs.Members.{MembersView, Puts, date_member, flag_member_of, is_asked, item_separator, number_member_of, text_member_of, texts_member_of, time_member};
 
+use crate::kept_headings::KeptHeadings;
 use crate::one_line::OneLine;
-use crate::titles::title_words;
 use org_base::Texts;
 use org_cal::{Day, TimeOfDay, push_date, push_time};
+use org_inherit::Heading;
 use std::alloc::{AllocError, Global};
 use std::marker::Model;
 
@@ -88,15 +90,21 @@ impl<'a> Members<'a> {
         Ok(())
     }
 
-    /// Puts a title, and its words.
-    pub fn title(&mut self, title: &[u8]) -> Result<(), AllocError>
-        ensures ok { Puts result self.old self.new (title_members self.old.only title.now) }
+    /// Puts the title of a heading, and its words, which may be kept.
+    #[tactic(auto, using(crate::proofs::StandLemmas::words_there))]
+    pub fn title(
+        &mut self,
+        kept: &KeptHeadings<'_, '_>,
+        heading: &Heading<'_, '_>,
+    ) -> Result<(), AllocError>
+        requires there { StandsIn kept.now heading.now }
+        ensures ok { Puts result self.old self.new (title_members_of self.old.only heading.now) }
     {
-        self.text("title", title)?;
+        self.text("title", heading.title())?;
         if self.only.is_some() && !self.is_asked("words") {
             return Ok(());
         }
-        let words = title_words(self.alloc, title)?;
+        let words = kept.words(self.alloc, heading.file, heading.place)?;
         self.text("words", words.as_slice())
     }
 

@@ -1,11 +1,13 @@
 //! What is said of a row, member by member.
 ghost use Rattle.std.specs.Prelude.{◌≡◌};
 ghost use Rattle.org_client.specs.HeadingMembers.{head_members_of, heading_members_of, keyword_members_of, whole_members_of};
+ghost use Rattle.org_client.specs.KeptHeadings.{StandsIn};
 ghost use Rattle.org_client.specs.Members.{Puts};
 ghost use Rattle.org_client.specs.RowMembers.{clock_members, file_member, members_at, kind_name, kind_of, line_members, members_of, minute_member, minutes_members, of_members, place_members, row_members, row_numbers, said_members, stamp_if, stamp_line_in, stamp_members, step_members, sum_members, when_members};
 
 use crate::clocks::push_clock_minute;
 use crate::details::put_details;
+use crate::kept_headings::KeptHeadings;
 use crate::members::Members;
 use crate::rows::{LoadReport, ShownClock, ShownSum, ViewRow};
 use org_agenda::{Row, RowKind};
@@ -202,27 +204,38 @@ fn put_said<T: Text>(
     ensures ok { Puts result to.old to.new (said_members to.old.only files.now.scopes row.now) }
 {
     if let Some(heading) = Heading::find(files.inherits, row.file, row.heading) {
-        put_whole(alloc, to, &heading)?;
+        put_whole(alloc, to, &files.kept, &heading)?;
     }
     Ok(())
 }
 
 // What a heading's line says, and what stands beside it.
-fn put_whole(alloc: Global, to: &mut Members<'_>, heading: &Heading<'_, '_>) -> Result<(), Fault>
+fn put_whole(
+    alloc: Global,
+    to: &mut Members<'_>,
+    kept: &KeptHeadings<'_, '_>,
+    heading: &Heading<'_, '_>,
+) -> Result<(), Fault>
+    requires there { StandsIn kept.now heading.now }
     ensures ok { Puts result to.old to.new (whole_members_of to.old.only heading.now) }
 {
-    put_heading(to, heading)?;
-    put_details(alloc, to, heading)
+    put_heading(to, kept, heading)?;
+    put_details(alloc, to, kept, heading)
 }
 
 // What a heading's line says.
-fn put_heading(to: &mut Members<'_>, heading: &Heading<'_, '_>) -> Result<(), Fault>
+fn put_heading(
+    to: &mut Members<'_>,
+    kept: &KeptHeadings<'_, '_>,
+    heading: &Heading<'_, '_>,
+) -> Result<(), Fault>
+    requires there { StandsIn kept.now heading.now }
     ensures ok { Puts result to.old to.new (heading_members_of to.old.only heading.now) }
 {
     to.text("category", heading.category())?;
     to.number("level", u64::from(heading.level()))?;
     put_keyword(to, heading)?;
-    put_head(to, heading)
+    put_head(to, kept, heading)
 }
 
 fn put_keyword(to: &mut Members<'_>, heading: &Heading<'_, '_>) -> Result<(), AllocError>
@@ -235,13 +248,18 @@ fn put_keyword(to: &mut Members<'_>, heading: &Heading<'_, '_>) -> Result<(), Al
     to.flag("done", heading.is_done())
 }
 
-fn put_head(to: &mut Members<'_>, heading: &Heading<'_, '_>) -> Result<(), Fault>
+fn put_head(
+    to: &mut Members<'_>,
+    kept: &KeptHeadings<'_, '_>,
+    heading: &Heading<'_, '_>,
+) -> Result<(), Fault>
+    requires there { StandsIn kept.now heading.now }
     ensures ok { Puts result to.old to.new (head_members_of to.old.only heading.now) }
 {
     if let Some(priority) = heading.priority() {
         to.text("priority", priority)?;
     }
-    to.title(heading.title())?;
+    to.title(kept, heading)?;
     let tags = heading.tags()?;
     to.texts("tags", &tags)?;
     Ok(())
@@ -296,7 +314,7 @@ fn put_heading_at<T: Text>(
     ensures ok { Puts result to.old to.new (members_at to.old.only files.now.scopes file place) }
 {
     if let Some(heading) = Heading::find(files.inherits, file, place) {
-        put_heading(to, &heading)?;
+        put_heading(to, &files.kept, &heading)?;
     }
     Ok(())
 }

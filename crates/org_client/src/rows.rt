@@ -8,6 +8,7 @@ ghost use Rattle.org_client.specs.ViewRows.{heading_of};
 
 use crate::clocks::ClockRow;
 use crate::file_set::FileSet;
+use crate::kept_headings::KeptHeadings;
 use crate::line_starts::{LinePlace, LineStarts};
 use org_base::{Fault, Texts};
 use org_cal::Day;
@@ -26,16 +27,21 @@ pub struct LoadReport<'a, 'b, T: Text> {
     pub inherits: &'a Inherits<'b>,
     /// The properties that are asked for.
     pub properties: Texts,
+    // What is kept of long headings.
+    pub(crate) kept: KeptHeadings<'a, 'b>,
     // Of each file; none where no row needs them.
     starts: Vec<LineStarts>,
 }
 
 impl<'a, 'b, T: Text> Model for LoadReport<'a, 'b, T> {
+    ghost use Rattle.std.specs.Prelude.{◌≡◌};
     ghost use Rattle.org_client.specs.Report.{ReportView};
 
     ghost Value = { ReportView };
 
     ghost view = { λ r. record { files = r.file_set.now.files; scopes = r.inherits.now; properties = r.properties; starts = r.starts.items } };
+
+    ghost invariant = { λ r. r.kept ≡ r.inherits.now };
 }
 
 impl<'a, 'b, T: Text> LoadReport<'a, 'b, T> {
@@ -55,10 +61,12 @@ impl<'a, 'b, T: Text> LoadReport<'a, 'b, T> {
         } else {
             Vec::new(alloc)
         };
+        let kept = KeptHeadings::new(alloc, inherits)?;
         Ok(LoadReport {
             file_set,
             inherits,
             properties,
+            kept,
             starts,
         })
     }

@@ -12,7 +12,7 @@ use crate::tasks::open_groups;
 use crate::words::{date_of, whole_day_words};
 use org_base::Fault;
 use org_cal::push_time;
-use org_client::{FileSet, Titles};
+use org_client::{FileSet, KeptHeadings};
 use org_inherit::Inherits;
 use org_page::{Page, TaskGroup, html};
 use org_text::Text;
@@ -45,7 +45,7 @@ pub fn overview<T: Text>(
     ensures value { GivesPage result file_set.now.files inherits.now wish.now }
     ensures memory { IsOkUnless result memory_fault }
 {
-    let titles = Titles::new(alloc, inherits)?;
+    let titles = KeptHeadings::new(alloc, inherits)?;
     let seen = Linked {
         files: file_set,
         scopes: inherits,

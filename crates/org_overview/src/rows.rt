@@ -10,7 +10,7 @@ use crate::words::push_name;
 use org_agenda::{Row, RowKind};
 use org_base::{Fault, Texts};
 use org_cal::TimeOfDay;
-use org_client::{FileSet, ReadFile, Titles};
+use org_client::{FileSet, KeptHeadings, ReadFile};
 use org_inherit::{Heading, Inherits};
 use org_page::{Hours, LinkPlace, Row as PageRow, StampPlace, Stand};
 use org_store::Place;
@@ -26,7 +26,7 @@ const STANDARD_INPUT: &str = "-";
 pub(crate) struct Linked<'a, 'b, T: Text> {
     pub(crate) files: &'a FileSet<T>,
     pub(crate) scopes: &'a Inherits<'b>,
-    pub(crate) titles: &'a Titles<'a, 'b>,
+    pub(crate) titles: &'a KeptHeadings<'a, 'b>,
     pub(crate) wish: &'a Wish<'a>,
 }
 
@@ -183,7 +183,7 @@ fn link_path<T: Text>(file: &ReadFile<T>) -> &str {
 fn put_heading(
     alloc: Global,
     shown: &mut PageRow,
-    titles: &Titles<'_, '_>,
+    titles: &KeptHeadings<'_, '_>,
     row: &Row,
 ) -> Result<(), Fault>
     ensures same { OnOk result (shown_mark shown.new ≡ shown_mark shown.old) }

@@ -1,36 +1,38 @@
-//! The words of the titles of files, which are kept where a title is long.
+//! The words of the titles of files and what their planning lines say, which are kept where these are long.
 ghost use Rattle.std.specs.Prelude.{◌≡◌, ◌<◌, length, IfOk, IfSome};
 ghost use Rattle.org_base.specs.Results.{Gives, GivesItems};
-ghost use Rattle.org_client.specs.KeptWords.{AreKept, words_at};
+ghost use Rattle.org_client.specs.KeptHeadings.{AreKept, planning_at, words_at};
 
 use crate::titles::title_words;
+use org_drawer::Planning;
 use org_inherit::{Heading, Inherits};
 use std::alloc::{AllocError, Global};
 use std::marker::Model;
 
-// Words of a longer title are kept.
+// What a longer heading says is kept: one whose line and planning line have more bytes.
 const SHORT: usize = 255;
 
-// A heading by its file and place, and the words of its title.
+// A heading by its file and place, the words of its title, and what its planning line says.
 #[derive(Debug, Drop)]
-pub(crate) struct KeptWords {
+pub(crate) struct KeptHeading {
     file: usize,
     heading: usize,
     words: Vec<u8>,
+    planning: Option<Planning>,
 }
 
-/// The words of the titles of some files. Many rows may be of one heading, so those of long titles are made once, before the
-/// rows are shown. Contracts see what the files say.
+/// The words of the titles of some files, and what the planning lines below them say. Many rows may be of one heading, so
+/// those of long headings are read once, before the rows are shown. Contracts see what the files say.
 #[derive(Drop)]
-pub struct Titles<'a, 'b> {
+pub struct KeptHeadings<'a, 'b> {
     inherits: &'a Inherits<'b>,
-    // Of the long titles, by files and by their headings.
-    kept: Vec<KeptWords>,
+    // Of the long headings, by files and by their places.
+    kept: Vec<KeptHeading>,
 }
 
-impl<'a, 'b> Model for Titles<'a, 'b> {
+impl<'a, 'b> Model for KeptHeadings<'a, 'b> {
     ghost use Rattle.std.specs.Prelude.{List};
-    ghost use Rattle.org_client.specs.KeptWords.{AreKept};
+    ghost use Rattle.org_client.specs.KeptHeadings.{AreKept};
     ghost use Rattle.org_inherit.specs.Scope.{Scope};
 
     ghost Value = { List Scope };
@@ -40,13 +42,16 @@ impl<'a, 'b> Model for Titles<'a, 'b> {
     ghost invariant = { λ t. AreKept t.inherits.now t.kept.items };
 }
 
-impl<'a, 'b> Titles<'a, 'b> {
+impl<'a, 'b> KeptHeadings<'a, 'b> {
     /// Those of these files.
-    pub fn new(alloc: Global, inherits: &'a Inherits<'b>) -> Result<Titles<'a, 'b>, AllocError>
+    pub fn new(
+        alloc: Global,
+        inherits: &'a Inherits<'b>,
+    ) -> Result<KeptHeadings<'a, 'b>, AllocError>
         ensures value { Gives result inherits.now }
     {
-        let kept = long_titles(alloc, inherits)?;
-        Ok(Titles { inherits, kept })
+        let kept = long_headings(alloc, inherits)?;
+        Ok(KeptHeadings { inherits, kept })
     }
 
     /// What the files say.
@@ -61,14 +66,25 @@ impl<'a, 'b> Titles<'a, 'b> {
         ensures value { GivesItems result (words_at self.now file heading) }
     {
         match self.find(file, heading) {
-            Some(words) => Vec::from_slice(alloc, words),
+            Some(kept) => Vec::from_slice(alloc, kept.words.as_slice()),
             None => words_at(alloc, self.inherits, file, heading),
         }
     }
 
-    // Those that are kept.
-    fn find(&self, file: usize, heading: usize) -> Option<&[u8]>
-        ensures some { IfSome result (λ words. words.now ≡ words_at self.now file heading) }
+    // What the planning line of a heading of a file says, by their places; nothing where it isn't there.
+    pub(crate) fn planning(&self, file: usize, heading: usize) -> Option<Planning>
+        ensures value { result ≡ planning_at self.now file heading }
+    {
+        match self.find(file, heading) {
+            Some(kept) => kept.planning,
+            None => planning_at(self.inherits, file, heading),
+        }
+    }
+
+    // What is kept of a heading.
+    fn find(&self, file: usize, heading: usize) -> Option<&KeptHeading>
+        ensures words { IfSome result (λ kept. kept.now.words.items ≡ words_at self.now file heading) }
+        ensures planning { IfSome result (λ kept. kept.now.planning ≡ planning_at self.now file heading) }
     {
         let place = self
             .kept
@@ -78,11 +94,11 @@ impl<'a, 'b> Titles<'a, 'b> {
         if kept.file != file || kept.heading != heading {
             return None;
         }
-        Some(kept.words.as_slice())
+        Some(kept)
     }
 }
 
-fn is_before(kept: &KeptWords, file: usize, heading: usize) -> bool {
+fn is_before(kept: &KeptHeading, file: usize, heading: usize) -> bool {
     kept.file < file || (kept.file == file && kept.heading < heading)
 }
 
@@ -100,8 +116,21 @@ fn words_at(
     }
 }
 
-// The words of all long titles.
-fn long_titles(alloc: Global, inherits: &Inherits<'_>) -> Result<Vec<KeptWords>, AllocError>
+fn planning_at(inherits: &Inherits<'_>, file: usize, heading: usize) -> Option<Planning>
+    ensures value { result ≡ planning_at inherits.now file heading }
+{
+    if file >= inherits.count() {
+        return None;
+    }
+    let outline = inherits.get(file).outline();
+    if heading >= outline.count() {
+        return None;
+    }
+    outline.entry(heading).planning()
+}
+
+// Those of all long headings.
+fn long_headings(alloc: Global, inherits: &Inherits<'_>) -> Result<Vec<KeptHeading>, AllocError>
     ensures value { IfOk result (λ kept. AreKept inherits.now kept.items) }
 {
     let mut kept = Vec::new(alloc);
@@ -113,7 +142,7 @@ fn long_titles(alloc: Global, inherits: &Inherits<'_>) -> Result<Vec<KeptWords>,
 
 fn push_file(
     alloc: Global,
-    kept: &mut Vec<KeptWords>,
+    kept: &mut Vec<KeptHeading>,
     inherits: &Inherits<'_>,
     file: usize,
 ) -> Result<(), AllocError>
@@ -129,7 +158,7 @@ fn push_file(
 
 fn push_long(
     alloc: Global,
-    kept: &mut Vec<KeptWords>,
+    kept: &mut Vec<KeptHeading>,
     inherits: &Inherits<'_>,
     file: usize,
     heading: usize,
@@ -141,17 +170,18 @@ fn push_long(
         return Ok(());
     }
     let words = words_at(alloc, inherits, file, heading)?;
-    kept.push(KeptWords {
+    kept.push(KeptHeading {
         file,
         heading,
         words,
+        planning: planning_at(inherits, file, heading),
     })?;
     Ok(())
 }
 
 fn is_long(inherits: &Inherits<'_>, file: usize, heading: usize) -> bool {
     match Heading::find(inherits, file, heading) {
-        Some(heading) => heading.title().len() > SHORT,
+        Some(heading) => heading.entry.text.as_slice().len() > SHORT,
         None => false,
     }
 }
