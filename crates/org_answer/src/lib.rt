@@ -15,11 +15,11 @@
 //! Lines of `orgq/src/session.rt`. Tests: worked cases `tests/orgq`.
 #![tactic(auto)]
 
+mod any_row;
 mod calendar;
 mod chart;
 mod clocks;
 mod expression;
-mod has_row;
 mod hours;
 mod ical;
 mod labels;
@@ -38,10 +38,10 @@ mod table;
 mod view;
 mod words;
 
+pub use any_row::has_row;
 pub use calendar::{Calendar, Canvas, View};
 pub use clocks::clock_lines;
 pub use expression::read_expression;
-pub use has_row::has_row;
 pub use hours::day_picture;
 pub use ical::{Ical, ical_of};
 pub use limits::lines_within;

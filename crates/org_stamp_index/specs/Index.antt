@@ -29,9 +29,9 @@ kept_of p s = (is_reminding s, reach_of p s.stamp)
 abbrev pub AreKeptAlike : Profile → FileSettings → Entry → Entry → Type 0
 AreKeptAlike p settings e d = map (kept_of p) (active_stamps settings e) ≡ map (kept_of p) (active_stamps settings d)
 
--- it is where the answer is yes
-abbrev pub AreKeptAlikeIf : Profile → FileSettings → Entry → Entry → Bool → Type 0
-AreKeptAlikeIf p settings e d answer = answer ≡ true → AreKeptAlike p settings e d
+-- in an index it is where the answer is yes
+abbrev pub AreKeptAlikeIf : StampIndex → Entry → Entry → Bool → Type 0
+AreKeptAlikeIf x e d answer = answer ≡ true → AreKeptAlike x.profile x.settings.value e d
 
 -- the same of entries, with the first id of each
 abbrev pub all_ids : Profile → (EntryStamp → Bool) → FileSettings → List ℕ → List Entry → List (ℕ × Reach)

@@ -9,7 +9,7 @@ use org_index::Reach;
 
 // Whether there are as many of the ones as of the others, and of each the same is kept as of the one in its place of the list.
 pub(crate) fn are_alike(profile: Profile, stamps: &[EntryStamp], others: &[EntryStamp]) -> bool
-    ensures alike { result ≡ true → map (kept_of profile) stamps.now ≡ map (kept_of profile) others.now }
+    ensures same { result ≡ true → map (kept_of profile) stamps.now ≡ map (kept_of profile) others.now }
 {
     if stamps.len() != others.len() {
         return false;

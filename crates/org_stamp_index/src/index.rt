@@ -102,7 +102,7 @@ impl StampIndex {
         entry: &Entry,
         other: &Entry,
     ) -> Result<bool, AllocError>
-        ensures alike { IfOk result (AreKeptAlikeIf self.now.profile self.now.settings.value entry.now other.now) }
+        ensures alike { IfOk result (AreKeptAlikeIf self.now entry.now other.now) }
     {
         let settings = self.settings.as_ref();
         let mut stamps = Vec::new(alloc);

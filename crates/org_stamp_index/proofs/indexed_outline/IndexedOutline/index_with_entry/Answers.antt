@@ -14,7 +14,7 @@ returns-then-branch c =
     slice_get_read c.args.self.now (length c.args.self.now) c.args.place before refl c.requires.within (search rules) in
     let own = c.as_ref-2.result.now in
     let told : AreKeptAlike own.profile own.settings.value before c.args.entry.now =
-    when_ok c.keeps_alike.result (AreKeptAlikeIf own.profile own.settings.value before c.args.entry.now) c.in_ok-ok.field-0 c.keeps_alike.ensures.alike (sym c.ok.ensures.value ∙ c.in_ok-ok.was) c.if-branch.true in
+    when_ok c.keeps_alike.result (AreKeptAlikeIf own before c.args.entry.now) c.in_ok-ok.field-0 c.keeps_alike.ensures.alike (sym c.ok.ensures.value ∙ c.in_ok-ok.was) c.if-branch.true in
     let alike : AreKeptAlike x.profile x.settings.value before c.args.entry.now =
     subst (λ (y : StampIndex). AreKeptAlike y.profile y.settings.value before c.args.entry.now) c.as_ref-2.ensures told in
     record { value = set_alike x.settings.value c.args.self.now c.args.place before c.args.entry.now x c.requires.is there alike }

@@ -3,7 +3,7 @@ use Rattle.std.specs.List.{list_any}
 use Rattle.org_answer.specs.Limits.{is_row}
 use Rattle.org_answer.proofs.RowLemmas.{lines_from}
 use Rattle.org_layout.specs.Shown.{lines_of}
-use Rattle.org_answer.proofs.has_row.agenda_has_row.Given as goal
+use Rattle.org_answer.proofs.any_row.agenda_has_row.Given as goal
 
 -- the days that are left tell it
 abbrev pub invariant-loop-ahead : goal.invariant-loop-ahead

@@ -2,7 +2,7 @@ use Rattle.std.proofs.Common.{subst, sym}
 use Rattle.org_answer.specs.Asked.{TellsNext, TellsQuery, TellsSince}
 use Rattle.org_answer.specs.declared.query.Query.{Query}
 use Rattle.org_answer.specs.declared.view.Chosen.{Chosen}
-use Rattle.org_answer.proofs.has_row.has_row.Goals as goal
+use Rattle.org_answer.proofs.any_row.has_row.Goals as goal
 
 pub returns-in-Next : goal.returns-in-Next
 returns-in-Next c =

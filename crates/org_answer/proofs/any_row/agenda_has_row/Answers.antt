@@ -1,6 +1,6 @@
 use Rattle.std.proofs.Common.{◌<◌, ◌≤◌, arith}
 use Rattle.org_answer.proofs.RowLemmas.{begins, found_ahead, none_ahead, nothing_ahead}
-use Rattle.org_answer.proofs.has_row.agenda_has_row.Goals as goal
+use Rattle.org_answer.proofs.any_row.agenda_has_row.Goals as goal
 
 pub loop-ahead-init : goal.loop-ahead-init
 loop-ahead-init c = begins c.args.agenda.now
