@@ -65,7 +65,7 @@ one_version() {
     version=$(cat "$here/VERSION")
     cd "$here" && grep -qx "pkgver=$version" contrib/aur/PKGBUILD && grep -qx "## $version" CHANGELOG.md &&
         grep -q "orgviews $version 2" crates/org_engine/src/engine.rt &&
-        grep -qx "$version" crates/orgq/src/arguments.rt && grep -qx "$version" crates/orgviews/src/arguments.rt &&
+        grep -qx "$version" crates/orgq_args/src/arguments.rt && grep -qx "$version" crates/orgviews/src/arguments.rt &&
         [ "$(grep -ohE 'orgviews[-_][0-9.]+[0-9]' README.md | sed 's/orgviews.//' | sort -u)" = "$version" ]
 }
 check "VERSION, the change log, README, the recipes, the reply to version and --version say one version" one_version

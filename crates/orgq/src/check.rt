@@ -1,16 +1,11 @@
 //! The command that says what looks planned and will not show.
 
-use crate::checked::CheckedFiles;
-use crate::exit::{BAD_ARGUMENTS, check_status};
-use crate::findings::report_of;
-use crate::options::without_rows;
-use crate::out::print_all;
-use crate::problem::Problem;
-use crate::say::say;
-use crate::sources::{Reading, load_all, paths};
 use clap::ArgMatches;
 use org_cal::Moment;
 use org_check::{Form, Selection, Severity, Wanted, kind_names, unknown_kind};
+use orgq_args::without_rows;
+use orgq_files::{CheckedFiles, Reading, load_all, paths, report_of};
+use orgq_messages::{BAD_ARGUMENTS, Problem, check_status, print_all, say};
 use std::alloc::{AllocError, Global};
 use std::rt::{Env, Files};
 

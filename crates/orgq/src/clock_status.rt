@@ -1,16 +1,14 @@
 //! What a status bar shows of the clock that runs.
 
-use crate::exit::status_of;
-use crate::options::{property_names, texts};
-use crate::out::print_all;
-use crate::problem::Problem;
-use crate::sources::{Reading, load_all, paths};
 use clap::ArgMatches;
 use org_answer::{PrintOptions, running_clocks, running_lines};
 use org_base::Fault;
 use org_cal::Moment;
 use org_client::{FileSet, LoadReport};
 use org_text::Whole;
+use orgq_args::{property_names, texts};
+use orgq_files::{Reading, load_all, paths};
+use orgq_messages::{Problem, print_all, status_of};
 use std::alloc::Global;
 use std::mem::forget;
 use std::rt::{Env, Files};

@@ -1,17 +1,14 @@
 //! The command that lists clock lines.
 
-use crate::ask::asked_period;
-use crate::exit::status_of;
-use crate::options::{property_names, texts};
-use crate::out::print_all;
-use crate::problem::Problem;
-use crate::sources::{Reading, load_all, paths};
 use clap::ArgMatches;
 use org_answer::{PrintOptions, clock_lines};
 use org_base::Fault;
 use org_cal::{Day, Period};
 use org_client::{FileSet, LoadReport, clock_rows, shown_clocks};
 use org_text::Whole;
+use orgq_args::{asked_period, property_names, texts};
+use orgq_files::{Reading, load_all, paths};
+use orgq_messages::{Problem, print_all, status_of};
 use std::alloc::Global;
 use std::rt::{Env, Files};
 

@@ -1,17 +1,13 @@
 //! A run with the settings of the file `config`.
 
-use crate::arguments::command;
-use crate::config::{Config, Unread, no_config, read_config};
-use crate::environment::{Variable, value_of};
-use crate::exit::BAD_ARGUMENTS;
-use crate::joined::joined_values;
-use crate::problem::{Problem, report_problem};
-use crate::say::{out_of_memory, say_of};
 use crate::session::run;
-use crate::setting::{NamedChoices, words_with};
 use crate::shown_config::show_config;
-use crate::usage::parser_said;
 use clap::ArgMatches;
+use orgq_args::{command, joined_values, parser_said};
+use orgq_files::{Config, NamedChoices, Unread, no_config, read_config, words_with};
+use orgq_messages::{
+    BAD_ARGUMENTS, Problem, Variable, out_of_memory, report_problem, say_of, value_of,
+};
 use std::fs::File;
 use std::rt::{Env, Files};
 use std::time::Clock;

@@ -1,14 +1,10 @@
 //! The command that shows a view anew whenever a file changed or a minute passed.
 
-use crate::arguments::is_command;
-use crate::exit::{BAD_ARGUMENTS, STOPPED};
-use crate::file_list::INPUT;
-use crate::files::push_paths;
-use crate::filters::Filters;
-use crate::problem::Problem;
 use crate::session::answer_query;
-use crate::sources::paths;
 use clap::ArgMatches;
+use orgq_args::{Filters, is_command};
+use orgq_files::{INPUT, paths, push_paths};
+use orgq_messages::{BAD_ARGUMENTS, Problem, STOPPED};
 use std::alloc::AllocError;
 use std::fs::File;
 use std::io::{Write, writer};

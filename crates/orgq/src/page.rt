@@ -1,13 +1,6 @@
 //! The command that writes a page.
 ghost use Rattle.org_client.specs.Files.{AreRead};
 
-use crate::exit::{UNWRITTEN, status_of, unsaved_status};
-use crate::options::{profile, texts};
-use crate::out::print_all;
-use crate::problem::Problem;
-use crate::say::{out_of_memory, say_of};
-use crate::sources::{Reading, load_all, paths};
-use crate::unwritten::{report_unfit, report_unmade, say_saved, say_unsaved};
 use clap::ArgMatches;
 use org_answer::{Form, PrintOptions};
 use org_base::Fault;
@@ -17,6 +10,12 @@ use org_overview::{Look, Wish, overview_text};
 use org_page::{LinkTemplate, PLAIN_LINK, is_page};
 use org_save::{Cause, Disk, Name, Store, Unfit, open, replace};
 use org_text::Whole;
+use orgq_args::{profile, texts};
+use orgq_files::{Reading, load_all, paths};
+use orgq_messages::{
+    Problem, UNWRITTEN, out_of_memory, print_all, report_unfit, report_unmade, say_of, say_saved,
+    say_unsaved, status_of, unsaved_status,
+};
 use std::alloc::Global;
 use std::fs::{File, OpenFile, OpenOptions};
 use std::rt::{Env, Files};

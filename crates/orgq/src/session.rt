@@ -1,25 +1,11 @@
 //! One question, from the arguments to the exit status.
 ghost use Rattle.org_client.specs.Files.{AreRead};
 
-use crate::act::act;
-use crate::ask::{read_filters, read_question};
-use crate::calendar::columns_for;
 use crate::check::check_files;
-use crate::clock::{now, typed_moment};
 use crate::clock_status::print_status;
 use crate::clocks::print_clocks;
-use crate::environment::{Variable, value_of};
-use crate::exit::status_of;
-use crate::filters::Filters;
 use crate::follow::follow;
-use crate::keywords::say_unknown;
-use crate::options::{
-    form, is_colored, named_form, profile, property_names, property_words, texts, without_rows,
-};
-use crate::out::print_all;
 use crate::page::print_page;
-use crate::problem::{Problem, report_problem};
-use crate::sources::{Reading, load_all, paths};
 use crate::words::print_words;
 use clap::ArgMatches;
 use org_answer::{
@@ -31,6 +17,13 @@ use org_cal::Moment;
 use org_client::{FileSet, LoadReport};
 use org_inherit::Inherits;
 use org_text::Whole;
+use orgq_acts::act;
+use orgq_args::{
+    Filters, columns_for, form, is_colored, named_form, now, profile, property_names,
+    property_words, read_filters, read_question, texts, typed_moment, without_rows,
+};
+use orgq_files::{Reading, load_all, paths, say_unknown};
+use orgq_messages::{Problem, Variable, print_all, report_problem, status_of, value_of};
 use std::alloc::Global;
 use std::fs::File;
 use std::mem::forget;

@@ -1,17 +1,12 @@
 //! What counts, and from where.
 
-use crate::config::Config;
 use crate::counted::names_file;
-use crate::environment::{Variable, value_of};
-use crate::exit::status_of;
-use crate::file_list::{listed_word, path_of, read_list};
-use crate::options::{named_form, without_rows};
-use crate::out::print_all;
-use crate::problem::Problem;
-use crate::setting::{Choice, NamedChoices};
 use clap::ArgMatches;
 use org_answer::Form;
 use org_client::{Escape, push_visible};
+use orgq_args::{named_form, without_rows};
+use orgq_files::{Choice, Config, NamedChoices, listed_word, path_of, read_list};
+use orgq_messages::{Problem, Variable, print_all, status_of, value_of};
 use std::alloc::{AllocError, Global};
 use std::rt::{Env, Files};
 

@@ -1,15 +1,13 @@
 //! The command that lists keywords or tags.
 
-use crate::exit::status_of;
-use crate::options::named_form;
-use crate::out::print_all;
-use crate::problem::Problem;
-use crate::sources::{Reading, load_all, paths};
 use clap::ArgMatches;
 use org_answer::{WordKind, word_lines, words_of};
 use org_base::Texts;
 use org_client::FileSet;
 use org_text::Whole;
+use orgq_args::named_form;
+use orgq_files::{Reading, load_all, paths};
+use orgq_messages::{Problem, print_all, status_of};
 use std::rt::{Env, Files};
 
 /// Prints the words of the files that the arguments name, each once, and gives the exit status; control characters so that

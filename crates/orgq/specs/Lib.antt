@@ -1,5 +1,0 @@
-pub mod Amending
-pub mod Examples
-pub mod Exit
-pub mod Keywords
-pub mod Settings

@@ -1,0 +1,218 @@
+//! An act on a file, and what is printed of it.
+ghost use Rattle.std.specs.Prelude.{◌≡◌, string_bytes};
+ghost use Rattle.org_act.specs.Changes.{LiesIn};
+ghost use Rattle.orgq_acts.specs.Amending.{Ends, Stays};
+
+use crate::heading::HeadingText;
+use crate::refusals::say_unamended;
+use org_act::{Act, Amended, ClockStep, OwnedChange, Unamended, amend, with_change};
+use org_answer::push_seen;
+use org_save::{Saved, Store};
+use org_stamp::is_planning;
+use orgq_args::WishedAct;
+use orgq_messages::{out_of_memory, print_all, unamended_status};
+use std::alloc::{AllocError, Global};
+use std::str;
+
+/// How an act ended: the exit status, and how the text was written, if it was.
+#[derive(Clone, Copy, Debug)]
+pub struct Ending {
+    pub status: u8,
+    pub saved: Option<Saved>,
+}
+
+/// Does an act to a heading's file that had the text which was read, prints the heading's line as it was and as it is, or its
+/// line and that of its clock, or says why the act wasn't done.
+pub fn carry_out<R: AllocGlobal + Print + Eprint, S: Store, A: Act>(
+    rt: &R,
+    store: &mut S,
+    heading: &HeadingText,
+    act: &A,
+) -> Ending
+    ensures ok { Ends result (A.amended act.now) heading.now (S.events store.old) (S.events store.new) }
+    ensures whole { Stays (A.amended act.now) heading.now (S.events store.old) (S.events store.new) }
+{
+    match amend(rt.alloc(), store, heading.text.as_str(), act) {
+        Ok(Amended { change, saved }) => Ending {
+            status: print_change(rt, heading, &change),
+            saved: Some(saved),
+        },
+        Err(why) => Ending {
+            status: report_unamended(rt, heading, why),
+            saved: None,
+        },
+    }
+}
+
+/// Prints what an act would do, or says why it is refused, and gives the exit status. It can't write any file.
+pub fn try_out<R: AllocGlobal + Print + Eprint, A: Act>(
+    rt: &R,
+    heading: &HeadingText,
+    act: &A,
+) -> u8 {
+    match act.plan(rt.alloc(), heading.text.as_str()) {
+        Ok(change) => print_change(rt, heading, &change),
+        Err(why) => report_unamended(rt, heading, Unamended::Refused(why)),
+    }
+}
+
+/// Says why an act would be refused, and gives the exit status; none where it wouldn't be.
+pub fn report_refusal<R: AllocGlobal + Eprint, A: Act>(
+    rt: &R,
+    heading: &HeadingText,
+    act: &A,
+) -> Option<u8> {
+    match act.plan(rt.alloc(), heading.text.as_str()) {
+        Ok(_change) => None,
+        Err(why) => Some(report_unamended(rt, heading, Unamended::Refused(why))),
+    }
+}
+
+// Says why an act wasn't done, and gives the exit status.
+#[tactic(auto, using(orgq_messages::proofs::ExitLemmas::never_0))]
+fn report_unamended<R: AllocGlobal + Eprint>(rt: &R, heading: &HeadingText, why: Unamended) -> u8
+    ensures refused { result ≡ 0 → ⊥ }
+{
+    say_unamended(rt, heading, &why);
+    unamended_status(&why)
+}
+
+// Prints the heading's line without and with a change, and gives the exit status.
+fn print_change<R: AllocGlobal + Print + Eprint>(
+    rt: &R,
+    heading: &HeadingText,
+    change: &OwnedChange,
+) -> u8
+    requires within { LiesIn (string_bytes heading.now.text) change.now }
+{
+    if heading.look.is_quiet {
+        return 0;
+    }
+    match change_lines(rt.alloc(), heading, change) {
+        Ok(lines) => print_all(rt, lines.as_slice(), 0),
+        Err(_) => out_of_memory(rt),
+    }
+}
+
+fn change_lines(
+    alloc: Global,
+    heading: &HeadingText,
+    change: &OwnedChange,
+) -> Result<Vec<u8>, AllocError>
+    requires within { LiesIn (string_bytes heading.now.text) change.now }
+{
+    let new = with_change(alloc, heading.text.as_bytes(), change)?;
+    let new = str::from_utf8(&new).unwrap_or("");
+    let mut lines = Vec::new(alloc);
+    let old = heading.text.as_str();
+    match &heading.act {
+        WishedAct::Keyword(_) => {
+            push_line(alloc, &mut lines, heading, old, heading.line)?;
+            push_line(alloc, &mut lines, heading, new, heading.line)?;
+        }
+        WishedAct::Planning(..) => push_planned(alloc, &mut lines, heading, new)?,
+        WishedAct::Addition(_) => push_added(alloc, &mut lines, heading, change)?,
+        // The line that goes is one of the old text.
+        WishedAct::Clock(ClockStep::Cancel) => push_clock(alloc, &mut lines, heading, old, change)?,
+        WishedAct::Clock(_) => push_clock(alloc, &mut lines, heading, new, change)?,
+    }
+    Ok(lines)
+}
+
+// Appends the place and the line of a heading that was added.
+fn push_added(
+    alloc: Global,
+    lines: &mut Vec<u8>,
+    heading: &HeadingText,
+    change: &OwnedChange,
+) -> Result<(), AllocError> {
+    let front = heading
+        .text
+        .as_str()
+        .get(..change.at as usize)
+        .unwrap_or("");
+    let inserted = change.ins.as_str();
+    let entry = inserted.trim_start_matches('\n');
+    let feeds = inserted.len().saturating_sub(entry.len());
+    let before = count_feeds(front).saturating_add(feeds);
+    let place = format!(in alloc; "{}:{}:", heading.name, before.saturating_add(1))?;
+    push_seen(lines, place.as_str(), heading.look.is_seen)?;
+    let line = line_of(entry, 1);
+    push_seen(lines, line, heading.look.is_seen)?;
+    lines.push(b'\n')?;
+    Ok(())
+}
+
+// How many lines end in a text.
+fn count_feeds(text: &str) -> usize {
+    text.bytes().filter(|byte| *byte == b'\n').count()
+}
+
+// Appends the heading's line of a text, and the planning line below it, if one stands there.
+fn push_planned(
+    alloc: Global,
+    lines: &mut Vec<u8>,
+    heading: &HeadingText,
+    text: &str,
+) -> Result<(), AllocError> {
+    push_line(alloc, lines, heading, text, heading.line)?;
+    let below = heading.line.saturating_add(1);
+    if is_planning(line_of(text, below).as_bytes()) {
+        push_line(alloc, lines, heading, text, below)?;
+    }
+    Ok(())
+}
+
+// Appends the heading's line of a text, and the clock line that a change of it is of.
+fn push_clock(
+    alloc: Global,
+    lines: &mut Vec<u8>,
+    heading: &HeadingText,
+    text: &str,
+    change: &OwnedChange,
+) -> Result<(), AllocError> {
+    push_line(alloc, lines, heading, heading.text.as_str(), heading.line)?;
+    match clock_line(text, change.at as usize) {
+        Some(number) => push_line(alloc, lines, heading, text, number),
+        None => Ok(()),
+    }
+}
+
+// Appends a line of a text, with its place in front, if that is wanted.
+fn push_line(
+    alloc: Global,
+    lines: &mut Vec<u8>,
+    heading: &HeadingText,
+    text: &str,
+    number: u64,
+) -> Result<(), AllocError> {
+    let look = heading.look;
+    if look.has_place {
+        let place = format!(in alloc; "{}:{number}:", heading.name)?;
+        push_seen(lines, place.as_str(), look.is_seen)?;
+    }
+    push_seen(lines, line_of(text, number), look.is_seen)?;
+    lines.push(b'\n')?;
+    Ok(())
+}
+
+// The number of the first clock line from that line on which has the byte at a place.
+fn clock_line(text: &str, at: usize) -> Option<u64> {
+    let bytes = text.as_bytes();
+    let front = &bytes[..at.min(bytes.len())];
+    let before = front.iter().filter(|byte| **byte == b'\n').count();
+    let mut number = before as u64;
+    for line in text.lines().skip(before) {
+        number = number.saturating_add(1);
+        if line.trim_start().starts_with("CLOCK:") {
+            return Some(number);
+        }
+    }
+    None
+}
+
+// A line of a text; an empty one where it has not so many.
+fn line_of(text: &str, number: u64) -> &str {
+    let before = number.saturating_sub(1);
+    text.lines().nth(before as usize).unwrap_or("")
+}

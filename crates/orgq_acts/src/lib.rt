@@ -1,0 +1,23 @@
+//! Acts of `orgq` on a person's files: the heading is found, changed in the text that was read, and the file is replaced whole.
+//!
+//! An act that is refused leaves its file as it was; its sentence and its status say why. Behind status 0 the file has the text
+//! that the act makes.
+//!
+//! ```
+//! if let Some(status) = act(rt, matches, moment, on_terminal || is_colored)? {
+//!     return Ok(status);
+//! }
+//! ```
+//!
+//! Lines of `orgq/src/session.rt`. Tests: `tests/orgq.sh`, `tests/saves.sh`.
+#![tactic(auto)]
+
+mod acts;
+mod amending;
+mod clock_act;
+mod heading;
+mod one_match;
+mod refusals;
+mod running;
+
+pub use acts::act;

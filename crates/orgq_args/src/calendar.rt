@@ -1,0 +1,99 @@
+//! Which days a calendar shows, and how.
+
+use crate::options::refused_word;
+use clap::ArgMatches;
+use org_answer::{Calendar, Canvas, Days, View};
+use org_cal::{Day, Moment, Period, Unit};
+use org_look::Signs;
+use orgq_messages::{Problem, Variable, value_of};
+use std::rt::Env;
+
+/// What a command's words draw on, in so many columns.
+pub fn canvas_of(own: &ArgMatches<'_>, columns: u16) -> Canvas {
+    let signs = if own.get_flag("ascii") {
+        Signs::Ascii
+    } else {
+        Signs::Drawn
+    };
+    Canvas { columns, signs }
+}
+
+/// The calendar that words ask for at a moment, in so many columns.
+pub fn asked_calendar(
+    own: &ArgMatches<'_>,
+    moment: &Moment,
+    columns: u16,
+) -> Result<Calendar, Problem> {
+    let (view, date) = match (own.get_str("VIEW"), own.get_str("DATE")) {
+        (Some("month"), date) => (View::Month, date),
+        (Some("week"), date) => (View::Week, date),
+        (date, None) => (View::Month, date),
+        (Some(word), Some(_)) => return Err(refused_word(word, Problem::View)),
+        (None, Some(_)) => return Err(Problem::View),
+    };
+    let day = match date {
+        Some(text) => day_typed(text, moment.day)?,
+        None => moment.day,
+    };
+    let lines = own.get_one::<u32>("lines").unwrap_or(LINES);
+    Ok(Calendar {
+        view,
+        day,
+        days: days_of(view, day)?,
+        lines: lines as usize,
+        canvas: canvas_of(own, columns),
+    })
+}
+
+// How many lines a day of a month takes at most, where none is named.
+const LINES: u32 = 6;
+
+fn day_typed(text: &str, today: Day) -> Result<Day, Problem> {
+    match Period::of_word(text.as_bytes(), today) {
+        Some(period) => Ok(period.first),
+        None => Err(refused_word(text, Problem::Date)),
+    }
+}
+
+// The whole weeks of a view.
+fn days_of(view: View, day: Day) -> Result<Days, Problem> {
+    let days = match view {
+        View::Week => Days::new(day.monday(), 7),
+        View::Month => days_of_month(day),
+    };
+    days.ok_or(Problem::Days)
+}
+
+fn days_of_month(day: Day) -> Option<Days> {
+    let (year, month, _) = day.parts();
+    let first = Day::of(year, month, 1).ok()?;
+    let next = first.add_units(1, Unit::Month)?;
+    let monday = first.monday();
+    let count = next.number().saturating_sub(monday.number());
+    Days::new(monday, count.div_ceil(7) * 7)
+}
+
+// How wide a terminal is where nothing says it.
+const COLUMNS: u16 = 80;
+
+/// How many columns a picture has: those of `--columns`, else those that the environment names, else 80.
+pub fn columns_for<R: AllocGlobal + Env>(rt: &R, matches: &ArgMatches<'_>) -> Result<u16, Problem> {
+    let Some(("calendar" | "agenda", own)) = matches.subcommand() else {
+        return Ok(COLUMNS);
+    };
+    if let Some(columns) = own.get_one::<u32>("columns") {
+        return Ok(columns.min(u32::from(MOST)) as u16);
+    }
+    let Some(text) = value_of(rt, Variable::Columns)? else {
+        return Ok(COLUMNS);
+    };
+    match text.as_str().parse::<u16>() {
+        Ok(columns) if columns > 0 => Ok(columns.clamp(LEAST, MOST)),
+        _ => Ok(COLUMNS),
+    }
+}
+
+// The fewest and the most columns of a picture.
+const LEAST: u16 = 20;
+
+const MOST: u16 = 1000;

@@ -1,0 +1,96 @@
+//! Which headings' rows agendas and what comes next show, and how many rows.
+
+use clap::ArgMatches;
+use org_answer::read_expression;
+use org_base::Fault;
+use org_match::Match;
+use orgq_messages::Problem;
+use std::alloc::Global;
+
+/// What rows are shown: those of headings that meet the expression, have the tags and are of the category, as many as the
+/// limit says; what isn't named leaves out none.
+#[derive(Clone, Copy, Debug)]
+pub struct Filters<'a, 'b> {
+    pub expression: Option<&'a str>,
+    pub tags: Option<&'b [&'a str]>,
+    pub category: Option<&'a str>,
+    pub limit: Option<u32>,
+}
+
+impl<'a, 'b> Filters<'a, 'b> {
+    /// All headings, with as many rows as a limit says.
+    pub fn within(limit: Option<u32>) -> Filters<'a, 'b> {
+        Filters {
+            expression: None,
+            tags: None,
+            category: None,
+            limit,
+        }
+    }
+
+    /// Those of a command's words.
+    pub fn of(matches: &'b ArgMatches<'a>) -> Filters<'a, 'b> {
+        Filters {
+            expression: matches.get_str("match"),
+            tags: matches.get_strs("tag"),
+            category: matches.get_str("category"),
+            limit: matches.get_one::<u32>("limit"),
+        }
+    }
+
+    /// These, and of others what these lack.
+    pub fn or(&self, others: &Filters<'a, 'b>) -> Filters<'a, 'b> {
+        Filters {
+            expression: self.expression.or(others.expression),
+            tags: self.tags.or(others.tags),
+            category: self.category.or(others.category),
+            limit: self.limit.or(others.limit),
+        }
+    }
+
+    /// Whether headings are chosen.
+    pub fn chooses(&self) -> bool {
+        self.expression.is_some() || self.tags.is_some() || self.category.is_some()
+    }
+
+    /// Each of them as an expression, which is read.
+    pub fn expressions(&self, alloc: Global) -> Result<Vec<Match>, Problem> {
+        let mut expressions = Vec::new(alloc);
+        if let Some(expression) = self.expression {
+            add(&mut expressions, read_expression(alloc, expression)?)?;
+        }
+        for tag in self.tags.unwrap_or(&[]) {
+            add(&mut expressions, read_tag(alloc, tag)?)?;
+        }
+        if let Some(category) = self.category {
+            add(&mut expressions, read_category(alloc, category)?)?;
+        }
+        Ok(expressions)
+    }
+}
+
+fn add(expressions: &mut Vec<Match>, expression: Match) -> Result<(), Fault> {
+    expressions.push(expression)?;
+    Ok(())
+}
+
+// That a heading has a tag.
+fn read_tag(alloc: Global, tag: &str) -> Result<Match, Problem> {
+    if tag.is_empty() || !tag.chars().all(is_of_tag) {
+        return Err(Problem::Tag);
+    }
+    Ok(read_expression(alloc, tag)?)
+}
+
+fn is_of_tag(character: char) -> bool {
+    character.is_alphanumeric() || matches!(character, '_' | '@' | '#' | '%')
+}
+
+// That a heading is of a category.
+fn read_category(alloc: Global, category: &str) -> Result<Match, Problem> {
+    if category.contains('"') {
+        return Err(Problem::Category);
+    }
+    let text = format!(in alloc; "CATEGORY=\"{category}\"")?;
+    Ok(read_expression(alloc, text.as_str())?)
+}

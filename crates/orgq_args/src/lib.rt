@@ -1,0 +1,43 @@
+//! What is typed behind `orgq`: commands and their options, read into questions, acts and the forms of answers.
+//!
+//! Each reader answers a value of the crates below or a `Problem`, which names what is wrong; nothing is read from a file but
+//! the time zone.
+//!
+//! ```
+//! let Ok(joined) = joined_values(rt.alloc(), words) else {
+//! // ..
+//! match command.try_get_matches_from(joined.as_slice()) {
+//! ```
+//!
+//! Lines of `orgq/src/main.rt`. Tests: `tests/orgq.sh`.
+#![tactic(auto)]
+
+mod act_arguments;
+mod adding;
+mod arguments;
+mod ask;
+mod calendar;
+mod clock;
+mod filters;
+mod joined;
+mod option_lines;
+mod options;
+mod place;
+mod planning;
+mod usage;
+mod wish;
+
+pub use adding::{WishedHeading, added_place, lend, read_body, wished_heading};
+pub use arguments::{command, is_command};
+pub use ask::{asked_period, read_filters, read_question};
+pub use calendar::columns_for;
+pub use clock::{now, typed_moment};
+pub use filters::Filters;
+pub use joined::joined_values;
+pub use options::{
+    form, is_colored, named_form, profile, property_names, property_words, texts, without_rows,
+};
+pub use place::{HeadingPlace, read_place};
+pub use planning::{planning_keyword, wished_planning};
+pub use usage::parser_said;
+pub use wish::{Look, Wish, WishedAct, WishedKeyword, done_keyword, read_wish, set_keyword};

@@ -1,0 +1,181 @@
+//! What a command that changes a file asks for.
+
+use crate::adding::WishedHeading;
+use crate::options::form;
+use clap::ArgMatches;
+use org_act::{ClockStep, KeywordChoice};
+use org_amend::TypedDate;
+use org_answer::Form;
+use org_cal::Moment;
+use org_stamp::PlanningKeyword;
+use orgq_messages::Problem;
+use std::alloc::{AllocError, Global};
+
+/// What is to be done to a heading.
+#[derive(Debug, Drop)]
+pub enum WishedAct {
+    /// It gets a keyword.
+    Keyword(WishedKeyword),
+    /// It gets a date under a planning keyword, or loses the stamps there.
+    Planning(PlanningKeyword, Option<TypedDate>),
+    /// It is written anew.
+    Addition(WishedHeading),
+    /// Its clock is changed.
+    Clock(ClockStep),
+}
+
+impl WishedAct {
+    /// The word of the keyword, if one is named.
+    pub fn word(&self) -> &str {
+        match self {
+            WishedAct::Keyword(keyword) => keyword.word(),
+            WishedAct::Planning(..) | WishedAct::Clock(_) => "",
+            WishedAct::Addition(heading) => heading.keyword_word(),
+        }
+    }
+
+    /// An equal one.
+    pub fn copy(&self, alloc: Global) -> Result<WishedAct, AllocError> {
+        match self {
+            WishedAct::Keyword(keyword) => Ok(WishedAct::Keyword(keyword.copy(alloc)?)),
+            WishedAct::Planning(keyword, date) => Ok(WishedAct::Planning(*keyword, *date)),
+            WishedAct::Addition(heading) => Ok(WishedAct::Addition(heading.copy(alloc)?)),
+            WishedAct::Clock(step) => Ok(WishedAct::Clock(*step)),
+        }
+    }
+}
+
+/// The keyword that a heading gets.
+#[derive(Debug, Drop)]
+pub enum WishedKeyword {
+    /// This one.
+    Any(String),
+    /// This one, which has to be a done one.
+    Done(String),
+    /// The first done one of its sequence.
+    FirstDone,
+}
+
+impl WishedKeyword {
+    /// The choice that an act makes.
+    pub fn choice(&self) -> KeywordChoice<'_> {
+        match self {
+            WishedKeyword::Any(word) => KeywordChoice::Any(word.as_str()),
+            WishedKeyword::Done(word) => KeywordChoice::Done(word.as_str()),
+            WishedKeyword::FirstDone => KeywordChoice::FirstDone,
+        }
+    }
+
+    /// The word, if one is named.
+    pub fn word(&self) -> &str {
+        match self {
+            WishedKeyword::Any(word) | WishedKeyword::Done(word) => word.as_str(),
+            WishedKeyword::FirstDone => "",
+        }
+    }
+
+    /// An equal one.
+    pub fn copy(&self, alloc: Global) -> Result<WishedKeyword, AllocError> {
+        match self {
+            WishedKeyword::Any(word) => Ok(WishedKeyword::Any(copy_of(alloc, word)?)),
+            WishedKeyword::Done(word) => Ok(WishedKeyword::Done(copy_of(alloc, word)?)),
+            WishedKeyword::FirstDone => Ok(WishedKeyword::FirstDone),
+        }
+    }
+}
+
+fn copy_of(alloc: Global, word: &String) -> Result<String, AllocError> {
+    String::from_str(alloc, word.as_str())
+}
+
+/// How an answer is printed: whether a place stands in front of each line, whether anything is, and whether control
+/// characters are written so that they can be seen.
+#[derive(Clone, Copy, Debug)]
+pub struct Look {
+    pub has_place: bool,
+    pub is_quiet: bool,
+    pub is_seen: bool,
+}
+
+/// What is asked of a heading.
+#[derive(Debug, Drop)]
+pub struct Wish {
+    pub act: WishedAct,
+    /// When it is done.
+    pub moment: Moment,
+    /// The keywords of files that have none of their own.
+    pub keywords: Option<String>,
+    /// Whether nothing is to be written.
+    pub is_dry: bool,
+    pub look: Look,
+}
+
+/// What the arguments ask for, by the words of the command and the act that they name.
+pub fn read_wish(
+    alloc: Global,
+    matches: &ArgMatches<'_>,
+    own: &ArgMatches<'_>,
+    act: WishedAct,
+    moment: Moment,
+) -> Result<Wish, Problem> {
+    let keywords = match matches.get_str("keywords") {
+        Some(words) => Some(String::from_str(alloc, words)?),
+        None => None,
+    };
+    let is_keyword = matches!(act, WishedAct::Keyword(_));
+    Ok(Wish {
+        act,
+        moment,
+        keywords,
+        is_dry: own.get_flag("dry-run"),
+        look: Look {
+            has_place: has_place(matches, is_keyword)?,
+            is_quiet: matches.get_flag("quiet"),
+            is_seen: false,
+        },
+    })
+}
+
+// Whether a place stands in front of each line; the lines are no rows.
+fn has_place(matches: &ArgMatches<'_>, is_keyword: bool) -> Result<bool, Problem> {
+    if matches.get_one::<u32>("days").is_some() {
+        return Err(Problem::DaysOf);
+    }
+    if matches.get_flag("days-too") {
+        return Err(Problem::DaysToo);
+    }
+    match form(matches)? {
+        Form::Plain => Ok(false),
+        Form::Places => Ok(true),
+        Form::Json | Form::Csv | Form::Template(_) if is_keyword => Err(Problem::ActForm),
+        Form::Json | Form::Csv | Form::Template(_) => Err(Problem::LineForm),
+    }
+}
+
+/// The keyword of `done`.
+pub fn done_keyword(alloc: Global, own: &ArgMatches<'_>) -> Result<WishedKeyword, Problem> {
+    match keyword_word(own)? {
+        Some(word) => Ok(WishedKeyword::Done(String::from_str(alloc, word)?)),
+        None => Ok(WishedKeyword::FirstDone),
+    }
+}
+
+/// The keyword of `set`.
+pub fn set_keyword(alloc: Global, own: &ArgMatches<'_>) -> Result<WishedKeyword, Problem> {
+    match keyword_word(own)? {
+        Some(word) => Ok(WishedKeyword::Any(String::from_str(alloc, word)?)),
+        None => Err(Problem::NoKeyword),
+    }
+}
+
+// The word for the keyword: the first one where an expression stands for the place.
+fn keyword_word<'a>(own: &ArgMatches<'a>) -> Result<Option<&'a str>, Problem> {
+    let second = own.get_str("KEYWORD");
+    if own.get_str("match").is_none() {
+        return Ok(second);
+    }
+    match second {
+        Some(_) => Err(Problem::PlaceBeside),
+        None => Ok(own.get_str("PLACE")),
+    }
+}

@@ -1,0 +1,144 @@
+//! Settings of the file `config`, and the words that count.
+ghost use Rattle.std.specs.Prelude.{◌≡◌, map, string_bytes};
+ghost use Rattle.org_base.specs.Results.{GivesText};
+ghost use Rattle.orgq_files.specs.Settings.{AddsWords, GivesWords, choice_name, counted_words, counts, is_named, option_word, own_words};
+
+use std::alloc::{AllocError, Global};
+
+/// An option that may stand in the file.
+#[derive(Clone, Copy, Debug, PartialEq, Eq)]
+pub enum Choice {
+    Color,
+    File,
+    Inherit,
+    Keywords,
+    Profile,
+}
+
+impl Choice {
+    /// The option of a name.
+    pub fn of_name(name: &str) -> Option<Choice> {
+        match name {
+            "color" => Some(Choice::Color),
+            "file" => Some(Choice::File),
+            "inherit" => Some(Choice::Inherit),
+            "keywords" => Some(Choice::Keywords),
+            "profile" => Some(Choice::Profile),
+            _ => None,
+        }
+    }
+
+    /// Its name.
+    pub fn name(self) -> &'static str
+        ensures value { result.now ≡ choice_name self }
+    {
+        match self {
+            Choice::Color => "color",
+            Choice::File => "file",
+            Choice::Inherit => "inherit",
+            Choice::Keywords => "keywords",
+            Choice::Profile => "profile",
+        }
+    }
+
+    /// Whether it may stand several times.
+    pub fn is_list(self) -> bool {
+        matches!(self, Choice::File | Choice::Inherit)
+    }
+}
+
+/// An option with its value, and the number of its line.
+#[derive(Debug, Drop)]
+pub struct Setting {
+    pub choice: Choice,
+    pub value: String,
+    pub line: usize,
+}
+
+/// Which options are named before the file is asked, by the command line or by the environment.
+#[derive(Clone, Copy, Debug, PartialEq, Eq)]
+pub struct NamedChoices {
+    pub color: bool,
+    pub file: bool,
+    pub inherit: bool,
+    pub keywords: bool,
+    pub profile: bool,
+}
+
+impl NamedChoices {
+    /// Whether an option is named.
+    pub fn has(&self, choice: Choice) -> bool
+        ensures value { result ≡ is_named self.now choice }
+    {
+        match choice {
+            Choice::Color => self.color,
+            Choice::File => self.file,
+            Choice::Inherit => self.inherit,
+            Choice::Keywords => self.keywords,
+            Choice::Profile => self.profile,
+        }
+    }
+
+    /// Whether it leaves an option to the file.
+    pub fn leaves(&self, choice: Choice) -> bool
+        ensures value { result ≡ counts self.now choice }
+    {
+        !self.has(choice)
+    }
+}
+
+/// The words of a command line with those settings behind the first word that name no option of it.
+pub fn words_with(
+    alloc: Global,
+    words: &[String],
+    settings: &[Setting],
+    named: &NamedChoices,
+) -> Result<Vec<String>, AllocError>
+    ensures value { GivesWords result (counted_words named.now settings.now words.now) }
+{
+    let mut all = Vec::new(alloc);
+    let Some((program, others)) = words.split_first() else {
+        return Ok(all);
+    };
+    all.push(String::from_str(alloc, program.as_str())?)?;
+    push_settings(alloc, &mut all, settings, named)?;
+    push_words(alloc, &mut all, others)?;
+    Ok(all)
+}
+
+fn push_settings(
+    alloc: Global,
+    all: &mut Vec<String>,
+    settings: &[Setting],
+    named: &NamedChoices,
+) -> Result<(), AllocError>
+    ensures value { AddsWords result all.old all.new (own_words named.now settings.now) }
+{
+    for setting in settings {
+        if named.leaves(setting.choice) {
+            let word = option_word(alloc, setting)?;
+            all.push(word)?;
+        }
+    }
+    Ok(())
+}
+
+fn push_words(alloc: Global, all: &mut Vec<String>, words: &[String]) -> Result<(), AllocError>
+    ensures value { AddsWords result all.old all.new (map string_bytes words.now) }
+{
+    for word in words {
+        all.push(String::from_str(alloc, word.as_str())?)?;
+    }
+    Ok(())
+}
+
+// A setting as a word of a command line.
+fn option_word(alloc: Global, setting: &Setting) -> Result<String, AllocError>
+    ensures value { GivesText result (option_word setting.now.choice (string_bytes setting.now.value)) }
+{
+    let mut word = String::from_str(alloc, "--")?;
+    word.push_str(setting.choice.name())?;
+    word.push_str("=")?;
+    word.push_str(setting.value.as_str())?;
+    Ok(word)
+}

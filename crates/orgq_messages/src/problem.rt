@@ -1,0 +1,252 @@
+//! Why nothing is answered.
+
+use crate::environment::Variable;
+use crate::exit::BAD_ARGUMENTS;
+use crate::standard_error::{out_of_memory, say, visible_text};
+use org_base::{Code, Fault};
+use std::alloc::AllocError;
+use unicode_width::UnicodeWidthStr;
+
+/// Why nothing is answered.
+#[derive(Clone, Copy, Debug)]
+pub enum Problem {
+    /// A form is asked for that what `done` and `set` print doesn't have.
+    ActForm,
+    Block,
+    /// The category of `--category` has a quotation mark.
+    Category,
+    /// Bars are asked for in a form that they don't have.
+    Chart,
+    Clock,
+    /// A form is asked for that the acts of `clock` don't have.
+    ClockForm,
+    Color,
+    Command,
+    /// The file of settings can't be read.
+    Config,
+    /// A form is asked for that what `config` prints doesn't have.
+    ConfigForm,
+    Date,
+    Days,
+    DaysOf,
+    DaysToo,
+    /// A variable of the environment isn't UTF-8.
+    Environment(Variable),
+    /// Fields between commas are asked for, and there are none of what is asked.
+    Fields,
+    /// A file and a heading below which another one goes.
+    FileBeside,
+    Files,
+    /// What chooses rows stands before a command that chooses none.
+    FilterOf,
+    /// Options of some commands stand before follow.
+    FollowFront,
+    /// What standard input says is asked for again and again.
+    FollowInput,
+    /// A command stands behind follow that has no view.
+    FollowOf,
+    /// A template has a brace alone, or a name that no member has.
+    Format,
+    /// A template and another form.
+    FormatBeside,
+    From,
+    /// The hours of several days are asked for.
+    Grid,
+    /// Some rows of a picture are asked for.
+    GridLimit,
+    /// A calendar for other programs is asked for in another form.
+    Ical,
+    Lead,
+    /// The template of a link has a brace alone, or a name that no place has.
+    Link,
+    /// A form is asked for that what a command prints that changes files doesn't have.
+    LineForm,
+    LimitOf,
+    List,
+    Moment,
+    /// A name of a text on standard input, and there is none.
+    Name,
+    /// No date stands behind the place of a heading.
+    NoDate,
+    /// No keyword stands behind the place of a heading.
+    NoKeyword,
+    /// Not one file is named where one is written.
+    OneFile,
+    /// A word says no date that a heading can get.
+    OneDate,
+    /// A word with two hyphens in front names no option of its command.
+    Option,
+    Order,
+    /// A page is asked for in another form.
+    Page,
+    /// A word is no place of a heading.
+    Place,
+    /// A heading is named twice.
+    PlaceBeside,
+    /// Properties in another form than JSON, or without names.
+    Properties,
+    /// What is for rows, of a command that has none.
+    RowsAlone,
+    Severity,
+    Since,
+    SinceBeside,
+    SinceDays,
+    SinceMoment,
+    Step,
+    Tables,
+    Tag,
+    To,
+    /// A calendar is asked for of something else than a month or a week.
+    View,
+    Zone,
+    Fault(Fault),
+}
+
+impl From<Fault> for Problem {
+    fn from(fault: Fault) -> Problem {
+        Problem::Fault(fault)
+    }
+}
+
+impl From<AllocError> for Problem {
+    fn from(refused: AllocError) -> Problem {
+        Problem::Fault(Fault::from(refused))
+    }
+}
+
+impl Problem {
+    /// What standard error says of it.
+    fn why(self) -> &'static str {
+        match self {
+            Problem::ActForm => "done and set print lines: --json and --csv are no forms of theirs",
+            Problem::Block => NO_BLOCK,
+            Problem::Category => "a category of --category has no quotation mark in it",
+            Problem::Chart => "--chart has lines alone, without -n, --json, --csv and --format",
+            Problem::Clock => {
+                "neither clock nor time zone can be read (TZ, /etc/localtime): --at names the moment"
+            }
+            Problem::ClockForm => {
+                "clock in, out and cancel print lines: --json, --csv and --format are no forms of theirs"
+            }
+            Problem::Color => "--color is auto, always or never",
+            Problem::Command => "no such command; for a file or folder write -f before its name",
+            Problem::Config => {
+                "the file of settings, orgq/config in XDG_CONFIG_HOME or ~/.config, can't be read as a file of UTF-8"
+            }
+            Problem::ConfigForm =>
+                "config has lines alone, without -n, --json, --csv and --days-too",
+            Problem::Date => {
+                "no such date; there are today, tomorrow, yesterday, mon to sun, such as +3d, -1w, +2m, 2024-02-28, and the blocks thisweek, nextweek, lastweek, thismonth and so on, 2024-W09, 2024-02"
+            }
+            Problem::Days => "days past 9999-12-31",
+            Problem::DaysOf => "-d is an option of agenda, ical, next and page",
+            Problem::DaysToo => "--days-too is for --json",
+            Problem::Environment(variable) => variable.why(),
+            Problem::Fields => "--csv is no form of check, which has lines and --json",
+            Problem::FileBeside => "--under names the file too: without -f",
+            Problem::OneFile => "add writes one file: -f FILE, or --under FILE:LINE",
+            Problem::Files =>
+                "no files: name them by -f, ORGQ_FILES, ~/.config/orgq/config or ~/.config/orgq/files",
+            Problem::FilterOf =>
+                "--match, --tag and --category are options of agenda, calendar, ical and next",
+            Problem::FollowFront => "files without -f and options of rows stand after follow",
+            Problem::FollowInput =>
+                "follow reads files again and again, and standard input only once",
+            Problem::FollowOf => {
+                "follow shows agenda, calendar, todo, match, clock, clocks, next, keywords, tags or check, and no other command"
+            }
+            Problem::Format => NO_FORMAT,
+            Problem::FormatBeside => "--format goes neither with --json nor with --csv nor with -n",
+            Problem::Grid => "--grid shows one day",
+            Problem::GridLimit => "--grid shows all rows of a day, without --limit",
+            Problem::Ical => "ical has one form, without -n, --json, --csv and --format",
+            Problem::From => "--from names the first day in place of a block",
+            Problem::Lead => "--lead wants --since",
+            Problem::Link =>
+                "--link has places in braces, {file}, {name}, {line} and {before}, and other braces twice",
+            Problem::LineForm => "this command prints lines: --json and --csv are no forms of its",
+            Problem::LimitOf => "--limit is an option of agenda, ical, next, todo and match",
+            Problem::List => {
+                "the list of files, orgq/files in XDG_CONFIG_HOME or ~/.config, can't be read as a file of UTF-8"
+            }
+            Problem::Moment => {
+                "no such moment: --at takes one as \"2024-02-28 10:30\" or \"tomorrow 9:00\""
+            }
+            Problem::Name => "--name names the text of -f -",
+            Problem::NoDate => "schedule and deadline take a date or none: schedule FILE:LINE DATE",
+            Problem::OneDate => NO_DATE,
+            Problem::NoKeyword => "set takes a keyword: set FILE:LINE KEYWORD",
+            Problem::Place => "a heading is named by FILE:LINE, as -n prints it, or by --match",
+            Problem::PlaceBeside => "a heading is named either by FILE:LINE or by --match",
+            Problem::Option => "no such option of this command; --help behind it names them",
+            Problem::Order => "the day of --to is before that of --from",
+            Problem::Page => "page has one form, without -n, --json, --csv and --format",
+            Problem::Properties => {
+                "--properties takes names with commas between them, and goes with --json"
+            }
+            Problem::RowsAlone =>
+                "--format and --properties are for rows, which this command has none of",
+            Problem::Severity => "--severity is error, warning or note",
+            Problem::Since => "--since names a moment after the one that is now",
+            Problem::SinceBeside => "--since goes neither with -d nor with --within",
+            Problem::SinceDays => "--since is more than 366 days back",
+            Problem::SinceMoment => {
+                "no such moment: --since takes one as \"2024-02-28 10:30\" or \"yesterday 9:00\""
+            }
+            Problem::Step => "--step is day or week",
+            Problem::Tables => "--step cuts these days into more than 366 tables",
+            Problem::Tag => "no such tag: a tag has letters, digits, _, @, # and %",
+            Problem::To => "--to wants --from",
+            Problem::View => "calendar shows a month or a week, and the day after it",
+            Problem::Zone => "TZ leads out of the folder of time zones",
+            Problem::Fault(fault) => why_code(fault.code()),
+        }
+    }
+}
+
+const NO_BLOCK: &str =
+    "no such block of time; there are today, yesterday, thisweek, lastweek, nextweek, and so month and year, such as 2024, 2024-Q1, 2024-02, 2024-W09, 2024-02-28, and such days as -1d";
+
+const NO_DATE: &str =
+    "no such date; there are today, tomorrow, yesterday, mon to sun, such as +3d, -1w, +2m, 2024-02-28, and a time behind it, 9:30 or 9:30-10:15";
+
+const NO_FORMAT: &str =
+    "--format takes names of members in braces, and {{ and }} for braces; there are kind, day, start, end, days, day_of, days_in, file, line, byte, stamp, stamp_line, stamp_column, category, level, keyword, done, priority, title, words, tags, scheduled, deadline, closed, effort, path, from, to, clock, minutes, text";
+
+fn why_code(code: Code) -> &'static str {
+    match code {
+        Code::Option => NO_BLOCK,
+        Code::Regexp => {
+            "a pattern in braces is refused: patterns are those of the regex crate, of at most some size"
+        }
+        Code::Long => "an expression of over 65,536 bytes",
+        code => code.name(),
+    }
+}
+
+/// Says why nothing was answered, and gives the status; of an expression also where it is none, by a caret below it.
+pub fn report_problem<R: Eprint + AllocGlobal>(rt: &R, problem: Problem, expression: &str) -> u8 {
+    match problem {
+        Problem::Fault(fault) if fault.code() == Code::Memory => out_of_memory(rt),
+        Problem::Fault(Fault::MatchAt(at)) => point_at(rt, expression, at as usize),
+        _ => {
+            say(rt, problem.why());
+            BAD_ARGUMENTS
+        }
+    }
+}
+
+// Shows an expression with a caret below the character after the bytes that still begin one.
+fn point_at<R: Eprint + AllocGlobal>(rt: &R, expression: &str, at: usize) -> u8 {
+    let before = expression.get(..at).unwrap_or(expression);
+    let Some(before) = visible_text(rt.alloc(), before) else {
+        return out_of_memory(rt);
+    };
+    let Some(whole) = visible_text(rt.alloc(), expression) else {
+        return out_of_memory(rt);
+    };
+    let width = before.as_str().width().saturating_add(13);
+    let _ = eprintln!(rt; "orgq: match {whole}");
+    let _ = eprintln!(rt; "{:>width$}", "^");
+    BAD_ARGUMENTS
+}
