@@ -6,8 +6,8 @@ use org_base::Fault;
 use org_cal::Moment;
 use org_client::{FileSet, LoadReport};
 use org_text::Whole;
-use orgq_args::{property_names, texts};
-use orgq_files::{Reading, load_all, paths};
+use orgq_args::property_names;
+use orgq_files::{Asked, asked_files};
 use orgq_messages::{Problem, print_all, status_of};
 use std::alloc::Global;
 use std::mem::forget;
@@ -23,10 +23,7 @@ pub fn print_status<R: AllocGlobal + Files + Env + Input + Print + Eprint + Clon
     if matches.get_one::<u32>("days").is_some() {
         return Err(Problem::DaysOf);
     }
-    let inherited = texts(rt.alloc(), matches.get_strs("inherit"))?;
-    let mut file_set: FileSet<Whole> = FileSet::new(rt.alloc(), inherited);
-    let paths = paths(rt, matches, &[])?;
-    let left_out = load_all(rt, &mut file_set, paths.as_slice(), &Reading::of(matches))?;
+    let Asked { file_set, left_out } = asked_files(rt, matches)?;
     let lines = status_bytes(rt.alloc(), &file_set, moment, look)?;
     // The program ends soon.
     forget(file_set);

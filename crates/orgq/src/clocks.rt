@@ -6,8 +6,8 @@ use org_base::Fault;
 use org_cal::{Day, Period};
 use org_client::{FileSet, LoadReport, clock_rows, shown_clocks};
 use org_text::Whole;
-use orgq_args::{asked_period, property_names, texts};
-use orgq_files::{Reading, load_all, paths};
+use orgq_args::{asked_period, property_names};
+use orgq_files::{Asked, asked_files};
 use orgq_messages::{Problem, print_all, status_of};
 use std::alloc::Global;
 use std::rt::{Env, Files};
@@ -24,10 +24,7 @@ pub fn print_clocks<R: AllocGlobal + Files + Env + Input + Print + Eprint + Clon
         return Err(Problem::DaysOf);
     }
     let period = asked_period(own, today)?;
-    let inherited = texts(rt.alloc(), matches.get_strs("inherit"))?;
-    let mut file_set: FileSet<Whole> = FileSet::new(rt.alloc(), inherited);
-    let paths = paths(rt, matches, &[])?;
-    let left_out = load_all(rt, &mut file_set, paths.as_slice(), &Reading::of(matches))?;
+    let Asked { file_set, left_out } = asked_files(rt, matches)?;
     let lines = clock_bytes(rt.alloc(), &file_set, &period, look)?;
     let status = status_of(!lines.is_empty(), left_out);
     if matches.get_flag("quiet") {

@@ -10,8 +10,8 @@ use org_overview::{Look, Wish, overview_text};
 use org_page::{LinkTemplate, PLAIN_LINK, is_page};
 use org_save::{Cause, Disk, Name, Store, Unfit, open, replace};
 use org_text::Whole;
-use orgq_args::{profile, texts};
-use orgq_files::{Reading, load_all, paths};
+use orgq_args::profile;
+use orgq_files::{Asked, asked_files};
 use orgq_messages::{
     Problem, UNWRITTEN, out_of_memory, print_all, report_unfit, report_unmade, say_of, say_saved,
     say_unsaved, status_of, unsaved_status,
@@ -66,10 +66,7 @@ fn days_ahead(matches: &ArgMatches<'_>, own: &ArgMatches<'_>) -> u32 {
 fn print_files<
     R: AllocGlobal + Clock + Env + Files<File = File> + Input + Print + Eprint + Clone + Drop,
 >(rt: &R, matches: &ArgMatches<'_>, own: &ArgMatches<'_>, wish: &Wish<'_>) -> Result<u8, Problem> {
-    let inherited = texts(rt.alloc(), matches.get_strs("inherit"))?;
-    let mut file_set: FileSet<Whole> = FileSet::new(rt.alloc(), inherited);
-    let paths = paths(rt, matches, &[])?;
-    let left_out = load_all(rt, &mut file_set, paths.as_slice(), &Reading::of(matches))?;
+    let Asked { file_set, left_out } = asked_files(rt, matches)?;
     let text = page_text(rt.alloc(), &file_set, wish)?;
     let status = status_of(true, left_out);
     let output = own.get_str("output").unwrap_or(STANDARD_OUTPUT);

@@ -20,9 +20,9 @@ use org_text::Whole;
 use orgq_acts::act;
 use orgq_args::{
     Filters, columns_for, form, is_colored, named_form, now, profile, property_names,
-    property_words, read_filters, read_question, texts, typed_moment, without_rows,
+    property_words, read_filters, read_question, typed_moment, without_rows,
 };
-use orgq_files::{Reading, load_all, paths, say_unknown};
+use orgq_files::{Asked, asked_files, say_unknown};
 use orgq_messages::{Problem, Variable, print_all, report_problem, status_of, value_of};
 use std::alloc::Global;
 use std::fs::File;
@@ -173,10 +173,7 @@ fn over_files<R: AllocGlobal + Files + Env + Input + Print + Eprint + Clone + Dr
     filters: &Filters<'_, '_>,
     look: &PrintOptions<'_, '_>,
 ) -> Result<u8, Problem> {
-    let inherited = texts(rt.alloc(), matches.get_strs("inherit"))?;
-    let mut file_set: FileSet<Whole> = FileSet::new(rt.alloc(), inherited);
-    let paths = paths(rt, matches, &[])?;
-    let left_out = load_all(rt, &mut file_set, paths.as_slice(), &Reading::of(matches))?;
+    let Asked { file_set, left_out } = asked_files(rt, matches)?;
     let is_quiet = matches.get_flag("quiet");
     let status = match text_of(rt, &file_set, question, look, is_quiet) {
         Ok((has_row, None)) => status_of(has_row, left_out),

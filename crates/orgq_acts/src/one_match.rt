@@ -9,8 +9,8 @@ use org_client::{FileSet, LoadReport};
 use org_layout::Line;
 use org_match::Match;
 use org_text::{Text, Whole};
-use orgq_args::{HeadingPlace, Look, Wish, texts};
-use orgq_files::{Reading, load_all, paths};
+use orgq_args::{HeadingPlace, Look, Wish};
+use orgq_files::{Asked, asked_files};
 use orgq_messages::{LEFT_OUT, NO_MATCH, Problem, print_all, report_problem, say};
 use std::alloc::Global;
 use std::mem::forget;
@@ -43,10 +43,8 @@ fn in_files<R: AllocGlobal + Files + Env + Input + Print + Eprint + Clone + Drop
     expression: &Match,
     wish: &Wish,
 ) -> Result<Search, Problem> {
-    let inherited = texts(rt.alloc(), matches.get_strs("inherit"))?;
-    let mut file_set: FileSet<Whole> = FileSet::new(rt.alloc(), inherited);
-    let paths = paths(rt, matches, &[])?;
-    if load_all(rt, &mut file_set, paths.as_slice(), &Reading::of(matches))? {
+    let Asked { file_set, left_out } = asked_files(rt, matches)?;
+    if left_out {
         return Ok(Search::Ended(LEFT_OUT));
     }
     let found = find_in(rt, &file_set, expression, wish)?;

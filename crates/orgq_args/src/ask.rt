@@ -5,12 +5,13 @@ ghost use Rattle.org_answer.specs.Ahead.{IsLater};
 use crate::calendar::{asked_calendar, canvas_of};
 use crate::clock::typed_moment;
 use crate::filters::Filters;
-use crate::options::{clock_options, refused_word, texts};
+use crate::options::{clock_options, refused_word};
 use clap::ArgMatches;
 use org_answer::{ClockQuery, Days, Query};
 use org_base::MOST_DAYS;
 use org_cal::{Day, MINUTES_PER_DAY, Moment, Period, Step, TimeOfDay};
 use org_client::Window;
+use orgq_files::texts;
 use orgq_messages::Problem;
 use std::alloc::Global;
 

@@ -35,7 +35,7 @@ pub use clock::{now, typed_moment};
 pub use filters::Filters;
 pub use joined::joined_values;
 pub use options::{
-    form, is_colored, named_form, profile, property_names, property_words, texts, without_rows,
+    form, is_colored, named_form, profile, property_names, property_words, without_rows,
 };
 pub use place::{HeadingPlace, read_place};
 pub use planning::{planning_keyword, wished_planning};

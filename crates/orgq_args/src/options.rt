@@ -54,17 +54,6 @@ pub fn profile(number: u32) -> Profile {
     }
 }
 
-/// The words of an option that may stand several times.
-pub fn texts(alloc: Global, words: Option<&[&str]>) -> Result<Texts, Fault> {
-    let mut texts = Texts::new(alloc);
-    if let Some(words) = words {
-        for word in words {
-            texts.push(word.as_bytes())?;
-        }
-    }
-    Ok(texts)
-}
-
 /// The words of `--properties`, which are for objects of JSON alone.
 pub fn property_words<'a, 'b>(
     matches: &'b ArgMatches<'a>,

@@ -31,4 +31,4 @@ pub use files::{
 pub use findings::{Report, report_of};
 pub use keywords::{line_behind, say_unknown};
 pub use setting::{Choice, NamedChoices, Setting, words_with};
-pub use sources::{Reading, is_path, load_all, paths, refuse_words};
+pub use sources::{Asked, Reading, asked_files, is_path, load_all, paths, refuse_words, texts};

@@ -3,6 +3,9 @@
 use crate::file_list::{INPUT, push_listed, read_list};
 use crate::files::{FileSink, LeftOut, Named, load, load_input, push_paths, real_path};
 use clap::ArgMatches;
+use org_base::{Fault, Texts};
+use org_client::FileSet;
+use org_text::Whole;
 use orgq_messages::{Problem, Variable, say, say_of, value_of};
 use std::alloc::{AllocError, Global};
 use std::io::ErrorKind;
@@ -125,6 +128,36 @@ pub fn load_all<R: AllocGlobal + Files + Input + Eprint + Clone + Drop, S: FileS
         say(rt, text.as_str());
     }
     Ok(missing.is_some || past > 0)
+}
+
+/// The files that are asked, and whether one was left out.
+#[derive(Debug, Drop)]
+pub struct Asked {
+    pub file_set: FileSet<Whole>,
+    pub left_out: bool,
+}
+
+/// The files that the arguments name, each read once; says which can't be read.
+pub fn asked_files<R: AllocGlobal + Files + Env + Input + Eprint + Clone + Drop>(
+    rt: &R,
+    matches: &ArgMatches<'_>,
+) -> Result<Asked, Problem> {
+    let inherited = texts(rt.alloc(), matches.get_strs("inherit"))?;
+    let mut file_set = FileSet::new(rt.alloc(), inherited);
+    let paths = paths(rt, matches, &[])?;
+    let left_out = load_all(rt, &mut file_set, paths.as_slice(), &Reading::of(matches))?;
+    Ok(Asked { file_set, left_out })
+}
+
+/// The words of an option that may stand several times.
+pub fn texts(alloc: Global, words: Option<&[&str]>) -> Result<Texts, Fault> {
+    let mut texts = Texts::new(alloc);
+    if let Some(words) = words {
+        for word in words {
+            texts.push(word.as_bytes())?;
+        }
+    }
+    Ok(texts)
 }
 
 // Loads the files that a path stands for.
