@@ -105,7 +105,7 @@ if [ -z "$stopped" ]; then
     done
     for crate in $edited; do
         [ -n "$(ls "crates/$crate/must-fail" 2> /dev/null)" ] || continue
-        step "the must-fail edits of $crate" . rt must-fail "$crate"
+        step "the must-fail edits of $crate" . python3 tests/ci.py must-fail "$crate"
     done
     step "what the tables of definitions name" . sh tests/shown.sh
     step "what the pages say of the sources" . sh tests/pages.sh

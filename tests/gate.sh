@@ -1,8 +1,9 @@
 #!/bin/sh
-# The whole gate. The last line is 'N passed, M failed', over the checks of `rt ci`, what the tables of definitions name, the
-# worked streams, what the program does where memory is refused and reads and writes fail, and what is looked at first since
-# it takes seconds: whether each must-fail edit can be applied, each file is in the formatter's layout, no crate of the store
-# stands on views, the number of a rule stands once, and what the pages say of the sources is so.
+# The whole gate. The last line is 'N passed, M failed', over the checks of `rt ci` (by tests/ci.py, which asks the same at less
+# cost), what the tables of definitions name, the worked streams, what the program does where memory is refused and reads and
+# writes fail, and what is looked at first since it takes seconds: whether each must-fail edit can be applied and says where it
+# is refused, each file is in the formatter's layout, no crate of the store stands on views, the number of a rule stands once,
+# and what the pages say of the sources is so.
 cd "$(dirname "$0")/.." || exit 2
 work=$(mktemp -d) || exit 2
 watcher=""
@@ -52,7 +53,7 @@ fi
 python3 tests/spent.py watch $$ "$work/spent" 2> /dev/null &
 watcher=$!
 {
-    rt ci 2>&1
+    python3 tests/ci.py 2>&1
     echo $? > "$work/status"
 } | tee "$work/log"
 ci=$(cat "$work/status")

@@ -1,0 +1,214 @@
+#!/usr/bin/env python3
+# SPDX-License-Identifier: Apache-2.0 OR MIT
+"""`rt ci` by its own code, at less cost: the same crates are proved from nothing, and the same verdicts are asked.
+
+    tests/ci.py                     at the top of the repository; prints what `rt ci` prints, and its last line is 'N passed, M failed'
+    tests/ci.py must-fail [NAME..]  the must-fail edits of these crates alone, as `rt must-fail`, over what `rt check` kept of them
+
+Two things are done otherwise. The sum of a crate's texts is made once: `rt` makes it anew for each way that leads from a crate to
+one below, some millions of files in all. At the end the sums are made again, and a text that changed meanwhile fails the run.
+
+And a must-fail edit with lines 'only: PATH' (a function, as `rt check --only` takes it) is tried on what they name and what that
+calls, where `rt` proves the whole crate once more. What the lines name is first checked without any edit, and all of it has to be
+proved there. An edit then counts as refused only where less of it is proved, and the prover says of which clause: of what a
+function ensures or requires, or of the invariant of a type or a loop. An edit without such a line, or one that isn't refused
+so, is tried as `rt` does, which has the last word.
+
+All this rests on how `rt` is written inside. Each thing that is used is looked at first: what isn't there as it is expected is
+left to `rt` itself, which costs time and changes no verdict, and a line that begins with 'ci:' says so.
+"""
+import importlib.machinery
+import importlib.util
+import inspect
+import os
+import re
+import shutil
+import sys
+import tempfile
+
+sys.dont_write_bytecode = True
+# What is used of `rt`, by the names of the parameters that it is called with.
+RUNS = {"main": "words", "rtlib.guarded": ""}
+EDITS = {
+    "must_fail_all": "crate edits flags",
+    "must_fail": "crate edit flags kept",
+    "checked": "crate texts flags kept",
+    "read_edit": "edit folder",
+    "unread": "line changed",
+}
+SUMS = {"rtlib.Crate.stamp": "self", "rtlib.crates_below": "top"}
+# The last line of a check of some functions alone: how many were asked for, and how many of them are proved.
+LAST = re.compile(r"only=(\d+) proved=(\d+)")
+# What the prover says where a clause or an invariant isn't met: at the source, or in the answer to a goal that a clause makes.
+AT_SOURCE = re.compile(r"note: (\./)?src/\S+:\d+:\d+: it is not proved that (what .* (ensures|requires) |the (\S+ )*`?invariant)")
+IN_ANSWER = re.compile(r"(\./)?proofs/\S+:\d+:\d+: error: `\S*(clause|requires|invariant)\S*`: (?!.*(has no field|is not in scope|has no `|was not admitted))")
+
+
+def toolchain():
+    """Returns the program `rt` as a module, or nothing where it can't be read as one."""
+    path = shutil.which("rt") or sys.exit("ci: there is no rt")
+    try:
+        loader = importlib.machinery.SourceFileLoader("rt", os.path.realpath(path))
+        made = importlib.util.module_from_spec(importlib.util.spec_from_loader("rt", loader))
+        loader.exec_module(made)
+    except (Exception, SystemExit) as error:
+        print(f"ci: {path} can't be read as a module ({type(error).__name__}: {error})", flush=True)
+        return None
+    return made
+
+
+def part_of(made, path):
+    """Returns what a path below a module names, or nothing."""
+    for name in path.split("."):
+        made = getattr(made, name, None)
+    return made
+
+
+def lacking(made, parts):
+    """Returns which of these parts `rt` doesn't have as they are expected."""
+    found = []
+    for path, names in parts.items():
+        part = part_of(made, path)
+        try:
+            is_so = [*inspect.signature(part).parameters] == names.split()
+        except (TypeError, ValueError):
+            is_so = False
+        found += [] if is_so else [path]
+    return found
+
+
+def has(made, parts, what):
+    """Returns whether `rt` has these parts; says so where it hasn't."""
+    found = lacking(made, parts)
+    if found:
+        print(f"ci: this rt has no {', '.join(found)} as it is expected, so {what}", flush=True)
+    return not found
+
+
+def paths_of(edit):
+    """Returns what an edit's lines 'only:' name."""
+    with open(edit, encoding="utf-8", errors="replace") as it:
+        return re.findall(r"(?m)^only: (\S+)\s*$", it.read())
+
+
+def refusal(lines):
+    """Returns the line by which the prover refuses a clause or an invariant, or nothing."""
+    return next((it for found in (AT_SOURCE, IN_ANSWER) for it in lines if found.match(it)), "")
+
+
+class Edits:
+    """How must-fail edits are tried: on what they name alone, and what isn't refused so by `rt` itself."""
+
+    def __init__(self, rt, kept_of=lambda crate: ""):
+        # (kept_of gives the folder of a crate's kept work, of which a copy is taken, or nothing)
+        self.rt, self.own, self.kept_of = rt, rt.must_fail_all, kept_of
+
+    def count(self, crate, texts, flags, kept, paths):
+        """Checks what the paths name, with these texts in place of the crate's. Returns how many functions were asked for, how many of them
+        are proved, and what was said."""
+        ran = self.rt.checked(crate, texts, [*flags, *(f"--only={it}" for it in paths)], kept)
+        lines = ran.stdout.rstrip("\n").split("\n")
+        found = LAST.fullmatch(lines[-1]) if ran.returncode in (0, 1) else None
+        return (int(found[1]), int(found[2]), lines) if found else (0, 0, lines)
+
+    def is_read(self, lines, texts):
+        """Returns whether the prover could read the edited texts, and what was kept of the libraries below."""
+        return not any(self.rt.unread(it, texts) for it in lines) and not any("Run the lower steps again" in it for it in lines)
+
+    def alone(self, crate, edits, flags, kept):
+        """Tries the edits that name what they change on that alone, over what `kept` holds. Returns what is to be said of those that are
+        refused so: of none where what they name isn't proved without an edit, before them and behind them."""
+        named = {it: paths_of(it) for it in edits}
+        paths, told = sorted({path for it in named.values() for path in it}), {}
+        if not paths or not self.is_proved(crate, flags, kept, paths):
+            return {}
+        for edit in filter(named.get, edits):
+            texts, why = self.rt.read_edit(edit, crate.folder)
+            if why:
+                continue
+            found, left, lines = self.count(crate, texts, flags, kept, named[edit])
+            said = refusal(lines)
+            if left < found and said and self.is_read(lines, texts):
+                label = f"must-fail {crate.name}/{os.path.basename(edit)}"
+                told[edit] = True, f"{label}: refused, as it must be (of {' '.join(named[edit])} {left} of {found} proved): {said[:200]}"
+            else:
+                print(f"ci: {crate.name}/{os.path.basename(edit)} isn't refused in a clause of {' '.join(named[edit])}, so it is tried on the whole crate", flush=True)
+        return told if told and self.is_proved(crate, flags, kept, paths) else {}
+
+    def is_proved(self, crate, flags, kept, paths):
+        """Returns whether all that the paths name is proved without any edit; says so where it isn't."""
+        asked, proved, lines = self.count(crate, {}, flags, kept, paths)
+        is_so = 0 < asked == proved
+        if not is_so:
+            print(f"ci: {crate.name}: what its edits name isn't proved alone, so they are tried on the whole crate: {lines[-1][:200]}", flush=True)
+        return is_so
+
+    def all(self, crate, edits, flags):
+        """Tries the edits of a crate: what `rt` asks of its `must_fail_all`."""
+        told = {}
+        with tempfile.TemporaryDirectory(prefix="rt-edits-") as room:
+            try:
+                kept, was = f"{room}/kept", self.kept_of(crate)
+                if was and os.path.isdir(was):
+                    shutil.copytree(was, kept)
+                told = self.alone(crate, edits, flags, kept)
+            except (Exception, SystemExit) as error:
+                print(f"ci: {crate.name}: edits can't be tried alone ({type(error).__name__}: {error}), so they are tried on the whole crate", flush=True)
+        rest = [it for it in edits if it not in told]
+        told.update(zip(rest, self.own(crate, rest, flags) if rest else []))
+        return [told[it] for it in edits]
+
+
+class Sums:
+    """The sums of crates' texts, each made once: those of the crates that `crates.txt` lists before anything else is done."""
+
+    def __init__(self, rt):
+        self.made, self.own, self.crates = {}, rt.rtlib.Crate.stamp, {}
+        rt.rtlib.Crate.stamp = lambda crate: self.of(crate)
+        try:
+            for crate in rt.rtlib.crates_below(os.getcwd()):
+                self.of(crate)
+        except (Exception, SystemExit):
+            # (`rt` says itself what is wrong)
+            pass
+
+    def of(self, crate):
+        """Returns a crate's sum: what `rt` asks of its `Crate.stamp`."""
+        if crate.folder not in self.made:
+            self.made[crate.folder], self.crates[crate.folder] = self.own(crate), crate
+        return self.made[crate.folder]
+
+    def changed(self):
+        """Returns the crates whose texts aren't as they were when their sums were made."""
+        before, self.made = self.made, {}
+        return sorted(os.path.basename(it) for it, crate in [*self.crates.items()] if before[it] != self.of(crate))
+
+
+def main(words):
+    """Runs `rt ci`, or `rt must-fail`, at less cost where this `rt` lets it."""
+    rt = toolchain()
+    if rt is None or not has(rt, RUNS, f"all is left to `rt {words[0]}`"):
+        sys.stdout.flush()
+        os.execvp("rt", ["rt", *words])
+    sums = None
+    if words == ["ci"] and has(rt, SUMS, "sums are made as often as it makes them"):
+        sums = Sums(rt)
+    if has(rt, EDITS, "each edit is tried on its whole crate"):
+        kept_of = (lambda crate: f"{crate.folder}/out/incremental") if words[0] == "must-fail" else (lambda crate: "")
+        rt.must_fail_all = Edits(rt, kept_of).all
+    try:
+        status = rt.main(words)
+    except Exception as error:
+        print(f"ci: {type(error).__name__}: {error}; so all is begun again, by `rt {words[0]}`", flush=True)
+        os.execvp("rt", ["rt", *words])
+    changed = sums.changed() if sums else []
+    if changed:
+        print(f"ci: texts changed while they were proved: {' '.join(changed)}\n0 passed, {len(changed)} failed")
+        return 1
+    return status
+
+
+if __name__ == "__main__":
+    if sys.argv[1:] and sys.argv[1] != "must-fail":
+        sys.exit(__doc__)
+    sys.exit(main(sys.argv[1:] or ["ci"]))
