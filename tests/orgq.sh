@@ -7,6 +7,7 @@
 # environment, one a line, NAME.sh, which is run in the folder first, and NAME.after, which is run there afterwards: what it
 # writes, as the bytes of a file that was changed, follows in NAME.stdout. The folder has the files of tests/orgq/files. Where
 # NAME.terminal is there the program is run on a terminal, by `script`, and what it writes to either stands in NAME.stdout.
+# What the sentences of `orgq check` advise is done by tests/advice.py, and has to help.
 # Objects are read back by python3 where there is one, and held against docs/orgq-rows.schema.json. Then each control character in all that a file, a name and an argument
 # hold: none is written in any form but into a pipe, as in the file. Each refused growth of memory gives the answer all the
 # same or status 4. Each option of --help has to be offered by bash; what completes and orgq-notify are run. The last line
@@ -221,6 +222,14 @@ for expected in "$here"/orgq/*.stdout; do
     esac
 done
 
+# The advice of each finding helps.
+if said=$(python3 "$here/advice.py" "$orgq" 2>&1); then
+    passed=$((passed + $(printf '%s\n' "$said" | sed -n 's/^advice: \([0-9]*\) passed.*/\1/p')))
+    printf '%s\n' "$said" | tail -n 1
+else
+    fail "the advice of findings: $said"
+fi
+
 # A closed standard output, and one that takes nothing.
 cd "$here/orgq/files" || exit 2
 "$orgq" --at "2024-02-28 10:30" -f home.org todo >&- 2> "$room/err"
@@ -362,6 +371,7 @@ if shim=$(sh "$here/faults/build.sh" "$room" 2> /dev/null); then
     refuse_memory -f home.org -f work.org ical
     refuse_memory -f home.org -f work.org page
     refuse_memory --keywords "TODO | DONE" check --all ../../check/kinds.org ../../check/other.org
+    refuse_memory --keywords "TODO | DONE" check --all ../../check/near.org
 else
     echo "orgq: refused growths of memory are left out: the shim of tests/faults can't be built here"
 fi

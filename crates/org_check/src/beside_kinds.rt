@@ -11,12 +11,15 @@ pub enum BesideKind {
     ReversedTimes,
     RangeWithRepeater,
     ZeroRepeater,
+    NearRange,
     DiarySexp,
     StampInDrawer,
     StampInBlock,
     StampInComment,
     StampInExample,
     // Planning.
+    NearPlanning,
+    HiddenPlanning,
     PlanningCase,
     InactivePlanning,
     PlanningRest,
@@ -35,15 +38,22 @@ pub enum BesideKind {
     ByteOrderMark,
     SettingWithoutColon,
     SecondCategory,
+    CommaInKeywords,
+    MissingBar,
+    UnreadSetting,
     // Headings.
     KeywordOfOtherFile,
     MissingKeyword,
+    NearKeyword,
+    WordInCapitals,
+    OddSpace,
     HeadingWithoutSpace,
     IndentedHeading,
     KeywordAfterCookie,
     UnreadPriority,
     UnreadTags,
     // Clocks.
+    ClockCase,
     ClockInList,
     OverlappingClocks,
     ClockBeforeHeadings,
@@ -57,12 +67,15 @@ impl BesideKind {
             | BesideKind::ReversedTimes
             | BesideKind::RangeWithRepeater
             | BesideKind::ZeroRepeater
+            | BesideKind::NearRange
             | BesideKind::DiarySexp
             | BesideKind::StampInDrawer
             | BesideKind::StampInBlock
             | BesideKind::StampInComment
             | BesideKind::StampInExample => self.stamp_entry(),
-            BesideKind::PlanningCase
+            BesideKind::NearPlanning
+            | BesideKind::HiddenPlanning
+            | BesideKind::PlanningCase
             | BesideKind::InactivePlanning
             | BesideKind::PlanningRest
             | BesideKind::RepeatedPlanning
@@ -71,6 +84,9 @@ impl BesideKind {
             | BesideKind::RepeaterOnDone => self.planning_entry(),
             BesideKind::KeywordOfOtherFile
             | BesideKind::MissingKeyword
+            | BesideKind::NearKeyword
+            | BesideKind::WordInCapitals
+            | BesideKind::OddSpace
             | BesideKind::HeadingWithoutSpace
             | BesideKind::IndentedHeading
             | BesideKind::KeywordAfterCookie
@@ -106,6 +122,12 @@ impl BesideKind {
             BesideKind::ZeroRepeater => {
                 Entry::warning("zero-repeater", "a repeater of 0 repeats nothing").with_quote()
             }
+            BesideKind::NearRange => Entry::warning(
+                "near-range",
+                "two timestamps, each on its own day; in a range two dashes stand between them, \
+                 and nothing else",
+            )
+            .with_quote(),
             BesideKind::DiarySexp => Entry::error(
                 "diary-sexp",
                 "an expression of the diary isn't evaluated; write a timestamp",
@@ -133,6 +155,18 @@ impl BesideKind {
 
     fn planning_entry(self) -> Entry {
         match self {
+            BesideKind::NearPlanning => Entry::warning(
+                "near-planning",
+                "no planning, and its stamp shows on its day alone; write DEADLINE: or \
+                 SCHEDULED: with the timestamp into a line directly under the heading",
+            )
+            .with_quote(),
+            BesideKind::HiddenPlanning => Entry::note(
+                "hidden-planning",
+                "shows on no day, since its heading or one above it has COMMENT or the tag \
+                 ARCHIVE; take that away",
+            )
+            .with_quote(),
             BesideKind::PlanningCase => Entry::error(
                 "planning-case",
                 "no planning, and its stamp shows on its day alone; write the word in capitals",
@@ -182,6 +216,24 @@ impl BesideKind {
                 "no keyword of this file; add it to #+TODO:",
             )
             .with_quote(),
+            BesideKind::NearKeyword => Entry::warning(
+                "near-keyword",
+                "nearly a keyword of this file, and none; write it in its own letters, with a \
+                 space after it",
+            )
+            .with_quote(),
+            BesideKind::WordInCapitals => Entry::note(
+                "word-in-capitals",
+                "stands in capitals in front of several headings, and is no keyword; if it is \
+                 meant as one, add it to #+TODO:",
+            )
+            .rare()
+            .with_quote(),
+            BesideKind::OddSpace => Entry::error(
+                "odd-space",
+                "a character that only looks like a space, as U+00A0, makes the line neither a \
+                 heading nor planning; write a space",
+            ),
             BesideKind::HeadingWithoutSpace => Entry::warning(
                 "heading-without-space",
                 "no heading; write a space after the stars",
@@ -244,6 +296,26 @@ impl BesideKind {
                 "second-category",
                 "not read, since the first #+CATEGORY: counts; give a heading the property \
                  CATEGORY",
+            ),
+            BesideKind::CommaInKeywords => Entry::warning(
+                "comma-in-keywords",
+                "the comma is part of the keyword; write spaces alone between keywords",
+            )
+            .with_quote(),
+            BesideKind::MissingBar => Entry::warning(
+                "missing-bar",
+                "a done keyword, as the last of a line without a bar; write a bar and the done \
+                 ones after it",
+            )
+            .with_quote(),
+            BesideKind::UnreadSetting => Entry::note(
+                "unread-setting",
+                "not read, and what that file sets counts for nothing here; write its #+TODO: \
+                 line into this one",
+            ),
+            BesideKind::ClockCase => Entry::error(
+                "clock-case",
+                "no clock, and counts 0; write CLOCK: in capitals",
             ),
             BesideKind::ClockInList => Entry::error(
                 "clock-in-list",

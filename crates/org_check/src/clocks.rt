@@ -3,13 +3,15 @@ ghost use Rattle.std.specs.Prelude.{◌≡◌};
 ghost use Rattle.org_check.specs.Clocks.{counts_nothing};
 
 use crate::beside_kinds::BesideKind;
-use crate::finding::Cause;
+use crate::finding::{Cause, LinePart};
 use crate::here::Here;
+use crate::looks::looks_like_stamp;
 use crate::notes::{Note, Notes};
 use crate::unread_kinds::MinutesKind;
 use crate::unread_lines::past_spaces;
 use org_base::words::{first_word, trim};
 use org_cal::{MINUTES_PER_DAY, Minute};
+use org_class::begins_with;
 use org_drawer::{ClockLine, read_clock};
 use org_stamp::leading_spaces;
 use std::alloc::{AllocError, Global};
@@ -19,10 +21,7 @@ use std::alloc::{AllocError, Global};
 struct Closed {
     from: u64,
     to: u64,
-    line_at: u32,
-    place: usize,
-    len: usize,
-    line: u32,
+    part: LinePart,
 }
 
 // The clocks of a file that count.
@@ -59,7 +58,7 @@ impl Clocks {
             }
             if clock.to > end {
                 end = clock.to;
-                end_line = clock.line;
+                end_line = clock.part.line;
             }
         }
         Ok(())
@@ -77,19 +76,13 @@ fn closed_clock(here: Here, line: &[u8]) -> Option<Closed> {
     Some(Closed {
         from,
         to,
-        line_at: here.at,
-        place: leading_spaces(line),
-        len: trim(line).len(),
-        line: here.number,
+        part: here.part(leading_spaces(line), trim(line).len()),
     })
 }
 
 fn overlap(clock: Closed, other: u32) -> Note {
     Note {
-        line_at: clock.line_at,
-        place: clock.place,
-        len: clock.len,
-        line: clock.line,
+        part: clock.part,
         kind: BesideKind::OverlappingClocks,
         cause: Some(Cause::Other(other)),
     }
@@ -150,4 +143,24 @@ fn is_clock_item(line: &[u8]) -> bool {
         return false;
     };
     first_word(text).len() == 1 && read_clock(rest).is_some()
+}
+
+// Puts a clock whose word isn't in capitals.
+pub(crate) fn push_clock_case(
+    notes: &mut Notes,
+    here: Here,
+    line: &[u8],
+) -> Result<(), AllocError> {
+    let text = past_spaces(line);
+    if text.len() < 6 || !begins_with(text, b"CLOCK:") || text.starts_with(b"CLOCK:") {
+        return Ok(());
+    }
+    if !looks_like_stamp(past_spaces(&text[6..])) {
+        return Ok(());
+    }
+    notes.push(here.note(
+        BesideKind::ClockCase,
+        leading_spaces(line),
+        trim(line).len(),
+    ))
 }

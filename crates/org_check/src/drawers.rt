@@ -2,13 +2,15 @@
 ghost use Rattle.std.specs.Prelude.{◌+◌, ◌≤◌, length, IsOkUnless};
 ghost use Rattle.org_base.specs.Codes.{memory_fault};
 
-use crate::finding::Cause;
+use crate::finding::{Cause, LinePart};
 use crate::here::Here;
 use crate::unread_kinds::DrawerKind;
+use org_base::words::trim;
 use org_base::{Fault, Span};
 use org_class::is_drawer_end;
 use org_drawer::is_node;
 use org_lines::Lines;
+use org_stamp::leading_spaces;
 use org_text::Text;
 use std::alloc::Global;
 
@@ -16,8 +18,8 @@ use std::alloc::Global;
 // each line up to that one.
 #[derive(Clone, Copy)]
 pub(crate) struct Ahead {
-    // The first line that ends a drawer or gives no property.
-    line: u32,
+    // The first line that ends a drawer or gives no property; of none the number is the greatest that there is.
+    pub stop_line: LinePart,
     stop: Stop,
     // The section's last line that ends a drawer, 0 where none does.
     last_end: u32,
@@ -41,13 +43,13 @@ pub(crate) fn look_ahead<T: Text>(
     ensures memory { IsOkUnless result memory_fault }
 {
     let last_end = match known {
-        Some(ahead) if here.number < ahead.line => return Ok(ahead),
+        Some(ahead) if here.number < ahead.stop_line.line => return Ok(ahead),
         Some(ahead) => ahead.last_end,
         None => last_end(alloc, text, here.rest, here.number)?,
     };
-    let (line, stop) = first_stop(alloc, text, here.rest, here.number)?;
+    let (stop_line, stop) = first_stop(alloc, text, here.rest, here.number)?;
     Ok(Ahead {
-        line,
+        stop_line,
         stop,
         last_end,
     })
@@ -59,23 +61,34 @@ fn first_stop<T: Text>(
     text: &T,
     rest: Span,
     number: u32,
-) -> Result<(u32, Stop), Fault>
+) -> Result<(LinePart, Stop), Fault>
     requires within { rest.at + rest.len ≤ length (T.content text.now) }
     ensures memory { IsOkUnless result memory_fault }
 {
     let mut here = number;
     for line in Lines::new(alloc, text, rest) {
         let line = line?;
-        let line = line.bytes.as_slice();
+        let bytes = line.bytes.as_slice();
         here = here.saturating_add(1);
-        if is_drawer_end(line) {
-            return Ok((here, Stop::End));
+        if is_drawer_end(bytes) {
+            return Ok((whole_part(line.span.at, here, bytes), Stop::End));
         }
-        if !is_node(line) {
-            return Ok((here, Stop::Other));
+        if !is_node(bytes) {
+            return Ok((whole_part(line.span.at, here, bytes), Stop::Other));
         }
     }
-    Ok((u32::MAX, Stop::Nothing))
+    Ok((whole_part(0, u32::MAX, &[]), Stop::Nothing))
+}
+
+// All of a line but the white space at its ends; of a blank one its front.
+fn whole_part(line_at: u32, number: u32, line: &[u8]) -> LinePart {
+    let len = trim(line).len();
+    LinePart {
+        line_at,
+        place: if len == 0 { 0 } else { leading_spaces(line) },
+        len,
+        line: number,
+    }
 }
 
 // The last line that ends a drawer, of those that come after a line of this number; 0 where none does.
@@ -100,7 +113,7 @@ pub(crate) fn stray_drawer(here: Here, ahead: Ahead) -> (DrawerKind, Option<Caus
     match ahead.stop {
         Stop::End => (DrawerKind::StrayDrawer, here.above.below),
         Stop::Other if here.number < ahead.last_end => {
-            (DrawerKind::DrawerLine, Some(Cause::Other(ahead.line)))
+            (DrawerKind::DrawerLine, Some(Cause::InDrawer(here.number)))
         }
         Stop::Other | Stop::Nothing => (DrawerKind::UnclosedDrawer, None),
     }

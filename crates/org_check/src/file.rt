@@ -5,6 +5,7 @@ ghost use Rattle.org_check.specs.Marks.{section_marks, text_marks};
 ghost use Rattle.org_check.specs.Said.{MarksAreSaid, Says};
 
 use crate::beside_kinds::BesideKind;
+use crate::finding::LinePart;
 use crate::findings::Findings;
 use crate::notes::Note;
 use crate::section::check_section;
@@ -69,10 +70,12 @@ fn push_byte_order_mark<T: Text>(seen: &mut Seen<'_>, text: &T) -> Result<(), Al
         return Ok(());
     }
     seen.notes.push(Note {
-        line_at: 0,
-        place: 0,
-        len: 3,
-        line: 1,
+        part: LinePart {
+            line_at: 0,
+            place: 0,
+            len: 3,
+            line: 1,
+        },
         kind: BesideKind::ByteOrderMark,
         cause: None,
     })

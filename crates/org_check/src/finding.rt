@@ -16,23 +16,36 @@ pub enum Cause {
     Planning(u32),
     /// A line of text.
     Text(u32),
+    /// The drawer in which the line stands that is found.
+    InDrawer(u32),
     /// Another line that the finding speaks of.
     Other(u32),
     /// No heading stands above.
     NoHeading,
 }
 
-/// Something that looks planned and will not show, or shows otherwise than it is written.
+/// A part of a line.
 #[derive(Clone, Copy, Debug, PartialEq, Eq, PartialOrd, Ord)]
-pub struct Finding {
-    /// Where its line begins in the text, in bytes.
+pub struct LinePart {
+    /// Where the line begins in the text, in bytes.
     pub line_at: u32,
-    /// Where it begins in its line, in bytes.
+    /// Where the part begins in the line, in bytes.
     pub place: usize,
     /// How long it is, in bytes.
     pub len: usize,
-    /// Its line, from 1.
+    /// The line, from 1.
     pub line: u32,
+}
+
+/// Something that looks planned and will not show, or shows otherwise than it is written.
+#[derive(Clone, Copy, Debug, PartialEq, Eq, PartialOrd, Ord)]
+pub struct Finding {
+    /// What is to be mended.
+    pub shown: LinePart,
+    /// Where the line that looks planned begins in the text, in bytes. It is mostly the one that is to be mended.
+    pub line_at: u32,
+    /// Where in that line it looks planned, in bytes.
+    pub place: usize,
     /// What it is.
     pub kind: Kind,
     /// What stands in its way.
@@ -42,12 +55,12 @@ pub struct Finding {
 impl Finding {
     /// Where it begins in the text, in bytes.
     pub fn at(&self) -> usize {
-        self.place.saturating_add(self.line_at as usize)
+        self.shown.place.saturating_add(self.shown.line_at as usize)
     }
 
     /// The byte of the line with which it begins, from 1.
     pub fn column(&self) -> usize {
-        self.place.saturating_add(1)
+        self.shown.place.saturating_add(1)
     }
 
     /// The line that the remedy names, from 1.
@@ -57,6 +70,7 @@ impl Finding {
             | Cause::Drawer(line)
             | Cause::Planning(line)
             | Cause::Text(line)
+            | Cause::InDrawer(line)
             | Cause::Other(line) => Some(line),
             Cause::NoHeading => None,
         }

@@ -1,19 +1,28 @@
 //! A line of a section, and what is known where it begins.
 
 use crate::beside_kinds::BesideKind;
-use crate::finding::Cause;
+use crate::finding::{Cause, LinePart};
 use crate::notes::Note;
 use org_base::Span;
 use org_base::words::is_blank;
 use org_class::Class;
+
+// How things stand with a heading.
+#[derive(Clone, Copy, PartialEq, Eq)]
+pub(crate) enum State {
+    // It has no keyword.
+    NoTask,
+    Open,
+    Done,
+}
 
 // What is known of a section before a line of it.
 #[derive(Clone, Copy)]
 pub(crate) struct Above {
     // Whether a heading stands above.
     pub headed: bool,
-    // Whether its keyword is a done one.
-    pub is_done: bool,
+    // How its keyword says that things stand with it.
+    pub state: State,
     // Whether the last block that opened holds no text.
     pub in_example: bool,
     // What stands directly under the heading.
@@ -27,7 +36,7 @@ impl Above {
     pub(crate) fn new() -> Above {
         Above {
             headed: false,
-            is_done: false,
+            state: State::NoTask,
             in_example: false,
             first: Some(Cause::NoHeading),
             below: Some(Cause::NoHeading),
@@ -35,10 +44,10 @@ impl Above {
     }
 
     // After a heading.
-    pub(crate) fn of_heading(is_done: bool) -> Above {
+    pub(crate) fn of_heading(state: State) -> Above {
         Above {
             headed: true,
-            is_done,
+            state,
             in_example: false,
             first: None,
             below: None,
@@ -78,13 +87,20 @@ pub(crate) struct Here {
 }
 
 impl Here {
-    // A finding from a place of the line on that explains no mark.
-    pub(crate) fn note(self, kind: BesideKind, place: usize, len: usize) -> Note {
-        Note {
+    // A part of the line.
+    pub(crate) fn part(self, place: usize, len: usize) -> LinePart {
+        LinePart {
             line_at: self.at,
             place,
             len,
             line: self.number,
+        }
+    }
+
+    // A finding from a place of the line on that explains no mark.
+    pub(crate) fn note(self, kind: BesideKind, place: usize, len: usize) -> Note {
+        Note {
+            part: self.part(place, len),
             kind,
             cause: None,
         }

@@ -4,7 +4,7 @@
 //!
 //! A missed deadline is mostly no wrong sum but a line that looks like planning and isn't. Whatever looks planned and
 //! isn't read so has its finding, and beside these are tests of what was read and counts for something else.
-//! `docs/findings.md` lists the kinds.
+//! `docs/manual.md` lists the kinds.
 //!
 //! ```
 //! let about = About {
@@ -30,12 +30,14 @@ mod finding;
 mod findings;
 mod headings;
 mod here;
+mod hidden;
 mod kind;
 pub mod laws;
 mod line;
 mod look;
 mod looks;
 mod marks;
+mod near_planning;
 mod notes;
 mod planning;
 mod properties;
@@ -47,6 +49,7 @@ mod select;
 mod sentence;
 mod settings;
 mod show;
+mod spaces;
 mod stamp_kind;
 mod stamps;
 mod table;
@@ -58,7 +61,7 @@ pub use beside_kinds::BesideKind;
 pub use clean::CleanLine;
 pub use clocks::counts_nothing;
 pub use file::{About, checks};
-pub use finding::{Cause, Finding};
+pub use finding::{Cause, Finding, LinePart};
 pub use findings::Findings;
 pub use kind::{ALL_KINDS, Kind};
 pub use look::{Look, Mark};

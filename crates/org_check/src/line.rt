@@ -6,18 +6,20 @@ use crate::beside_kinds::BesideKind;
 use crate::blocks::{
     is_block_end, opens_example, push_block_end, push_first_active, push_verbatim,
 };
-use crate::clocks::push_clock_item;
+use crate::clocks::{push_clock_case, push_clock_item};
 use crate::headings::{push_heading, push_heading_like};
-use crate::here::{Above, Here};
+use crate::here::{Above, Here, State};
+use crate::hidden::{hiding, push_hidden};
+use crate::near_planning::{push_near_planning, push_near_ranges};
 use crate::planning::{push_heading_planning, push_planning, push_planning_case};
-use crate::properties::{DrawerNames, push_node};
+use crate::properties::{MetNames, push_node};
 use crate::read_stamps::push_read_stamps;
 use crate::seen::Seen;
-use crate::settings::push_setting;
+use crate::settings::{push_read_setting, push_setting};
 use crate::unread_lines::{has_stamps, is_unclosed_block};
 use org_base::Fault;
 use org_base::words::{trim, trim_start};
-use org_class::Class;
+use org_class::{Class, leading_stars};
 use org_stamp::leading_spaces;
 
 // Puts what a line says that explains no mark; answers what is known after it.
@@ -25,16 +27,16 @@ pub(crate) fn check_line(seen: &mut Seen<'_>, here: Here, line: &[u8]) -> Result
     ensures memory { IsOkUnless result memory_fault }
 {
     if has_stamps(here.class) {
-        push_read_stamps(&mut seen.notes, here, line)?;
+        check_stamps(seen, here, line)?;
     }
     let mut above = here.above;
     match here.class {
         Class::Heading => {
-            let is_done = check_heading(seen, here, line)?;
-            return Ok(Above::of_heading(is_done));
+            let state = check_heading(seen, here, line)?;
+            return Ok(Above::of_heading(state));
         }
-        Class::Planning => push_planning(&mut seen.notes, here, line)?,
-        Class::DrawerOpen => seen.names = DrawerNames::new(seen.alloc),
+        Class::Planning => check_planning(seen, here, line)?,
+        Class::DrawerOpen => seen.names = MetNames::new(seen.alloc),
         Class::Node => push_node(&mut seen.notes, &mut seen.names, here, line)?,
         Class::Clock => check_clock(seen, here, line)?,
         Class::Comment => {
@@ -48,11 +50,32 @@ pub(crate) fn check_line(seen: &mut Seen<'_>, here: Here, line: &[u8]) -> Result
     Ok(above.after(here.class, line, here.number))
 }
 
-fn check_heading(seen: &mut Seen<'_>, here: Here, line: &[u8]) -> Result<bool, Fault>
+fn check_stamps(seen: &mut Seen<'_>, here: Here, line: &[u8]) -> Result<(), Fault>
+    ensures memory { IsOkUnless result memory_fault }
+{
+    if !push_read_stamps(&mut seen.notes, here, line)? {
+        return Ok(());
+    }
+    push_near_planning(&mut seen.notes, here, line)?;
+    push_near_ranges(&mut seen.notes, here, line)?;
+    Ok(())
+}
+
+fn check_planning(seen: &mut Seen<'_>, here: Here, line: &[u8]) -> Result<(), Fault>
+    ensures memory { IsOkUnless result memory_fault }
+{
+    push_planning(&mut seen.notes, here, line)?;
+    push_hidden(&mut seen.notes, here, line, seen.hiding)?;
+    Ok(())
+}
+
+fn check_heading(seen: &mut Seen<'_>, here: Here, line: &[u8]) -> Result<State, Fault>
     ensures memory { IsOkUnless result memory_fault }
 {
     push_heading_planning(&mut seen.notes, here, line)?;
-    push_heading(seen.alloc, &mut seen.notes, seen.about, here, line)
+    let (state, hides) = push_heading(seen, here, line)?;
+    seen.hiding = hiding(seen.hiding, here, leading_stars(line), hides);
+    Ok(state)
 }
 
 fn check_clock(seen: &mut Seen<'_>, here: Here, line: &[u8]) -> Result<(), Fault>
@@ -90,7 +113,9 @@ fn check_form(seen: &mut Seen<'_>, here: Here, line: &[u8]) -> Result<(), Fault>
     check_blocks(seen, here, line)?;
     seen.category = push_setting(&mut seen.notes, here, line, seen.category)?;
     push_planning_case(&mut seen.notes, here, line)?;
+    push_read_setting(&mut seen.notes, here, line)?;
     push_clock_item(&mut seen.notes, here, line)?;
+    push_clock_case(&mut seen.notes, here, line)?;
     push_heading_like(&mut seen.notes, here, seen.about.settings, line)?;
     Ok(())
 }

@@ -5,7 +5,7 @@ ghost use Rattle.org_check.specs.Marks.{block_marks, clock_marks, drawer_marks, 
 ghost use Rattle.org_check.specs.Said.{Says};
 
 use crate::clocks::minutes_kind;
-use crate::drawers::{look_ahead, stray_drawer};
+use crate::drawers::{Ahead, look_ahead, stray_drawer};
 use crate::finding::Cause;
 use crate::findings::{Findings, Found};
 use crate::here::Here;
@@ -13,6 +13,7 @@ use crate::kind::Kind;
 use crate::planning::stray_planning;
 use crate::seen::Seen;
 use crate::stamps::push_unread_stamps;
+use crate::unread_kinds::DrawerKind;
 use crate::unread_lines::{
     counts_nothing_in, is_stray_drawer, is_stray_planning, is_unclosed_block, is_unread_clock,
 };
@@ -24,14 +25,15 @@ use org_text::Text;
 use std::alloc::AllocError;
 
 // What was found of a whole line, without the white space at its ends.
-fn whole_line(line: &[u8], kind: Kind, cause: Option<Cause>) -> Found
+fn whole_line(here: Here, line: &[u8], kind: Kind, cause: Option<Cause>) -> Found
     ensures kind { result.kind ≡ kind }
     ensures place { result.place ≡ indent line.now }
 {
+    let place = leading_spaces(line);
     Found {
         kind,
-        place: leading_spaces(line),
-        len: trim(line).len(),
+        place,
+        shown: here.part(place, trim(line).len()),
         cause,
     }
 }
@@ -44,7 +46,7 @@ fn push_planning(found: &mut Findings, here: Here, line: &[u8]) -> Result<(), Al
         return Ok(());
     }
     let kind = Kind::Planning(stray_planning(here, line));
-    found.push(here, whole_line(line, kind, here.above.first))
+    found.push(here, whole_line(here, line, kind, here.above.first))
 }
 
 // Puts a line that looks as if a property drawer began there, and none does.
@@ -65,8 +67,23 @@ fn push_drawer<T: Text>(
     let ahead = look_ahead(seen.alloc, text, here, seen.ahead)?;
     seen.ahead = Some(ahead);
     let (kind, cause) = stray_drawer(here, ahead);
-    found.push(here, whole_line(line, Kind::Drawer(kind), cause))?;
+    let whole = whole_line(here, line, Kind::Drawer(kind), cause);
+    found.push(here, with_bad_line(whole, kind, ahead))?;
     Ok(())
+}
+
+// The same, where a line of the drawer is what is to be mended.
+fn with_bad_line(found: Found, kind: DrawerKind, ahead: Ahead) -> Found
+    ensures kind { result.kind ≡ found.kind }
+    ensures place { result.place ≡ found.place }
+{
+    match kind {
+        DrawerKind::DrawerLine => Found {
+            shown: ahead.stop_line,
+            ..found
+        },
+        _ => found,
+    }
 }
 
 // Puts a line that looks as if a block began there, and none does.
@@ -76,7 +93,7 @@ fn push_block(found: &mut Findings, here: Here, line: &[u8]) -> Result<(), Alloc
     if !is_unclosed_block(here.class, line) {
         return Ok(());
     }
-    found.push(here, whole_line(line, Kind::UnclosedBlock, None))
+    found.push(here, whole_line(here, line, Kind::UnclosedBlock, None))
 }
 
 // Puts a line that looks like a clock line and is none.
@@ -86,7 +103,7 @@ fn push_clock(found: &mut Findings, here: Here, line: &[u8]) -> Result<(), Alloc
     if !is_unread_clock(here.class, line) {
         return Ok(());
     }
-    found.push(here, whole_line(line, Kind::UnreadClock, None))
+    found.push(here, whole_line(here, line, Kind::UnreadClock, None))
 }
 
 // Puts a clock that counts nothing.
@@ -102,7 +119,7 @@ fn push_minutes(
         return Ok(());
     }
     let kind = Kind::Minutes(minutes_kind(line, now));
-    found.push(here, whole_line(line, kind, None))
+    found.push(here, whole_line(here, line, kind, None))
 }
 
 // Puts a finding for each mark of a line: for whatever looks planned in it and isn't read so.

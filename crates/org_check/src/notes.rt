@@ -1,16 +1,13 @@
 //! Findings that explain no mark.
 
 use crate::beside_kinds::BesideKind;
-use crate::finding::Cause;
+use crate::finding::{Cause, LinePart};
 use std::alloc::{AllocError, Global};
 
 // Such a finding: by its kind it says of nothing that it isn't read.
 #[derive(Clone, Copy)]
 pub(crate) struct Note {
-    pub line_at: u32,
-    pub place: usize,
-    pub len: usize,
-    pub line: u32,
+    pub part: LinePart,
     pub kind: BesideKind,
     pub cause: Option<Cause>,
 }

@@ -1,7 +1,7 @@
 //! Planning that isn't read, or says something else.
 
 use crate::beside_kinds::BesideKind;
-use crate::here::Here;
+use crate::here::{Here, State};
 use crate::looks::looks_like_stamp;
 use crate::notes::Notes;
 use crate::unread_kinds::PlanningKind;
@@ -57,7 +57,7 @@ pub(crate) fn push_planning(notes: &mut Notes, here: Here, line: &[u8]) -> Resul
         let Some(pair) = next_pair(line, at) else {
             return push_rest(notes, here, line, at);
         };
-        if let Some(kind) = pair_kind(&pair, words.has(pair.word), here.above.is_done) {
+        if let Some(kind) = pair_kind(&pair, words.has(pair.word), here.above.state) {
             notes.push(here.note(kind, pair.at, pair.len))?;
         }
         words = words.with(pair.word);
@@ -66,7 +66,7 @@ pub(crate) fn push_planning(notes: &mut Notes, here: Here, line: &[u8]) -> Resul
     Ok(())
 }
 
-fn pair_kind(pair: &Pair, repeated: bool, is_done: bool) -> Option<BesideKind> {
+fn pair_kind(pair: &Pair, repeated: bool, state: State) -> Option<BesideKind> {
     let stamp = pair.stamp;
     if repeated {
         return Some(BesideKind::RepeatedPlanning);
@@ -80,7 +80,7 @@ fn pair_kind(pair: &Pair, repeated: bool, is_done: bool) -> Option<BesideKind> {
     if pair.end.saturating_sub(pair.at) > pair.len {
         return Some(BesideKind::PlanningRange);
     }
-    if is_done && stamp.repeater.is_some() {
+    if state == State::Done && stamp.repeater.is_some() {
         return Some(BesideKind::RepeaterOnDone);
     }
     None
@@ -134,12 +134,13 @@ fn after_colon(text: &[u8]) -> &[u8] {
 
 // Why a line whose first word is a planning word is no planning line.
 pub(crate) fn stray_planning(here: Here, line: &[u8]) -> PlanningKind {
-    let after = after_colon(past_spaces(line));
-    match after {
+    if !looks_like_stamp(after_colon(past_spaces(line))) {
+        PlanningKind::PlanningWithoutStamp
+    } else if here.above.first.is_none() {
         // It stands where it should, and what is found of its stamp says why it isn't read.
-        _ if here.above.first.is_none() && looks_like_stamp(after) => PlanningKind::PlanningUnread,
-        [b'<' | b'[', ..] => PlanningKind::StrayPlanning,
-        _ => PlanningKind::PlanningWithoutStamp,
+        PlanningKind::PlanningUnread
+    } else {
+        PlanningKind::StrayPlanning
     }
 }
 

@@ -11,26 +11,26 @@ use org_drawer::effort_minutes;
 use org_stamp::leading_spaces;
 use std::alloc::{AllocError, Global};
 
-// The names that a drawer has given a value so far, in small letters, and their lines.
+// The names that were met so far, in small letters, and the first line of each.
 #[derive(Drop)]
-pub(crate) struct DrawerNames {
+pub(crate) struct MetNames {
     alloc: Global,
     names: NameSet,
     lines: Vec<u32>,
 }
 
-impl DrawerNames {
+impl MetNames {
     // None.
-    pub(crate) fn new(alloc: Global) -> DrawerNames {
-        DrawerNames {
+    pub(crate) fn new(alloc: Global) -> MetNames {
+        MetNames {
             alloc,
             names: NameSet::new(alloc),
             lines: Vec::new(alloc),
         }
     }
 
-    // The line that gave the name a value before, if there is one; else this line does.
-    fn meet(&mut self, name: &[u8], line: u32) -> Result<Option<u32>, AllocError> {
+    // The first line in which the name was met, if there is one; else it is this line.
+    pub(crate) fn meet(&mut self, name: &[u8], line: u32) -> Result<Option<u32>, AllocError> {
         let folded = name.to_ascii_lowercase(self.alloc)?;
         if let Some(place) = self.names.place(folded.as_slice()) {
             return Ok(self.lines.as_slice().get(place).copied());
@@ -44,7 +44,7 @@ impl DrawerNames {
 // Puts what a line of a drawer says and doesn't do.
 pub(crate) fn push_node(
     notes: &mut Notes,
-    names: &mut DrawerNames,
+    names: &mut MetNames,
     here: Here,
     line: &[u8],
 ) -> Result<(), AllocError> {
@@ -66,7 +66,7 @@ fn push_effort(
     name: &[u8],
     value: &[u8],
 ) -> Result<(), AllocError> {
-    if same_word(name, b"Effort") && effort_minutes(value).is_none() {
+    if same_word(name, b"Effort") && !value.is_empty() && effort_minutes(value).is_none() {
         push_line(notes, here, BesideKind::UnreadEffort, line, None)?;
     }
     Ok(())
@@ -75,7 +75,7 @@ fn push_effort(
 // Puts a name that has a value already, and one that match expressions take for something else.
 fn push_name(
     notes: &mut Notes,
-    names: &mut DrawerNames,
+    names: &mut MetNames,
     here: Here,
     line: &[u8],
     name: &[u8],

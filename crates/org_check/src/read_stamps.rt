@@ -11,28 +11,32 @@ use org_cal::TimeOfDay;
 use org_stamp::{Found, Stamp, read_single, stamps_in};
 use std::alloc::AllocError;
 
-// Puts what the stamps of a line say and don't do.
+// Puts what the stamps of a line say and don't do; answers whether an active one may stand in it.
 pub(crate) fn push_read_stamps(
     notes: &mut Notes,
     here: Here,
     line: &[u8],
-) -> Result<(), AllocError> {
+) -> Result<bool, AllocError> {
     if line.starts_with(b"%%(") {
-        return notes.push(here.note(BesideKind::DiarySexp, 0, trim(line).len()));
+        notes.push(here.note(BesideKind::DiarySexp, 0, trim(line).len()))?;
+        return Ok(false);
     }
     if memchr2(b'<', b'[', line).is_none() || is_fixed_width(line) {
-        return Ok(());
+        return Ok(false);
     }
+    let mut has_active = false;
     let counts = counts_inactive(here.class, line);
     for found in stamps_in(line) {
         if found.stamp.active || counts {
             push_names(notes, here, line, &found)?;
         }
         if found.stamp.active {
+            has_active = true;
             push_read(notes, here, line, &found)?;
         }
     }
-    push_sexp(notes, here, line)
+    push_sexp(notes, here, line)?;
+    Ok(has_active)
 }
 
 // Puts the names of days that aren't those of the stamp's dates.

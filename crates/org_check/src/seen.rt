@@ -4,8 +4,9 @@ use crate::clocks::Clocks;
 use crate::drawers::Ahead;
 use crate::file::About;
 use crate::here::Above;
+use crate::hidden::Hiding;
 use crate::notes::Notes;
-use crate::properties::DrawerNames;
+use crate::properties::MetNames;
 use std::alloc::{AllocError, Global};
 
 // What was seen of a text so far.
@@ -24,7 +25,11 @@ pub(crate) struct Seen<'a> {
     // The line of the first category.
     pub category: Option<u32>,
     // The names of the drawer.
-    pub names: DrawerNames,
+    pub names: MetNames,
+    // The words in capitals that stand in front of headings and are no keywords.
+    pub capitals: MetNames,
+    // What hides the last heading, if it is hidden.
+    pub hiding: Option<Hiding>,
     // What is known of the section before the line.
     pub above: Above,
     // What comes after a line of the section.
@@ -42,7 +47,9 @@ impl<'a> Seen<'a> {
             lines: 0,
             open_blocks: 0,
             category: None,
-            names: DrawerNames::new(alloc),
+            names: MetNames::new(alloc),
+            capitals: MetNames::new(alloc),
+            hiding: None,
             above: Above::new(),
             ahead: None,
         }

@@ -1,7 +1,9 @@
 //! What is said of a finding.
 
+use crate::beside_kinds::BesideKind;
 use crate::draft::Draft;
 use crate::finding::{Cause, Finding};
+use crate::kind::Kind;
 use std::alloc::AllocError;
 
 // The most bytes of a text that a sentence quotes.
@@ -20,9 +22,28 @@ pub(crate) fn push_sentence(
         out.push_str(": ")?;
     }
     out.push_str(entry.sentence)?;
-    match finding.cause {
-        Some(cause) => push_cause(out, cause),
-        None => Ok(()),
+    let Some(cause) = finding.cause else {
+        return Ok(());
+    };
+    if moves(finding.kind) {
+        push_move(out, cause)?;
+    }
+    push_cause(out, cause)
+}
+
+// Whether what stands in the way of a finding of the kind says where its line is to be moved.
+fn moves(kind: Kind) -> bool {
+    matches!(
+        kind,
+        Kind::Planning(_) | Kind::Beside(BesideKind::PlanningCase)
+    )
+}
+
+// Puts where planning is to be moved.
+fn push_move(out: &mut Draft, cause: Cause) -> Result<(), AllocError> {
+    match cause {
+        Cause::Planning(_) => out.push_str("; write it at the end of the line under its heading"),
+        _ => out.push_str("; write it directly under its heading"),
     }
 }
 
@@ -59,6 +80,14 @@ fn push_cause(out: &mut Draft, cause: Cause) -> Result<(), AllocError> {
         Cause::Drawer(line) => push_line(out, "; a drawer begins in line ", line, ""),
         Cause::Planning(line) => push_line(out, "; line ", line, " is the planning line"),
         Cause::Text(line) => push_line(out, "; line ", line, " stands between"),
+        Cause::InDrawer(line) => {
+            push_line(
+                out,
+                "; take it out of the drawer that begins in line ",
+                line,
+                "",
+            )
+        }
         Cause::Other(line) => push_line(out, " (line ", line, ")"),
         Cause::NoHeading => out.push_str("; no heading stands above"),
     }

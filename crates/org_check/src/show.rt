@@ -107,7 +107,7 @@ fn push_said<T: Text>(
     finding: &Finding,
 ) -> Result<(), AllocError> {
     // A few bytes more show that the text is longer.
-    let len = finding.len.min(LONGEST_QUOTE + 4);
+    let len = finding.shown.len.min(LONGEST_QUOTE + 4);
     let mut bytes = Draft::new(alloc)?;
     push_part(&mut bytes, text, finding.at(), len)?;
     push_sentence(out, finding, bytes.as_slice())
@@ -134,7 +134,7 @@ fn push_plain(
 ) -> Result<(), AllocError> {
     out.push_str(name)?;
     out.push_str(":")?;
-    out.push_number(u64::from(finding.line))?;
+    out.push_number(u64::from(finding.shown.line))?;
     out.push_str(":")?;
     out.push_number(finding.column() as u64)?;
     out.push_str(": ")?;
@@ -166,10 +166,10 @@ fn push_object(
 
 // Puts the members that say where a finding stands.
 fn push_place(out: &mut Draft, finding: &Finding) -> Result<(), AllocError> {
-    push_member(out, ",\"line\":", u64::from(finding.line))?;
+    push_member(out, ",\"line\":", u64::from(finding.shown.line))?;
     push_member(out, ",\"column\":", finding.column() as u64)?;
     push_member(out, ",\"byte\":", finding.at() as u64)?;
-    push_member(out, ",\"length\":", finding.len as u64)?;
+    push_member(out, ",\"length\":", finding.shown.len as u64)?;
     match finding.other_line() {
         Some(line) => push_member(out, ",\"other_line\":", u64::from(line)),
         None => Ok(()),

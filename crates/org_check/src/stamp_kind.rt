@@ -1,5 +1,6 @@
 //! Why what looks like a stamp is none.
 
+use crate::spaces::has_odd_space;
 use crate::unread_kinds::StampKind;
 use org_base::words::{first_word, trim_start};
 use org_cal::{Day, TimeOfDay};
@@ -23,9 +24,15 @@ pub(crate) fn unread_kind(line: &[u8], candidate: Candidate) -> StampKind {
     inner_kind(&line[place + 1..close])
 }
 
+// The most bytes of what stands between brackets in which a space is looked for that is none.
+const MOST_OF_WORDS: usize = 64;
+
 // The same of what stands between the brackets. No more than a few words of it are looked at, and of the date no more than
 // shows that it is too long.
 fn inner_kind(inner: &[u8]) -> StampKind {
+    if has_odd_space(&inner[..inner.len().min(MOST_OF_WORDS)]) {
+        return StampKind::SpaceInStamp;
+    }
     let date = first_word(&inner[..inner.len().min(11)]);
     if date.len() > 10 {
         return StampKind::UnreadStamp;
@@ -79,6 +86,9 @@ fn upto_word(word: &[u8], upto: Upto) -> Result<Upto, StampKind> {
             Upto::Marks => Err(StampKind::BadRepeater),
             _ => Ok(Upto::Mark),
         },
+        [b'0'..=b'9', ..] if matches!(upto, Upto::Mark | Upto::Marks) => {
+            Err(StampKind::BadRepeater)
+        }
         [b'0'..=b'9', ..] if !is_time(word) => Err(StampKind::NoSuchTime),
         [b'0'..=b'9', ..] => match upto {
             Upto::Date | Upto::Name => Ok(Upto::Time),

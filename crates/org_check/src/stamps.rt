@@ -80,7 +80,7 @@ fn push_if_none(
     let one = Found {
         kind: Kind::Stamp(kind_at(line, candidate, quotes)),
         place,
-        len: shown_len(line, candidate, quotes),
+        shown: here.part(place, shown_len(line, candidate, quotes)),
         cause: None,
     };
     found.push(here, one)

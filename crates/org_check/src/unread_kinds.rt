@@ -10,6 +10,7 @@ pub enum StampKind {
     BadRepeater,
     ShortDate,
     UnclosedStamp,
+    SpaceInStamp,
     UnreadStamp,
     UnreadInactiveStamp,
     QuotedStamp,
@@ -42,6 +43,12 @@ impl StampKind {
             StampKind::UnclosedStamp => Entry::error(
                 "unclosed-stamp",
                 "no timestamp, since its own bracket doesn't close it in this line",
+            )
+            .with_quote(),
+            StampKind::SpaceInStamp => Entry::error(
+                "space-in-stamp",
+                "no timestamp, since what looks like a space in it is another character, as \
+                 U+00A0; write spaces",
             )
             .with_quote(),
             StampKind::UnreadStamp => Entry::error(
@@ -78,8 +85,7 @@ impl PlanningKind {
         match self {
             PlanningKind::StrayPlanning => Entry::error(
                 "stray-planning",
-                "no planning line, and its stamps show on their days alone; write it directly \
-                 under its heading",
+                "no planning line, and its stamps show on their days alone",
             ),
             PlanningKind::PlanningWithoutStamp => Entry::error(
                 "planning-without-stamp",
@@ -112,7 +118,7 @@ impl DrawerKind {
             ),
             DrawerKind::DrawerLine => Entry::error(
                 "drawer-line",
-                "none of its properties is read, since a line in it isn't `:NAME: VALUE'",
+                "no property of the drawer is read, since this line isn't `:NAME: VALUE'",
             ),
             DrawerKind::UnclosedDrawer => Entry::error(
                 "unclosed-drawer",

@@ -15,9 +15,10 @@ use std::test::Fail;
 const KINDS: &str = "* a
 <2024-02-30 Fri> [2024-02-30]~no-such-date unread-inactive-stamp$* a
 <2024-02-09 24:00> <2024-02-09 9am> <2024-02-09 10:00-24:00>~no-such-time no-such-time no-such-time$* a
-<2024-02-09 +1w +2w> <2024-02-09 +1q> <2024-02-09 +1w -1d -2d>~bad-repeater bad-repeater bad-repeater$* a
+<2024-02-09 +1w +2w> <2024-02-09 +1q> <2024-02-09 +1w -1d -2d> <2024-02-09 + 1w>~bad-repeater bad-repeater bad-repeater bad-repeater$* a
 <2024-2-9> <2024-02-9 Fri>~short-date short-date$* a
 <2024-02-09] <2024-02-09 Fri~unclosed-stamp unclosed-stamp$* a
+<2024-02-09\u{a0}Fri> <2024-02-09 Fri\u{202f}10:00>~space-in-stamp space-in-stamp$* a
 <2024-02-09 Fri 10:00 Berlin> <2024-02-09x> <2024-02-09 10:00 Fri>~unread-stamp unread-stamp unread-stamp$* a
 =<2024-02-30>= [[2024-02-30.org][b]]
 : <2024-02-30>~quoted-stamp quoted-stamp quoted-stamp$* a
@@ -26,6 +27,8 @@ const KINDS: &str = "* a
 <2024-02-09 12:00-11:00> <2024-02-09 12:00>--<2024-02-09 11:00>~reversed-times reversed-times$* a
 <2024-02-09 +1w>--<2024-02-10>~range-with-repeater$* a
 <2024-02-09 +0d>~zero-repeater$* a
+<2024-02-09> -- <2024-02-10>, <2024-02-09>\u{2013}<2024-02-10>
+=<2024-02-09> - <2024-02-10>= [2024-02-09] - [2024-02-10]~near-range near-range$* a
 <%%(diary-float t 4 2)> =<%%(a)>=
 %%(org-anniversary 1956 5 14)~diary-sexp diary-sexp$* a
 :PROPERTIES:
@@ -43,6 +46,16 @@ DEADLINE: <2024-02-09>
  SCHEDULED: <2024-02-10>~stray-planning stray-planning$CLOSED: [2024-02-09]~stray-planning$* a
 DEADLINE: 2024-02-09
 SCHEDULED:~planning-without-stamp planning-without-stamp$* a
+DEADLINE: <2024/02/09>~planning-without-stamp$* a
+- DEADLINE: <2024-02-09>
+SCHEDULE: <2024-02-09> DEADLINE <2024-02-09>
+=DEADLINE: <2024-02-09>= deadline: <2024-02-09>~near-planning near-planning near-planning$* COMMENT a
+** TODO b
+DEADLINE: <2024-02-09>
+** c
+DEADLINE: <2024-02-09>
+* TODO d
+DEADLINE: <2024-02-09>~hidden-planning$* a
 DEADLINE: <2024-02-30>~planning-unread no-such-date$* a
 Deadline: <2024-02-09>
 deadline: a~planning-case$* a
@@ -67,6 +80,10 @@ b
 * b
 :PROPERTIES:
 :effort: 2h
+:END:
+* c
+:PROPERTIES:
+:Effort:
 :END:~unread-effort$* a
 :PROPERTIES:
 :A: b
@@ -84,13 +101,25 @@ b
 #+TODO: A
 #+end_example~setting-in-block$\u{feff}* a~byte-order-mark$#+TODO A | B
 * a~setting-without-colon$#+CATEGORY: a
-#+category: b~second-category$* HOLD a~keyword-of-other-file$* WAITING a
-* waiting a~missing-keyword$*TODO a
+#+category: b~second-category$#+TODO: A, B | C~comma-in-keywords$#+TODO: A WAIT
+#+TODO: B C~missing-bar$#+SETUPFILE: a
+#+SETUPFILE: http://a~unread-setting$* HOLD a~keyword-of-other-file$* WAITING a
+* waiting a~missing-keyword$* todo a
+* DONE: a
+* todo
+* Todo a~near-keyword near-keyword$* ABC a
+* ABC b
+* AB c
+* AB d~word-in-capitals$*\u{a0}a
+* b
+\u{200b}DEADLINE: <2024-02-09>~odd-space odd-space$*TODO a
 **a~heading-without-space$ ** TODO a
  ** a~indented-heading$* [#A] TODO a~keyword-after-cookie$* TODO [#a] a
 * [#65] a~unread-priority unread-priority$* a :b-c:
 * a :b:~unread-tags$* a
 CLOCK: <2024-02-09>--<2024-02-10>~unread-clock$* a
+clock: [2024-02-09]--[2024-02-10]
+clock: a~clock-case$* a
 - CLOCK: [2024-02-09]--[2024-02-10]~clock-in-list$* a
 CLOCK: [2024-02-08 11:59]~running-clock$* a
 CLOCK: [2024-02-08 12:00]~open-clock$* a

@@ -1,0 +1,1 @@
+cp "$here/check/near.org" .
