@@ -2,10 +2,13 @@
 # Runs the completions of bash, zsh and fish, each in its shell, and compares what they offer with what the program takes: behind
 # a minus the options that `--help` of the same command lists, and no others; as words its commands, days, keywords or tags;
 # behind an option the values that its line of `--help` names; and files where its arguments or its options take one, and nowhere
-# else. Each day that is offered has to be taken by the program. What is missing and what is too much fails. The man page has a section for each command, with each of its options. A shell that isn't
-# installed is left out, and that is said. The last line counts.
+# else. Each day that is offered has to be taken by the program. What is missing and what is too much fails. Then lines are typed
+# into each shell on a terminal, over files whose keywords, tags and names are made to be run, expanded or written raw: nothing of
+# them is, and the word on the line is the one that is meant. The man page has a section for each command, with each of its
+# options. A shell that isn't installed is left out, and that is said. The last line counts.
 #     tests/completions.sh ORGQ [SHELL..]
 here=$(cd "$(dirname "$0")" && pwd)
+completions=$(cd "$here/../contrib/completions" && pwd)
 if [ ! -x "$1" ]; then
     echo "completions: there is no program $1"
     echo "completions: 0 passed, 1 failed"
@@ -152,6 +155,18 @@ ask_shell() {
     esac > "$work/$1$2"
 }
 
+# Types lines into a shell, and counts what typed.py says of them.
+type_into() {
+    case $1 in zsh) completion=_orgq ;; *) completion=orgq.$1 ;; esac
+    mkdir "$work/typed-$1"
+    timeout 600 python3 "$here/completions/typed.py" "$1" "$completions/$completion" "$work/bin/orgq" "$work/typed-$1" > "$work/said"
+    counts=$(sed -n 's/^\([0-9]*\) passed, \([0-9]*\) failed$/\1 \2/p' "$work/said")
+    sed -n '/ passed, [0-9]* failed$/!s/^/completions: /p' "$work/said"
+    [ -n "$counts" ] || { echo "completions: typing into $1 didn't end (it wants python3)"; counts="0 1"; }
+    passed=$((passed + ${counts% *}))
+    failed=$((failed + ${counts#* }))
+}
+
 mkdir "$work/folder-files" && : > "$work/folder-files/zz.org"
 for shell in ${shells:-bash zsh fish}; do
     if ! command -v "$shell" > /dev/null 2>&1; then
@@ -163,6 +178,7 @@ for shell in ${shells:-bash zsh fish}; do
         ask_shell "$shell" "$with" || { failed=$((failed + 1)); echo "completions: $shell can't be asked"; continue; }
         compare "$shell" "$with"
     done
+    type_into "$shell"
 done
 echo "completions: $count lines were asked of each shell"
 

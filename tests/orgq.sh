@@ -427,11 +427,12 @@ notify 10 --at "2024-02-28 10:30" -f "$room/fails.org" -f "$room/soon.org"
 # What bash completes: names with spaces, folders, and no command of a word that is an option's value.
 if command -v bash > /dev/null 2>&1; then
     completed() {
-        PATH=$room/bin:$PATH bash -c '. "$0"; shift; COMP_WORDS=("$@"); COMP_CWORD=$(($# - 1)); _orgq; printf "%s\n" "${COMPREPLY[@]}"' \
+        PATH=$room/bin:$PATH bash -c '. "$0"; shift; COMP_WORDS=("$@") COMP_CWORD=$(($# - 1)) COMP_LINE="$*"; COMP_POINT=${#COMP_LINE}
+            _orgq orgq "${@: -1}"; printf "%s\n" "${COMPREPLY[@]}"' \
             "$here/../contrib/completions/orgq.bash" "" "$@"
     }
-    [ "$(completed orgq -f my)" = "my notes.org" ] && passed=$((passed + 1)) || fail "bash completes a name with a space: $(completed orgq -f my)"
-    [ "$(completed orgq my)" = "my notes.org" ] && passed=$((passed + 1)) || fail "bash completes a bare name: $(completed orgq my)"
+    [ "$(completed orgq -f my)" = "my\\ notes.org" ] && passed=$((passed + 1)) || fail "bash completes a name with a space: $(completed orgq -f my)"
+    [ "$(completed orgq my)" = "my\\ notes.org" ] && passed=$((passed + 1)) || fail "bash completes a bare name: $(completed orgq my)"
     [ "$(completed orgq keyw)" = "keywords" ] && passed=$((passed + 1)) || fail "bash completes a folder: $(completed orgq keyw)"
     kind=$(completed orgq check --only no-such-date,stray-pl)
     [ "$kind" = "no-such-date,stray-planning" ] && passed=$((passed + 1)) || fail "bash completes a list of kinds: $kind"

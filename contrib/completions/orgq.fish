@@ -1,5 +1,6 @@
 # SPDX-License-Identifier: Apache-2.0 OR MIT
-# Completion of orgq for fish. Commands and options are those that the program's own help lists.
+# Completion of orgq for fish. Commands and options are those that the program's own help lists. fish itself quotes what it puts on
+# the line; what it would write raw, or take apart, isn't offered.
 
 # Of a help text the commands, each with what it does behind a tab.
 function _orgq_commands
@@ -29,6 +30,38 @@ function _orgq_kinds
     orgq check --only '?' 2>&1 | string replace -r '.*there are ' '' | string split ', '
 end
 
+# The keywords or the tags of the files. What begins with a minus would be an option; no argument holds a NUL.
+function _orgq_listed
+    orgq $argv[1] 2> /dev/null | tr '\000' '\001' | string match -rv '^-|[\x01-\x1f\x7f-\x{9f}]'
+end
+
+# Files and folders that begin as the word at the cursor, its quotes taken away.
+function _orgq_paths
+    set -l token (commandline -ct)
+    set -l front (string unescape -- $token)
+    set -l home ''
+    set -l lead ''
+    if string match -q -- '~/*' $token
+        set home $HOME/
+        set lead '~/'
+        set front (string sub -s 3 -- $front)
+    end
+    set -l paths $home$front*
+    # What has to be expanded first is fish's own: it completes a variable, and runs nothing.
+    if not set -q paths[1]
+        __fish_complete_path $token
+        return
+    end
+    for path in $paths
+        string match -qr '[\t\n\x{80}-\x{9f}]' -- $path; and continue
+        set -l shown $lead(string sub -s (math 1 + (string length -- $home)) -- $path)
+        test -d $path; and set shown $shown/
+        # What begins with a minus would be an option.
+        string match -q -- '-*' $shown; and set shown ./$shown
+        printf '%s\n' $shown
+    end
+end
+
 # What may stand at the end of the line.
 function _orgq_offers
     set -l days today tomorrow yesterday mon tue wed thu fri sat sun
@@ -53,7 +86,7 @@ function _orgq_offers
     if set -q valued[1]
         switch $valued
             case -f --file -o --output --under
-                __fish_complete_path (commandline -ct)
+                _orgq_paths
             case --only --not
                 __fish_complete_list , _orgq_kinds
             case --from --to
@@ -61,7 +94,7 @@ function _orgq_offers
             case --scheduled --deadline
                 printf '%s\n' $days
             case --tag
-                orgq tags 2> /dev/null
+                _orgq_listed tags
             case '*'
                 _orgq_values $valued $help
         end
@@ -87,9 +120,9 @@ function _orgq_offers
         case '*VIEW*'
             printf '%s\n' month week $days $blocks
         case '*KEYWORD*'
-            orgq keywords 2> /dev/null
+            _orgq_listed keywords
         case '*PLACE*' '*FILE*' '*PATH*'
-            __fish_complete_path (commandline -ct)
+            _orgq_paths
     end
 end
 complete -c orgq -f -a '(_orgq_offers)'
