@@ -249,6 +249,26 @@ else
     echo "package: orgq isn't built, and what the units tell was left out"
 fi
 
+# They are hardened, as systemd measures it, and end in a time that is longer than what they wait for.
+if systemd-analyze security --help 2> /dev/null | grep -q -e --offline; then
+    hardened() {
+        systemd-analyze security --offline=yes --threshold=30 "$here/contrib/systemd/orgq-notify.service" > "$work/exposure" 2>&1
+        status=$?
+        tail -n 1 "$work/exposure"
+        [ $status -eq 0 ] && grep -q 'exposure level for orgq-notify.service: [0-2]\.[0-9]' "$work/exposure"
+    }
+    check "the unit's exposure is at most 3" hardened
+    sound() {
+        systemd-analyze verify --man=no "$here/contrib/systemd/orgq-notify.service" "$here/contrib/systemd/orgq-notify.timer"
+    }
+    silently() { said=$("$@" 2>&1); echo "$said"; [ -z "$said" ]; }
+    check "systemd knows each word of the units" silently sound
+else
+    echo "package: systemd-analyze isn't here, or is older than 250, and how hard the units are was left out"
+fi
+in_time() { [ "$(sed -n 's/^TimeoutStartSec=\([0-9]*\)min$/\1/p' "$here/contrib/systemd/orgq-notify.service")" -ge 2 ]; }
+check "the unit has a limit of time" in_time
+
 # 8. The Debian package, over two programs that every Debian has; lintian's word where it is there.
 if command -v dpkg-shlibdeps strip dpkg-deb > /dev/null; then
     for folder in "$work/debian" "$work/elsewhere/debian"; do
