@@ -114,6 +114,11 @@ function! s:run_in_vim(command) abort
   endtry
 endfunction
 
+" The row of a {line} of JSON. Neovim makes no text of one that holds a NUL, and Vim none that shows it: `^@` stands for it.
+function! s:decode(line) abort
+  return json_decode(substitute(a:line, '\\\@<!\%(\\\\\)*\zs\\u0000', '^@', 'g'))
+endfunction
+
 " The rows of the answer to {arguments}, or v:null after a message where there is none.
 function! s:rows(arguments) abort
   let command = a:arguments[0] ==# 'check' && s:name_files(a:arguments[1:]) ? s:command([]) : s:command()
@@ -128,7 +133,7 @@ function! s:rows(arguments) abort
     call s:warn(line)
   endfor
   try
-    return map(filter(answer.output, '!empty(v:val)'), 'json_decode(v:val)')
+    return map(filter(answer.output, '!empty(v:val)'), 's:decode(v:val)')
   catch /^Vim\%((\a\+)\)\=:E/
     call s:complain('the program answers as no orgq does (see g:orgq_command)')
     return v:null
@@ -341,11 +346,16 @@ endfunction
 " What headings have, without a message where nothing can be asked: while one completes, none is of use.
 function! s:quiet_rows() abort
   let answer = s:run(s:command() + ['--json', 'match', 'LEVEL>0'])
-  return index([0, 3], answer.status) < 0 ? [] : map(filter(answer.output, '!empty(v:val)'), 'json_decode(v:val)')
+  return index([0, 3], answer.status) < 0 ? [] : map(filter(answer.output, '!empty(v:val)'), 's:decode(v:val)')
+endfunction
+
+" Those of {words} that can be typed, each once.
+function! s:each_once(words) abort
+  return uniq(sort(filter(a:words, 'stridx(v:val, "^@") < 0')))
 endfunction
 
 function! s:keywords() abort
-  return uniq(sort(map(filter(s:quiet_rows(), 'has_key(v:val, "keyword")'), 'v:val.keyword')))
+  return s:each_once(map(filter(s:quiet_rows(), 'has_key(v:val, "keyword")'), 'v:val.keyword'))
 endfunction
 
 function! s:tags() abort
@@ -353,5 +363,5 @@ function! s:tags() abort
   for row in s:quiet_rows()
     let tags += row.tags
   endfor
-  return uniq(sort(tags))
+  return s:each_once(tags)
 endfunction

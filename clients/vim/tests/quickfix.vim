@@ -242,6 +242,19 @@ call writefile(["* TODO \xff"], s:folder . '/latin.org')
 call s:check('a file is left out', s:said('OrgqTodo') =~# 'latin.org')
 call s:equal('and the others stay', len(s:valid()), 8)
 call delete(s:folder . '/latin.org')
+" A NUL is written as a line feed within a line; behind backslashes \u0000 is no NUL.
+call writefile(['#+TODO: TODO W' . "\n" . ' | DONE', '* TODO nul' . "\n" . 'x ' . "\n\n", '* TODO \u0000 \' . "\n", '* W' . "\n" . ' kept'], s:folder . '/nul.org', 'b')
+let g:orgq_files = [s:folder . '/nul.org']
+silent OrgqTodo
+call s:equal('a NUL breaks no list', map(s:valid(), '[v:val.lnum, matchstr(v:val.text, "\\%(TODO\\|W^@\\).*")]'),
+      \ [[2, 'TODO nul^@x ^@^@'], [3, 'TODO \u0000 \^@'], [4, 'W^@ kept']])
+call s:equal('nor the window of the list', getline(1, '$'), map(getqflist(), 'v:val.text'))
+silent OrgqMatch TODO="TODO"
+call s:equal('nor another list', len(s:valid()), 2)
+silent OrgqCheck --all
+call s:equal('a keyword that nobody can type is not offered', orgq#complete_todo('', 'OrgqTodo ', 9), ['TODO'])
+call delete(s:folder . '/nul.org')
+let g:orgq_files = [s:folder]
 let g:orgq_command = ['/no/such/program']
 let s:before = getqflist({'id': 0}).id
 call s:check('no program', s:said('OrgqTodo') =~# 'there is no program /no/such/program')
