@@ -483,7 +483,18 @@ if command -v bash > /dev/null 2>&1; then
     done
 fi
 
-# What is said of the version: that of VERSION, with the kit.
+# The man page says at its head which commands change a file: those that `--dry-run` is an option of.
+sed -n '/^\.SH DESCRIPTION/,/^\.SH /p' "$here/../docs/orgq.1" | tr -d '\\' | tr -s '\n" ,' '    ' > "$room/description"
+acts=0
+for command in $("$orgq" --help | awk '/^Commands:/ { on = 1; next } /^$/ { on = 0 } on && $1 != "help" { print $1 }') "clock in" "clock out" "clock cancel"; do
+    # shellcheck disable=SC2086
+    "$orgq" $command --help 2> /dev/null | grep -q -e --dry-run || continue
+    acts=$((acts + 1))
+    grep -q -w -e "$command" "$room/description" && passed=$((passed + 1)) || fail "the man page doesn't say that $command changes a file"
+done
+[ "$acts" -ge 8 ] && passed=$((passed + 1)) || fail "only $acts commands have --dry-run"
+
+# What is said of the version: that of VERSION.
 said=$("$orgq" --version 2> "$room/err")
 [ $? -eq 0 ] && [ "$(printf '%s\n' "$said" | head -n 1)" = "orgq $(cat "$here/../VERSION")" ] && [ ! -s "$room/err" ] && passed=$((passed + 1)) || fail "orgq --version: $said $(cat "$room/err")"
 said=$("$orgviews" --version 2>&1 > "$room/out")

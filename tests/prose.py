@@ -1,6 +1,6 @@
 #!/usr/bin/env python3
 """Checks in a second that pages and contracts can be read: no sentence of README.md and docs/ has more than 45 words
-outside tables and code, each file and each place that these pages name is there, and no clause of a contract has more than
+outside tables and code, each file and each heading that these pages lead to is there, and no clause of a contract has more than
 100 characters from its keyword to its brace. tests/prose.txt says how many longer clauses a file has for now, a line each:
 CRATE/src/FILE.rt COUNT; no file may have more. Says what it finds; the last line counts files.
 
@@ -83,13 +83,24 @@ def long_sentences(path, text):
     return said
 
 
+def headings(text):
+    """The headings of a page, as a link names them."""
+    found = re.findall(r"^#+ (.*)$", text, re.M)
+    return {re.sub(r"[^\w -]", "", heading.lower()).replace(" ", "-") for heading in found}
+
+
 def missing_links(path, text):
     """What a page names and isn't there: links, and in backticks the files of this repository."""
     said = []
     here = os.path.dirname(path)
-    for target in re.findall(r"\]\(([^)#]+)[^)]*\)", text):
-        if "://" not in target and not os.path.exists(os.path.join(ROOT, here, target)):
+    for target, heading in re.findall(r"\]\(([^)#]*)#?([^)]*)\)", text):
+        whole = os.path.join(ROOT, here, target) if target else os.path.join(ROOT, path)
+        if "://" in target:
+            continue
+        if not os.path.exists(whole):
             said.append(f"{path}: no file {target}")
+        elif heading and heading not in headings(read(whole)):
+            said.append(f"{path}: no heading {heading} in {target or path}")
     for target in re.findall(r"`((?:docs|tests|crates|contrib|clients|bench)/[A-Za-z0-9_./-]+)`", text):
         made = "/out/" in target or target.endswith("/out")
         if not made and not os.path.exists(os.path.join(ROOT, target)):
