@@ -2,7 +2,8 @@
 # SPDX-License-Identifier: Apache-2.0 OR MIT
 # Writes what an archive says of the proof: version and commit, the kit and its logic, the handles that are allowed, and of each
 # crate of the programs the last line of its check, made over what earlier checks kept. Where a check doesn't end in that line,
-# or a program isn't the one that `rt` noted as built of proved crates, there is no record. GATE names a file with what `make test`
+# or a program isn't the one that `rt` noted as built of proved crates, there is no record. The kit is the one that built the
+# programs: what another one built is built anew. GATE names a file with what `make test`
 # wrote: its last two lines are taken, if nothing failed there.
 # The record is kept in contrib/out/PROOF as long as no source, no program, no kit and no commit changes.
 cd "$(dirname "$0")/.." || exit 2
@@ -20,6 +21,12 @@ for program in orgviews orgq; do
             ;;
     esac
 done
+# What another kit built, or of other sources, rt proves and builds anew now; else it does nothing. So the record names the kit that
+# built the programs.
+if ! { (cd crates/orgviews && rt run -- --at "2024-02-28 10:30" < /dev/null) && (cd crates/orgq && rt run -- --version); } > /dev/null; then
+    echo "orgviews: the programs can't be built by this kit, so there is no record and no archive" >&2
+    exit 1
+fi
 sources=$({
     echo "$commit"
     rt version

@@ -163,6 +163,14 @@ record() {
         ! grep -q org_base_tests "$proof"
 }
 check "it says what was proved, by what and of which commit" record
+older_kit() {
+    cp "$first/crates/orgq/out/orgq" "$work/orgq" && cp "$proof" "$work/record"
+    OLDER=orgq quiet_make "$first" dist && tar -C "$work/unpacked" -xf "$first/$archive.tar.xz" || return 1
+    grep -qx '# built anew' "$work/unpacked/$archive/bin/orgq" || { echo "it is packed as it was"; return 1; }
+    grep -q "^$(sha256sum < "$first/crates/orgq/out/orgq" | cut -d ' ' -f 1)  orgq$" "$proof" || { echo "the record names another"; return 1; }
+}
+check "a program that another kit built is built anew, and the record is of that" older_kit
+check "that goes back" built "$first" orgq "$work/orgq"
 unproved() {
     rm -rf "$1/contrib/out" "$1"/*.tar.xz
     UNPROVED=org_base quiet_make "$1" dist

@@ -16,7 +16,8 @@ echo 'The terms of two.' | tee "$kit/rattle/clap/LICENSE-MIT" > "$kit/rattle/jif
 echo 'The terms of what none names.' > "$kit/rattle/unused/LICENSE"
 printf '// Under the licence of a friend.\n\nfn it() {}\n' > "$kit/rattle/below/src/more.rt"
 
-# What the scripts ask of `rt`; the check of the crate in UNPROVED ends without a proof.
+# What the scripts ask of `rt`; the check of the crate in UNPROVED ends without a proof, and the program in OLDER, which another kit
+# built, is built anew.
 mkdir "$work/bin"
 cat > "$work/bin/rt" <<END
 #!/bin/sh
@@ -28,6 +29,11 @@ case \$1 in
         echo "so far: 0 of 3 functions checked"
         echo "logic=proved functions=3 sum=00 native=nat,char,string incremental=\$\$"
         ;;
+    run)
+        program=\${PWD##*/}
+        [ "\$program" != "\$OLDER" ] || echo '# built anew' >> "out/\$program"
+        printf '00%s' "\$(sha256sum < "out/\$program" | cut -d ' ' -f 1)" > "out/\$program.stamp"
+        ;;
     *) exit 2 ;;
 esac
 END
@@ -36,7 +42,7 @@ PATH=$work/bin:$PATH
 GIT_AUTHOR_DATE='2026-01-02T03:04:05Z' GIT_COMMITTER_DATE='2026-01-02T03:04:05Z'
 GIT_AUTHOR_NAME=nobody GIT_COMMITTER_NAME=nobody GIT_AUTHOR_EMAIL=nobody@example.org GIT_COMMITTER_EMAIL=nobody@example.org
 export PATH GIT_AUTHOR_DATE GIT_COMMITTER_DATE GIT_AUTHOR_NAME GIT_COMMITTER_NAME GIT_AUTHOR_EMAIL GIT_COMMITTER_EMAIL
-unset SOURCE_DATE_EPOCH PREFIX DESTDIR GATE KIT PROOF KEEP UNPROVED MAKEFLAGS MAKELEVEL
+unset SOURCE_DATE_EPOCH PREFIX DESTDIR GATE KIT PROOF KEEP UNPROVED OLDER MAKEFLAGS MAKELEVEL
 export GIT_CONFIG_GLOBAL=/dev/null GIT_CONFIG_SYSTEM=/dev/null
 
 # What rt leaves of a program: the file, newer than the sources, and what it notes beside it, which ends with the program's sum.
