@@ -82,11 +82,10 @@ const OF_CHECK: &str = "\
 
 const OF_FOLLOW: &str = ";times;N;So many views, and no more";
 
-// What `--version` says behind the name. A build can't know the commit that its sources are of.
+// What `--version` says behind the name. A build can know neither the kit by which it is made nor the commit of its sources.
 const VERSION: &str = "\
 0.4.0
-kit: rattle-kit-13f logic dac8208d650f15bf
-commit: not known to a build; where a package has the file PROOF, that names it";
+kit and commit: not known to a build; where a package has the file PROOF, that names both";
 
 // The commands.
 const COMMANDS: [&str; 19] = [

@@ -8,11 +8,10 @@ use org_base::Profile;
 use org_wire::Protocol;
 use std::alloc::{AllocError, Global};
 
-// What `--version` says behind the name. A build can't know the commit that its sources are of.
+// What `--version` says behind the name. A build can know neither the kit by which it is made nor the commit of its sources.
 const VERSION: &str = "\
 0.4.0
-kit: rattle-kit-13f logic dac8208d650f15bf
-commit: not known to a build; where a package has the file PROOF, that names it";
+kit and commit: not known to a build; where a package has the file PROOF, that names both";
 
 /// The arguments that the program takes.
 pub fn command<'a>(alloc: Global) -> Result<Command<'a>, AllocError> {
