@@ -92,7 +92,7 @@ class Sources:
                 self.kebabs.add(os.path.basename(path).partition(".")[0])
             if path.startswith("crates/") and path.endswith((".rt", ".antt")):
                 self.declare(path)
-        programs = "".join(text_of(path) for path in self.files if re.match(r"crates/org(q|views)/src/", path))
+        programs = "".join(text_of(path) for path in self.files if re.match(r"crates/org(q(_[a-z]+)?|views)/src/", path))
         self.options = set(re.findall(r'(?m)(?:^|")[a-zA-Z]?;([a-z][a-z-]*);|\.long\("([a-z-]+)"\)', programs))
         self.options = {name for pair in self.options for name in pair} | {"help", "version"}
         self.commands = set(re.findall(r'"([a-z]+)"', programs))
