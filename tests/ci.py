@@ -120,11 +120,11 @@ class Edits:
         refused so: of none where what they name isn't proved without an edit, before them and behind them."""
         named = {it: paths_of(it) for it in edits}
         paths, told = sorted({path for it in named.values() for path in it}), {}
-        if not paths or not self.is_proved(crate, flags, kept, paths):
-            return {}
-        for edit in filter(named.get, edits):
+        if paths and not self.is_proved(crate, flags, kept, paths):
+            paths = [it for it in paths if self.is_proved(crate, flags, kept, [it])] if len(paths) > 1 else []
+        for edit in edits:
             texts, why = self.rt.read_edit(edit, crate.folder)
-            if why:
+            if why or not named[edit] or not {*named[edit]} <= {*paths}:
                 continue
             found, left, lines = self.count(crate, texts, flags, kept, named[edit])
             said = refusal(lines)
@@ -140,7 +140,7 @@ class Edits:
         asked, proved, lines = self.count(crate, {}, flags, kept, paths)
         is_so = 0 < asked == proved
         if not is_so:
-            print(f"ci: {crate.name}: what its edits name isn't proved alone, so they are tried on the whole crate: {lines[-1][:200]}", flush=True)
+            print(f"ci: {crate.name}: {' '.join(paths)} can't be proved alone: {lines[-1][:200]}", flush=True)
         return is_so
 
     def all(self, crate, edits, flags):
