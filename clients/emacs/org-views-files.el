@@ -106,6 +106,7 @@ engine has them; both nil where the whole text is."
   keywords-of                  ; the serial of the text of which they were asked
   edits                        ; see `org-views--byte-now', the latest first
   trouble                      ; why the engine's text isn't the file's
+  disk                         ; why the buffer's text isn't the file's
   conflict)                    ; whether another session changed the text
 
 ;;;; Texts
@@ -378,9 +379,26 @@ By one edit, whose reply is given; by none where it is in step already."
                            (if same text (concat text tail))
                            size tail own)))))))
 
+(defun org-views--look-at-disk (file)
+  "Have the buffer of FILE, the current one, take what the file has on disk.
+That is for a command, and for a buffer that isn't modified; else why the
+texts differ is noted of FILE."
+  (unless (and org-views--idle (file-remote-p buffer-file-name))
+    (setf (org-views--file-disk file)
+          (cond
+           ((verify-visited-file-modtime) nil)
+           ((not (file-readable-p buffer-file-name)) "gone from the disk; its buffer is shown")
+           ((buffer-modified-p) "changed on disk, and its buffer isn't saved")
+           (org-views--idle "changed on disk; g takes it")
+           (t (condition-case fault
+                  (progn (revert-buffer t t t) nil)
+                (error (format "changed on disk, and not taken (%s)"
+                               (error-message-string fault)))))))))
+
 (defun org-views--settle-buffer (file)
   "Bring the engine's text of FILE in step with its buffer."
   (with-current-buffer (org-views--file-buffer file)
+    (org-views--look-at-disk file)
     (org-views--hook)
     (let ((tick (buffer-chars-modified-tick))
           (size (org-views--with-whole-text (org-views--size))))
@@ -537,7 +555,8 @@ It isn't sent where it is what was read from disk."
         (remove-hook 'after-change-functions #'org-views--after-change t)
         (remove-hook 'kill-buffer-hook #'org-views--note-kill t)
         (kill-local-variable 'org-views--file)))
-    (setf (org-views--file-buffer file) nil)
+    (setf (org-views--file-buffer file) nil
+          (org-views--file-disk file) nil)
     (org-views--forget-text file)))
 
 (defun org-views--note-visit ()
@@ -817,7 +836,9 @@ command then."
                                     name))
                            ((org-views--file-trouble file)
                             (format "%s: left out, %s" name
-                                    (org-views--file-trouble file))))))
+                                    (org-views--file-trouble file)))
+                           ((org-views--file-disk file)
+                            (format "%s: %s" name (org-views--file-disk file))))))
                  org-views--files))
    org-views--left-out))
 
@@ -863,8 +884,9 @@ A text that another session didn't change, and that differs, is sent whole."
                       (if (org-views--file-buffer file) "buffer" "disk")
                       (org-views--file-name file)
                       (cond (conflict ": changed by another session (M-x org-views-resolve)")
-                            ((org-views--file-trouble file)
-                             (concat ": " (org-views--file-trouble file)))
+                            ((or (org-views--file-trouble file) (org-views--file-disk file))
+                             (concat ": " (or (org-views--file-trouble file)
+                                              (org-views--file-disk file))))
                             (t "")))))
           org-views--files)))
     (with-help-window "*Org Views: status*"

@@ -1095,6 +1095,51 @@ So it belongs to the same undo step as the change."
              (not (eq org-log-note-how 'note)))
     (org-add-log-note)))
 
+(defvar-local org-views--elsewhere nil
+  "What this view's acts changed in other buffers than the heading's.
+For each entry of `org-agenda-undo-list' with such changes it has (ENTRY HASH
+CHANGE ..), where HASH is that of the heading's buffer before the act.  A
+CHANGE is (BUFFER PATH BEFORE AFTER SAVED): its undo lists before and after
+the act, and whether the act saved it.")
+
+(defun org-views--undo-list (buffer)
+  "The undo list of BUFFER without the boundaries at its front."
+  (let ((list (buffer-local-value 'buffer-undo-list buffer)))
+    (while (and (consp list) (null (car list))) (pop list))
+    list))
+
+(defun org-views--undo-lists ()
+  "A table from the buffers that visit files to their undo lists.
+Each is given a boundary, so that what comes is apart from what was."
+  (let ((lists (make-hash-table :test #'eq)))
+    (dolist (buffer (buffer-list) lists)
+      (when (buffer-local-value 'buffer-file-name buffer)
+        (with-current-buffer buffer (undo-boundary))
+        (puthash buffer (org-views--undo-list buffer) lists)))))
+
+(defun org-views--changes-since (lists entry)
+  "What differs from LISTS in buffers that the undo ENTRY doesn't have."
+  (let (changes)
+    (dolist (buffer (buffer-list) changes)
+      (let ((path (buffer-local-value 'buffer-file-name buffer))
+            (before (gethash buffer lists))
+            (after (org-views--undo-list buffer)))
+        (when (and path (consp after) (not (eq before after)) (not (memq buffer entry)))
+          (with-current-buffer buffer (undo-boundary))
+          (push (list buffer path before after (not (buffer-modified-p buffer)))
+                changes))))))
+
+(defmacro org-views--noting-elsewhere (buffer &rest body)
+  "Do BODY, an act on BUFFER, and keep note of what it does elsewhere."
+  (declare (indent 1) (debug t))
+  `(let ((lists (org-views--undo-lists))
+         (hash (buffer-hash ,buffer))
+         (last (car org-agenda-undo-list)))
+     ,@body
+     (let* ((entry (car org-agenda-undo-list))
+            (changes (unless (eq entry last) (org-views--changes-since lists entry))))
+       (when changes (push (cons entry (cons hash changes)) org-views--elsewhere)))))
+
 (defun org-views--call (command)
   "Call COMMAND interactively at the heading of the row at point.
 That is done in the heading's buffer, as if it were called there; the view
@@ -1104,11 +1149,12 @@ follows at once."
   (let ((heading (org-views--heading)))
     (unless (with-current-buffer (marker-buffer heading) (derived-mode-p 'org-mode))
       (user-error "%s isn't in Org mode" (marker-buffer heading)))
-    (org-with-remote-undo (marker-buffer heading)
-      (org-with-point-at heading
-        (let ((org-loop-over-headlines-in-active-region nil))
-          (call-interactively command)
-          (org-views--log-at-once))))
+    (org-views--noting-elsewhere (marker-buffer heading)
+      (org-with-remote-undo (marker-buffer heading)
+        (org-with-point-at heading
+          (let ((org-loop-over-headlines-in-active-region nil))
+            (call-interactively command)
+            (org-views--log-at-once)))))
     (org-views--revert)))
 
 (defun org-views-change-todo ()
@@ -1191,11 +1237,64 @@ follows at once."
   (interactive nil org-views-mode)
   (org-clock-goto))
 
+(defun org-views--undoable-p (change)
+  "Whether the buffer of CHANGE is as the act left it, on disk too."
+  (pcase-let ((`(,buffer ,_ ,before ,after ,_) change))
+    (and (buffer-live-p buffer)
+         (eq after (org-views--undo-list buffer))
+         (or (null before) (cl-tailp before after))
+         (verify-visited-file-modtime buffer))))
+
+(defun org-views--undo-change (change)
+  "Undo CHANGE in its buffer, and save that where the act saved it."
+  (pcase-let ((`(,buffer ,_ ,before ,list ,saved) change))
+    (with-current-buffer buffer
+      (let ((saved (and saved (not (buffer-modified-p)))) (inhibit-read-only t))
+        (undo-boundary)
+        (while (and list (not (eq list before)))
+          (setq list (primitive-undo 1 list))
+          (while (and list (null (car list))) (pop list)))
+        (undo-boundary)
+        (when (and saved (buffer-modified-p))
+          (let ((inhibit-message t)) (save-buffer 0)))))))
+
+(defun org-views--undo-entry (entry)
+  "Undo ENTRY, the next one of Org's remote undo, in all its buffers.
+What an act wrote elsewhere is taken back once the heading's buffer is as it
+was before, so that nothing is lost; what stays is told.  Where that undoes
+an undo, and can't be done elsewhere, it is refused."
+  (pcase-let ((`(,hash . ,changes) (cdr (assq entry org-views--elsewhere)))
+              (again (eq (car entry) 'org-agenda-undo)))
+    (cond
+     ((not again)
+      (org-agenda-undo)
+      (let ((same (and changes (equal hash (buffer-hash (nth 4 entry))))) stays)
+        (dolist (change changes)
+          (if (and same (org-views--undoable-p change))
+              (org-views--undo-change change)
+            (push (abbreviate-file-name (nth 1 change)) stays)))
+        (when stays
+          (message "`%s' undone in %s alone; what it wrote stays in %s"
+                   (car entry) (buffer-name (nth 4 entry)) (string-join stays ", ")))))
+     ((seq-every-p #'org-views--undoable-p changes)
+      (mapc #'org-views--undo-change changes)
+      (org-agenda-undo))
+     (t (user-error "That can't be done again: %s has changed since"
+                    (abbreviate-file-name (nth 1 (seq-find (lambda (change) (not (org-views--undoable-p change)))
+                                                           changes))))))))
+
 (defun org-views-undo ()
-  "Undo what was done last from this view, in the buffer where it was done."
+  "Undo what was done last from this view, in the buffers where it was done.
+So a heading that was archived or refiled is back, and its copy is gone."
   (interactive nil org-views-mode)
   (setq this-command 'org-agenda-undo)
-  (org-agenda-undo)
+  (let* ((entry (car (if (eq this-command last-command) org-agenda-pending-undo-list
+                       org-agenda-undo-list)))
+         (buffer (nth 4 entry)))
+    (if (buffer-live-p buffer)
+        (org-views--noting-elsewhere buffer
+          (org-views--undo-entry entry))
+      (org-agenda-undo)))
   (org-views--revert))
 
 ;;;; Links and bookmarks
