@@ -67,6 +67,11 @@ function! s:command(files = get(g:, 'orgq_files', [])) abort
   return command + get(g:, 'orgq_options', [])
 endfunction
 
+" What `orgq config` says of the settings, with the options for each question: a dictionary as s:run gives it.
+function! orgq#config() abort
+  return s:run(s:command([]) + ['config'])
+endfunction
+
 " Whether the {words} of a check name files: then those of the settings aren't meant.
 function! s:name_files(words) abort
   let is_value = 0

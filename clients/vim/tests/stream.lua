@@ -1,6 +1,6 @@
 -- The commands over orgviews, in Neovim:
 -- SPDX-License-Identifier: Apache-2.0 OR MIT
---   ORGVIEWS=PROGRAM nvim --headless -u NONE -i NONE -S tests/stream.lua
+--   ORGVIEWS=PROGRAM ORGQ=PROGRAM nvim --headless -u NONE -i NONE -S tests/stream.lua
 -- Prints a line for each failure and `N passed, N failed`; the status is 1 where one failed.
 
 local here = vim.fn.fnamemodify(debug.getinfo(1, 'S').source:sub(2), ':p:h:h')
@@ -86,6 +86,8 @@ local program = vim.env.ORGVIEWS
 vim.g.orgviews_command = { program }
 vim.g.orgviews_at = '2024-02-28 10:30'
 vim.g.orgq_files = { folder }
+vim.g.orgq_command = { vim.env.ORGQ }
+vim.env.XDG_CONFIG_HOME = folder .. '/no settings'
 
 local function view_lines()
   return api.nvim_buf_get_lines(0, 0, -1, true)
@@ -842,6 +844,78 @@ run('paths that are odd', function()
   equal('leads to its heading', api.nvim_get_current_line(), '* TODO Odd')
   vim.fn.delete(odd)
   vim.cmd('silent! %bwipeout!')
+end)
+
+run('settings of orgq', function()
+  local path = write('conf.org', '* WAIT one\n* TODO two\n:PROPERTIES:\n:owner: ann\n:END:\n** DONE below\n')
+  local config = folder .. '/settings/orgq/config'
+  vim.fn.mkdir(folder .. '/settings/orgq', 'p')
+  vim.env.XDG_CONFIG_HOME, vim.g.orgq_files = folder .. '/settings', nil
+  local function settings(lines)
+    vim.fn.writefile(lines, config)
+  end
+  -- The rows of a question, which have to be those of orgq.
+  local function rows(question)
+    vim.cmd('silent! only')
+    vim.cmd('silent Orgq' .. question)
+    local of_orgq = vim.tbl_map(function(item)
+      return item.text
+    end, vim.fn.getqflist())
+    vim.cmd('cclose')
+    vim.cmd('Orgviews' .. question)
+    equal('rows beside orgq, ' .. question, view_lines(), #of_orgq > 0 and of_orgq or { '' })
+    return view_lines()
+  end
+  settings({ 'file ' .. path, 'keywords TODO WAIT | DONE', 'inherit owner' })
+  equal('files and keywords', rows('Todo'), { '  conf:       WAIT one', '  conf:       TODO two' })
+  equal('names to inherit', #rows('Match owner="ann"'), 2)
+  equal('keywords are completed', vim.fn['orgviews#complete_todo']('', 'OrgviewsTodo ', 13), { 'TODO', 'WAIT', 'DONE' })
+  vim.cmd('only')
+  vim.cmd('edit ' .. vim.fn.fnameescape(path))
+  local buffer, tail = api.nvim_get_current_buf(), '#+TODO: TODO WAIT | DONE\n'
+  -- What the engine has is the text of the buffer, with the keywords behind it where it names none.
+  local function engine_has(name, behind)
+    equal(name, orgviews.engine_text(path), buffer_text(buffer) .. behind)
+  end
+  engine_has('the keywords stand behind the text', tail)
+  api.nvim_buf_set_lines(buffer, 1, 1, false, { '* WAIT é' })
+  engine_has('and stay there', tail)
+  api.nvim_buf_set_lines(buffer, 0, 0, false, { '#+todo: X | Y' })
+  engine_has('its own count', '')
+  api.nvim_buf_set_lines(buffer, 0, 0, false, { '#+begin_src', '#+end_src' })
+  engine_has('behind a block too', '')
+  api.nvim_buf_set_lines(buffer, 1, 3, false, { '#+TODO: X | Y', '#+END_SRC' })
+  engine_has('in a block they count not', tail)
+  api.nvim_buf_set_lines(buffer, 0, 1, false, {})
+  engine_has('without its front they do', '')
+  api.nvim_buf_set_lines(buffer, 0, 1, false, { '#+TODO: |' })
+  engine_has('a bar is none', tail)
+  api.nvim_buf_set_lines(buffer, 0, 2, false, {})
+  engine_has('none again', tail)
+  vim.cmd('OrgviewsTodo')
+  equal('rows of all that', view_lines(), { '  conf:       WAIT one', '  conf:       WAIT é', '  conf:       TODO two' })
+  vim.cmd('silent! bwipeout! ' .. buffer)
+  settings({ '# other', 'file ' .. path, 'keywords TODO | DONE' })
+  equal('other settings count at the next question', rows('Todo'), { '  conf:       TODO two' })
+  equal('nothing is inherited any more', #rows('Match owner="ann"'), 1)
+  vim.g.orgq_options = { '--keywords', 'WAIT | TODO DONE' }
+  equal('options count before them', rows('Todo'), { '  conf:       WAIT one' })
+  vim.g.orgq_options = nil
+  vim.env.ORGQ_FILES = home
+  equal('so does the environment', rows('Todo'), { '  home:       TODO Rent :home:flat:' })
+  vim.env.ORGQ_FILES = nil
+  settings({ 'nonsense x' })
+  check('what orgq refuses is told', said('OrgviewsTodo'):find('config:1') ~= nil)
+  vim.fn.delete(config)
+  vim.fn.writefile({ '# the list', path }, folder .. '/settings/orgq/files')
+  equal('the list of files', rows('Todo'), { '  conf:       TODO two' })
+  vim.g.orgq_command = { '/no/such/program' }
+  vim.cmd('OrgviewsTodo')
+  equal('without orgq too', view_lines(), { '  conf:       TODO two' })
+  vim.g.orgq_command, vim.g.orgq_files = { vim.env.ORGQ }, { folder }
+  vim.env.XDG_CONFIG_HOME = folder .. '/no settings'
+  vim.fn.delete(path)
+  vim.cmd('silent! only')
 end)
 
 run('differences', function()

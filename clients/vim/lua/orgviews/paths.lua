@@ -6,17 +6,22 @@ local api = vim.api
 
 local M = {}
 
--- The paths of the list in which orgq looks where none is named.
-local function configured_paths()
+-- The folder of orgq's settings.
+local function settings_folder()
+  local folder = vim.env.XDG_CONFIG_HOME
+  return ((folder and folder ~= '') and folder or vim.fn.expand('~/.config')) .. '/orgq'
+end
+
+-- The paths of the list in which orgq looks where neither its options nor its file `config` name any.
+local function listed_paths()
   local named = vim.env.ORGQ_FILES
   if named and named ~= '' then
     return vim.split(named, ':', { plain = true })
   end
-  local folder = vim.env.XDG_CONFIG_HOME
-  folder = (folder and folder ~= '') and folder or vim.fn.expand('~/.config')
+  local list = settings_folder() .. '/files'
   local paths = {}
-  if vim.fn.filereadable(folder .. '/orgq/files') == 1 then
-    for _, line in ipairs(vim.fn.readfile(folder .. '/orgq/files')) do
+  if vim.fn.filereadable(list) == 1 then
+    for _, line in ipairs(vim.fn.readfile(list)) do
       line = vim.trim(line)
       if line ~= '' and not line:find('^#') then
         table.insert(paths, line)
@@ -24,6 +29,65 @@ local function configured_paths()
     end
   end
   return paths
+end
+
+-- The option and its value in a line of `orgq config`, which begins with where it is from.
+local function option_in(line)
+  for _, from in ipairs({ '^command line: ', '^ORGQ_FILES: ', '^.-:%d+: ' }) do
+    local rest, count = line:gsub(from, '', 1)
+    if count == 1 then
+      return rest:match('^(%l+) (.*)$')
+    end
+  end
+end
+
+-- Asks orgq for its settings. Without the program its list of files alone counts.
+local function ask_settings()
+  local settings = { files = {}, inherit = {}, troubles = {} }
+  local answer = vim.fn['orgq#config']()
+  if answer.status ~= 0 and answer.status ~= 1 then
+    settings.files = listed_paths()
+    if answer.status ~= -1 then
+      settings.troubles = vim.tbl_filter(function(line)
+        return line ~= ''
+      end, answer.errors)
+    end
+    return settings
+  end
+  for _, line in ipairs(answer.output) do
+    local option, value = option_in(line)
+    if option == 'file' then
+      table.insert(settings.files, value)
+    elseif option == 'inherit' then
+      table.insert(settings.inherit, value)
+    elseif option == 'keywords' or option == 'profile' then
+      settings[option] = value
+    end
+  end
+  return settings
+end
+
+-- What is another thing once the file at a path is another one.
+local function state_of(path)
+  local stat = uv.fs_stat(path)
+  return stat and { stat.mtime.sec, stat.mtime.nsec, stat.size, stat.ino } or false
+end
+
+local asked = {}
+
+-- What orgq is configured with, by its settings and `g:orgq_options`: `files`, the words of `keywords` and the number of
+-- the `profile`, or nil, the names of properties to `inherit`, and `troubles`. It is asked again only where something of that is
+-- another one.
+function M.settings()
+  local folder = settings_folder()
+  local key = vim.inspect({
+    vim.g.orgq_command or false, vim.g.orgq_options or false, vim.env.ORGQ_FILES or false, vim.env.HOME or false, uv.cwd(), folder,
+    state_of(folder .. '/config'), state_of(folder .. '/files'),
+  })
+  if asked.key ~= key then
+    asked = { key = key, settings = ask_settings() }
+  end
+  return asked.settings
 end
 
 -- The files of a folder; none, after a line in `troubles`, where it can't be read.
@@ -38,12 +102,13 @@ local function in_folder(path, troubles)
   end, names)
 end
 
--- The files that are asked about, as real paths, each once: those of `g:orgq_files`, or of orgq's own list. A path is what it says,
--- but for `~/` in front. What can't be looked at has a line in the second value, and takes no other file along.
+-- The files that are asked about, as real paths, each once: those of `g:orgq_files`, or of orgq's own settings. A path is what it
+-- says, but for `~/` in front. What can't be looked at has a line in the second value, and takes no other file along.
 function M.wanted()
+  local settings = M.settings()
   local given = vim.g.orgq_files
-  given = (given and #given > 0) and given or configured_paths()
-  local paths, seen, troubles = {}, {}, {}
+  given = (given and #given > 0) and given or settings.files
+  local paths, seen, troubles = {}, {}, vim.list_slice(settings.troubles)
   local function put(path)
     local real = uv.fs_realpath(path) or path
     if not seen[real] then

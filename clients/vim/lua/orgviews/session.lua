@@ -2,6 +2,7 @@
 -- SPDX-License-Identifier: Apache-2.0 OR MIT
 
 local Engine = require('orgviews.engine')
+local Paths = require('orgviews.paths')
 local Texts = require('orgviews.texts')
 
 local Session = {}
@@ -47,6 +48,10 @@ function Session.start(on_change, on_end)
     return nil, is_old and too_old(command[1]) or reply.ended or 'it answers as no orgviews does'
   end
   self.engine, self.version = engine, vim.trim(reply.view)
+  local profile = Paths.settings().profile
+  if profile then
+    engine:send('profile ' .. profile, nil, function() end)
+  end
   self.texts = Texts.new(engine, on_change)
   return self
 end
@@ -153,6 +158,11 @@ function Session:ask(question, filter, done)
     if self.told ~= moment() then
       self.told = moment()
       self.engine:send('at ' .. self.told, nil, function() end)
+    end
+    local inherit = table.concat(vim.list_extend({ 'inherit' }, Paths.settings().inherit), ' ')
+    if self.inherit ~= inherit then
+      self.inherit = inherit
+      self.engine:send(inherit, nil, function() end)
     end
     send_all(self.engine, commands, function(replies)
       done(answer_of(commands, replies))

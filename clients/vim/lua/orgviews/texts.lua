@@ -5,6 +5,7 @@
 local uv = vim.uv or vim.loop
 local api = vim.api
 local Bytes = require('orgviews.bytes')
+local Keywords = require('orgviews.keywords')
 local Paths = require('orgviews.paths')
 
 local Texts = {}
@@ -18,7 +19,7 @@ local most_edits = 1000
 
 -- `engine` answers; `on_change()` is called whenever a followed buffer changes.
 function Texts.new(engine, on_change)
-  return setmetatable({ engine = engine, on_change = on_change, files = {}, by_name = {}, left_out = {} }, Texts)
+  return setmetatable({ engine = engine, on_change = on_change, files = {}, by_name = {}, left_out = {}, tail = '' }, Texts)
 end
 
 -- Following a buffer -------------------------------------------------------------------------------------------------------
@@ -71,6 +72,32 @@ local function text_of(file)
   return Bytes.on_disk(file.path)
 end
 
+-- What the engine is to have of the text of a file: behind a text that names no keywords stands `tail`, a line that does.
+function Texts:with_tail(file, text)
+  file.named = self.tail ~= '' and Keywords.named_by(Keywords.lines_of(text)) or nil
+  file.tail = file.named == 'own' and '' or self.tail
+  return text .. file.tail
+end
+
+-- Whether the text of a buffer names keywords since a change and didn't before, or names none any more. Where no line named any,
+-- the lines that were changed alone can.
+function Texts:is_other_tail(file, damage)
+  local named = file.named
+  if self.tail == '' then
+    return false
+  end
+  if named == 'none' then
+    local first = Bytes.row_at(file.buffer, damage.from)
+    local last = Bytes.row_at(file.buffer, damage.from + damage.new)
+    local lines = api.nvim_buf_get_lines(file.buffer, first, last + 1, false)
+    if #vim.tbl_filter(Keywords.is_naming, lines) == 0 then
+      return false
+    end
+  end
+  file.named = Keywords.named_by(Keywords.lines_in(file.buffer))
+  return (file.named == 'own') ~= (named == 'own')
+end
+
 -- Whether a file that no buffer shows has changed on disk since it was read.
 local function is_changed_on_disk(file)
   local stat = uv.fs_stat(file.path)
@@ -88,6 +115,7 @@ function Texts:set_files()
   local buffers, seen = Paths.loaded_buffers(), {}
   local wanted, troubles = Paths.wanted()
   self.left_out = troubles
+  self:set_keywords(Paths.settings().keywords)
   for place, path in ipairs(wanted) do
     seen[path] = place <= most_files or nil
   end
@@ -112,6 +140,17 @@ function Texts:set_files()
   end
 end
 
+-- Lets texts that name no keywords have these words, or those of the program where there are none.
+function Texts:set_keywords(words)
+  local tail = words and '#+TODO: ' .. words:gsub('\n', ' ') .. '\n' or ''
+  if tail ~= self.tail then
+    self.tail = tail
+    for _, file in ipairs(self.files) do
+      file.is_lost = true
+    end
+  end
+end
+
 -- Adds a file after the others, with the text that it has in its buffer or on disk.
 function Texts:add(path, buffer)
   local name = Paths.name_of(path, self.by_name)
@@ -125,7 +164,7 @@ function Texts:add(path, buffer)
   end
   local text = text_of(file)
   file.refused = not text and "can't be read" or nil
-  text = text or ''
+  text = self:with_tail(file, text or '')
   self.engine:send('add ' .. name .. ' ' .. #text, text, function(reply)
     if reply.ok then
       file.serial, file.length = reply.ok, #text
@@ -206,7 +245,7 @@ local function doubt(file)
   if tick ~= file.tick then
     file.tick = tick
     local damage = file.damage or { old = 0, new = 0 }
-    file.is_lost = file.length + damage.new - damage.old ~= Bytes.length(file.buffer)
+    file.is_lost = file.length + damage.new - damage.old ~= Bytes.length(file.buffer) + #file.tail
   end
 end
 
@@ -233,6 +272,9 @@ function Texts:flush(file, done)
     return done()
   end
   table.insert(file.waiting, done)
+  if self:is_other_tail(file, damage) then
+    return self:resync(file)
+  end
   self:edit(file, damage, Bytes.between(file.buffer, damage.from, damage.from + damage.new))
 end
 
@@ -286,7 +328,7 @@ function Texts:resync(file)
     end
     file.damage, file.length = nil, #reply.view
     file.refused = not text and "can't be read" or nil
-    text = text or ''
+    text = self:with_tail(file, text or '')
     local from, old, new = Bytes.difference(reply.view, text)
     if old == 0 and new == 0 then
       return self:is_done(file)
