@@ -11,7 +11,7 @@ NEEDS_RT = $(if $(shell command -v rt),,$(error there is no `rt`: building wants
 built already is an archive or a package, see Install in README.md))
 
 .PHONY: run try build check changed test rows orgq-test reading faults emacs-test vim-test ical-test bench collide install deb clean
-.PHONY: completions-test agenda-test acts-test
+.PHONY: completions-test recipes-test agenda-test acts-test
 
 # Builds the program where it isn't fresh, and runs the first example.
 run: $(PROGRAM)
@@ -85,6 +85,10 @@ vim-test: $(PROGRAM) $(ORGQ)
 # out. No part of the gate.
 completions-test: $(ORGQ)
 	@sh tests/completions.sh $(ORGQ)
+
+# The scripts of contrib/recipes, each whose programs are installed. No part of the gate.
+recipes-test: $(ORGQ)
+	@sh tests/recipes.sh $(ORGQ)
 
 # `orgq` beside a real Emacs: agendas as fields, and files after the same acts; left out where Emacs isn't installed. No part of
 # the gate.

@@ -33,6 +33,10 @@ for document in docs/*.md; do
     esac
 done
 put 644 share/doc/orgviews docs/*.json
+put 644 share/doc/orgviews/recipes contrib/recipes/*.md
+for recipe in contrib/recipes/*; do
+    case $recipe in *.md) ;; *) put 755 share/doc/orgviews/recipes "$recipe" ;; esac
+done
 for completion in contrib/completions/*; do
     name=${completion##*/}
     case $name in
