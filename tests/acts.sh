@@ -1,8 +1,8 @@
 #!/bin/sh
 # Does the same acts to the same made files in Emacs and by `orgq`, and compares the files byte for byte: each difference has to
 # be of a kind that has its row in docs/manual.md. The files are made from a seed, some 3,500 acts to 330 of them; all logging of
-# Org is off. An act that this `orgq` hasn't is left out, and that is said. Where Emacs or python3 isn't there all is left out,
-# and the status is 0. The last line counts.
+# Org is off. Where Emacs or python3 isn't there all is left out, which the last line says, and the status is 0. Else the last
+# line counts.
 #     tests/acts.sh ORGQ [SEED [COUNT]]
 here=$(cd "$(dirname "$0")" && pwd)
 emacs=${EMACS:-emacs}
@@ -53,7 +53,12 @@ has() {
 
 acts=
 for name in schedule deadline in out cancel done; do
-    if has "$name"; then acts="$acts $name "; else echo "acts: left out, this orgq hasn't $name"; fi
+    if ! has "$name"; then
+        echo "acts: this orgq hasn't $name"
+        echo "acts: 0 passed, 1 failed"
+        exit 1
+    fi
+    acts="$acts $name "
 done
 cd "$work/orgq" || exit 2
 while IFS="$(printf '\t')" read -r case file line name date; do

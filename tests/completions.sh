@@ -5,7 +5,7 @@
 # else. Each day that is offered has to be taken by the program. What is missing and what is too much fails. Then lines are typed
 # into each shell on a terminal, over files whose keywords, tags and names are made to be run, expanded or written raw: nothing of
 # them is, and the word on the line is the one that is meant. The man page has a section for each command, with each of its
-# options. A shell that isn't installed is left out, and that is said. The last line counts.
+# options. A shell that isn't installed is left out. The last line counts, and names such shells.
 #     tests/completions.sh ORGQ [SHELL..]
 here=$(cd "$(dirname "$0")" && pwd)
 completions=$(cd "$here/../contrib/completions" && pwd)
@@ -24,6 +24,7 @@ PATH=$work/bin:$PATH HOME=$work/home XDG_CONFIG_HOME=$work/home/config XDG_DATA_
 export PATH HOME XDG_CONFIG_HOME XDG_DATA_HOME ORGQ_FILES LC_ALL
 shift
 shells=$*
+left_out=""
 passed=0
 failed=0
 tab=$(printf '\t')
@@ -171,6 +172,7 @@ mkdir "$work/folder-files" && : > "$work/folder-files/zz.org"
 for shell in ${shells:-bash zsh fish}; do
     if ! command -v "$shell" > /dev/null 2>&1; then
         echo "completions: $shell isn't installed, and is left out"
+        left_out="${left_out:+$left_out, }$shell"
         continue
     fi
     for with in "" -files; do
@@ -213,5 +215,5 @@ for command in $(commands_of ""); do
         describe "$command $below"
     done
 done
-echo "completions: $passed passed, $failed failed"
+echo "completions: $passed passed${left_out:+ (without $left_out)}, $failed failed"
 [ "$failed" -eq 0 ] && [ "$passed" -gt 0 ]

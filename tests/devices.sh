@@ -109,6 +109,10 @@ for row in $streams; do
     all_reads=$reads
     all_writes=$writes
 
+    # Each byte and each write has its try.
+    [ "$(wc -l < "$work/places")" -eq $(($(wc -c < "$row") + 1)) ] && [ "$all_writes" -eq "$(wc -c < "$row.stdout")" ] ||
+        fail "$(wc -l < "$work/places") places and $all_writes writes"
+
     before=$failed
     while read -r byte shown kind; do
         try_read "$byte" "$shown"

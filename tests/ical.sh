@@ -2,7 +2,7 @@
 # Reads back the calendars of the program ORGQ (the one that was built last where none is named) by two other programs: khal, and
 # the library icalendar of python3. Each has to find the days, times and titles of the rows that an agenda of the same days has as
 # JSON, the late ones and the warnings left out, and the tasks of the open headings that have a deadline. A program that isn't
-# installed is left out, and the status is 0 then. The last line counts.
+# installed is left out, and the status is 0 then. The last line counts, and names what was left out.
 here=$(cd "$(dirname "$0")" && pwd)
 given=${1:-$here/../crates/orgq/out/orgq}
 orgq=$(cd "$(dirname "$given")" 2> /dev/null && pwd)/$(basename "$given")
@@ -20,6 +20,9 @@ done
 khal=khal
 command -v "$khal" > /dev/null 2>&1 && [ -n "$python" ] || khal=""
 [ -n "$khal" ] || echo "ical: khal is left out, it isn't installed (on Debian: apt-get install khal)"
+left_out=""
+[ -n "$khal" ] || left_out=" (without khal)"
+[ -n "$python" ] || left_out=" (without icalendar, khal)"
 room=$(mktemp -d) || exit 2
 trap 'rm -rf "$room"' EXIT
 unset ORGQ_FILES NO_COLOR TZDIR
@@ -96,5 +99,5 @@ read_back 30 home.org work.org
 read_back 1 all.org
 read_back 90 all.org
 read_back 366 all.org home.org work.org
-echo "ical: $passed passed, $failed failed"
+echo "ical: $passed passed$left_out, $failed failed"
 [ "$failed" -eq 0 ]

@@ -31,6 +31,12 @@ made=$(mktemp) || exit 2
 room=$(mktemp -d) || exit 2
 rows=$PWD
 trap 'rm -rf "$out" "$err" "$made" "$room"' EXIT
+for given in *.args; do
+    if [ ! -f "${given%.args}.stdout" ]; then
+        echo "${given%.args}: it has no .stdout, and is never run"
+        failed=$((failed + 1))
+    fi
+done
 for expected in *.stdout; do
     name=${expected%.stdout}
     input=$name
@@ -95,4 +101,4 @@ for expected in *.stdout; do
     fi
 done
 echo "rows: $passed passed, $failed failed"
-[ "$failed" -eq 0 ]
+[ "$failed" -eq 0 ] && [ "$passed" -gt 0 ]

@@ -6,7 +6,8 @@
 # output failed.
 # Modes, links, pipes, read-only and locked files, a read-only folder; each call on files failing with four errors, the program
 # killed before each, and another program writing in place before each (tests/save/shim.c); eight programs at once; a program
-# killed at any time; a device that is full, where one can be made. Nothing may be torn, and no line lost. The last line counts.
+# killed at any time; a device that is full. Nothing may be torn, and no line lost. What can't be tried for want of setpriv or
+# flock has failed; where the system lets nobody be another user or mount a device, the last line, which counts, says so.
 # To see it bite, let `look_back` of org_save answer `Nothing` at once: then lines of the other program are lost and named.
 here=$(cd "$(dirname "$0")" && pwd)
 work=$(mktemp -d) || exit 2
@@ -128,6 +129,16 @@ is() {
     fi
 }
 
+# What can't be tried for want of a tool has failed; what the system lets nobody try is said on the last line.
+lack() {
+    failed=$((failed + 1))
+    echo "saves: $1 can't be tried: there is no $2"
+}
+left_out=""
+leave_out() {
+    left_out="${left_out:+$left_out; }$1"
+}
+
 # Whether the last replacement was done, and left nothing beside it.
 is_done() {
     is "$1" "$status $(changed d/a.org) $(beside)" "0 $after ${2:-}"
@@ -177,8 +188,10 @@ if $other test -x "$program" -a -w d/a.org -a ! -w d 2> /dev/null; then
     put d/a.org
     user=
     is_refused "a read-only folder"
+elif [ -n "$other" ] && ! command -v setpriv > /dev/null; then
+    lack "a read-only folder" setpriv
 else
-    echo "saves: a read-only folder is left out, no other user can be made here"
+    leave_out "a read-only folder: nobody can be another user here"
 fi
 chmod 755 d
 new
@@ -216,7 +229,9 @@ if grows; then
     put d/a.org
     is_done "an empty file"
 fi
-if command -v flock > /dev/null; then
+if ! command -v flock > /dev/null; then
+    lack "another program's lock" flock
+else
     new
     flock d/a.org sleep 3 &
     sleep 0.5
@@ -427,7 +442,7 @@ if mount -t tmpfs -o size=80k tmpfs full 2> /dev/null; then
     is "a full device" "$status $(cmp full/a.org was && echo same) $(ls -A full)" "5 same a.org"
     umount full
 else
-    echo "saves: a full device is left out, none can be made here"
+    leave_out "a full device: none can be mounted here"
 fi
-echo "saves: $passed passed, $failed failed"
+echo "saves: $passed passed${left_out:+ (without $left_out)}, $failed failed"
 [ "$failed" -eq 0 ] && [ "$passed" -gt 0 ]
