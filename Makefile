@@ -8,10 +8,10 @@ NOTICES = contrib/out/THIRD-PARTY-NOTICES
 PACKED = $(NOTICES) contrib/out/clients
 PREFIX ?= /usr/local
 NEEDS_RT = $(if $(shell command -v rt),,$(error there is no `rt`: building wants Rattle's kit, with its folder bin in PATH; what is \
-built already is an archive or a package, see Install in README.md))
+built already is an archive or a package, see docs/building.md))
 
 .PHONY: run try build check changed test rows orgq-test reading faults emacs-test vim-test ical-test bench collide install deb clean
-.PHONY: completions-test recipes-test agenda-test acts-test
+.PHONY: completions-test recipes-test agenda-test acts-test stranger
 
 # Builds the program where it isn't fresh, and runs the first example.
 run: $(PROGRAM)
@@ -114,6 +114,12 @@ faults: $(PROGRAM) $(PARTS) $(ORGQ)
 	@sh tests/saves.sh $(ORGQ) out
 	@sh tests/saves.sh $(ORGQ) cancel
 	@sh tests/saves.sh $(ORGQ) add
+
+# What README says, from an empty folder with nothing but the kit, with the minutes of each command. WHOLE=yes runs what proves
+# everything too, for hours; BUILT=PROGRAM has that program answer the commands of `orgq`. No part of the gate.
+stranger:
+	@$(NEEDS_RT)
+	@sh tests/stranger.sh
 
 bench: $(PROGRAM) $(PARTS) $(ORGQ)
 	@sh bench/run.sh $(PROGRAM) $(PARTS) $(ORGQ)

@@ -1,13 +1,17 @@
 #!/bin/sh
 # SPDX-License-Identifier: Apache-2.0 OR MIT
 # What can be tried of installing, of the archive and of the notices without a proof, without the kit and without root: copies of
-# this folder with stand-ins for the programs, for `rt` and for a kit. The last line counts.
+# this folder with stand-ins for the programs, for `rt` and for a kit. The last line counts, and names what wasn't there.
 here=$(cd "$(dirname "$0")/.." && pwd -P) || exit 2
 work=$(mktemp -d) || exit 2
 work=$(cd "$work" && pwd -P)
 trap 'chmod -R u+w "$work"; rm -rf "$work"' EXIT
 passed=0
 failed=0
+left_out=""
+leave_out() {
+    left_out="${left_out:+$left_out, }$1"
+}
 
 # check NAME CMD..: whether it answers 0.
 check() {
@@ -66,9 +70,9 @@ one_version() {
     cd "$here" && grep -qx "pkgver=$version" contrib/aur/PKGBUILD && grep -qx "## $version" CHANGELOG.md &&
         grep -q "orgviews $version 2" crates/org_engine/src/engine.rt &&
         grep -qx "$version" crates/orgq_args/src/arguments.rt && grep -qx "$version" crates/orgviews/src/arguments.rt &&
-        [ "$(grep -ohE 'orgviews[-_][0-9.]+[0-9]' README.md | sed 's/orgviews.//' | sort -u)" = "$version" ]
+        [ "$(grep -ohE 'orgviews[-_][0-9.]+[0-9]' docs/building.md | sed 's/orgviews.//' | sort -u)" = "$version" ]
 }
-check "VERSION, the change log, README, the recipes, the reply to version and --version say one version" one_version
+check "VERSION, the change log, the page on installing, the recipes, the reply to version and --version say one version" one_version
 
 # 2. Without rt.
 without_rt() {
@@ -255,7 +259,7 @@ if [ -x "$orgq" ]; then
     }
     check "the units tell each minute once" told_once
 else
-    echo "package: orgq isn't built, and what the units tell was left out"
+    leave_out "orgq, which isn't built"
 fi
 
 # They are hardened, as systemd measures it, and end in a time that is longer than what they wait for.
@@ -273,7 +277,7 @@ if systemd-analyze security --help 2> /dev/null | grep -q -e --offline; then
     silently() { said=$("$@" 2>&1); echo "$said"; [ -z "$said" ]; }
     check "systemd knows each word of the units" silently sound
 else
-    echo "package: systemd-analyze isn't here, or is older than 250, and how hard the units are was left out"
+    leave_out "systemd-analyze of version 250 or later"
 fi
 in_time() { [ "$(sed -n 's/^TimeoutStartSec=\([0-9]*\)min$/\1/p' "$here/contrib/systemd/orgq-notify.service")" -ge 2 ]; }
 check "the unit has a limit of time" in_time
@@ -308,11 +312,11 @@ if command -v dpkg-shlibdeps strip dpkg-deb > /dev/null; then
         }
         check "lintian has neither error nor warning" lintian_says
     else
-        echo "package: lintian isn't here, and was left out"
+        leave_out lintian
     fi
 else
-    echo "package: dpkg-dev or binutils isn't here, and the Debian package was left out"
+    leave_out "dpkg-dev and binutils"
 fi
 
-echo "package: $passed passed, $failed failed"
+echo "package: $passed passed${left_out:+ (without $left_out)}, $failed failed"
 [ "$failed" -eq 0 ] && [ "$passed" -gt 0 ]
