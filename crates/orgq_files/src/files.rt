@@ -7,6 +7,7 @@ use org_text::{MAX_BYTES, Text, Whole};
 use std::alloc::{AllocError, Global};
 use std::fs::OpenFile;
 use std::io::{ErrorKind, Read};
+use std::os::unix::fs::MetadataExt;
 use std::rt::Files;
 use std::{fs, io};
 
@@ -172,6 +173,24 @@ fn as_text(read: io::Result<usize>, bytes: Vec<u8>) -> Result<Vec<u8>, LeftOut> 
 fn room_for<F: OpenFile>(file: &F) -> usize {
     let length = file.metadata().map_or(0, |metadata| metadata.len());
     length.min(MAX_BYTES as u64) as usize + 1
+}
+
+/// The numbers by which the system knows a file, whatever its names: those of its device and of it there.
+#[derive(Clone, Copy, Debug, PartialEq, Eq)]
+pub struct FileNumber {
+    device: u64,
+    file: u64,
+}
+
+/// The numbers of the file that a path leads to, if it is a regular one and the system says them.
+pub fn file_number<R: Files>(rt: &R, path: &str) -> Option<FileNumber> {
+    match fs::metadata(rt, path) {
+        Ok(found) if found.is_file() => Some(FileNumber {
+            device: found.dev(),
+            file: found.ino(),
+        }),
+        _ => None,
+    }
 }
 
 /// The path by which a file is told from others: without links and dots, where the system can say it.

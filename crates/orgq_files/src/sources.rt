@@ -1,7 +1,9 @@
 //! Which files are asked, and what comes of loading them.
 
 use crate::file_list::{INPUT, push_listed, read_list};
-use crate::files::{FileSink, LeftOut, Named, load, load_input, push_paths, real_path};
+use crate::files::{
+    FileNumber, FileSink, LeftOut, Named, file_number, load, load_input, push_paths, real_path,
+};
 use clap::ArgMatches;
 use org_base::{Fault, Texts};
 use org_client::FileSet;
@@ -101,9 +103,11 @@ impl<'a> Reading<'a> {
     }
 }
 
-// What was left out so far: whether there is such, and how many files past those that there may be.
-#[derive(Clone, Copy)]
-struct Missing {
+// What came of files so far: by which numbers the system knows those that were loaded, whether some are left out, and how many
+// past those that there may be.
+#[derive(Drop)]
+struct Progress {
+    loaded: Vec<FileNumber>,
     is_some: bool,
     past: u64,
 }
@@ -115,19 +119,20 @@ pub fn load_all<R: AllocGlobal + Files + Input + Eprint + Clone + Drop, S: FileS
     paths: &[String],
     reading: &Reading<'_>,
 ) -> Result<bool, AllocError> {
-    let mut missing = Missing {
+    let mut progress = Progress {
+        loaded: Vec::new(rt.alloc()),
         is_some: false,
         past: 0,
     };
     for path in paths {
-        load_path(rt, set, path.as_str(), reading, &mut missing)?;
+        load_path(rt, set, path.as_str(), reading, &mut progress)?;
     }
-    let past = missing.past;
+    let past = progress.past;
     if past > 0 {
         let text = format!(in rt.alloc(); "{past} files are left out: no more than 256 are read")?;
         say(rt, text.as_str());
     }
-    Ok(missing.is_some || past > 0)
+    Ok(progress.is_some || past > 0)
 }
 
 /// The files that are asked, and whether one was left out.
@@ -166,23 +171,23 @@ fn load_path<R: AllocGlobal + Files + Input + Eprint + Clone + Drop, S: FileSink
     set: &mut S,
     path: &str,
     reading: &Reading<'_>,
-    missing: &mut Missing,
+    progress: &mut Progress,
 ) -> Result<(), AllocError> {
     if path == INPUT {
-        return load_file(rt, set, path, reading, missing);
+        return load_file(rt, set, path, reading, progress);
     }
     let mut files = Vec::new(rt.alloc());
     match push_paths(rt, &mut files, path) {
         Ok(0) => {}
         Ok(passed) => {
             let why = format!(in rt.alloc(); "names that aren't UTF-8 are passed over: {passed}")?;
-            leave_out(rt, path, why.as_str(), missing);
+            leave_out(rt, path, why.as_str(), progress);
         }
         Err(error) if error.kind() == ErrorKind::OutOfMemory => return Err(AllocError),
-        Err(_) => leave_out(rt, path, "can't be read", missing),
+        Err(_) => leave_out(rt, path, "can't be read", progress),
     }
     for file in files.as_slice() {
-        load_file(rt, set, file.as_str(), reading, missing)?;
+        load_file(rt, set, file.as_str(), reading, progress)?;
     }
     Ok(())
 }
@@ -193,24 +198,48 @@ fn load_file<R: AllocGlobal + Files + Input + Eprint, S: FileSink>(
     set: &mut S,
     name: &str,
     reading: &Reading<'_>,
-    missing: &mut Missing,
+    progress: &mut Progress,
 ) -> Result<(), AllocError> {
     let path = real_path_of(rt, name)?;
-    if set.has_path(path.as_str()) {
+    let number = number_of(rt, name);
+    if set.has_path(path.as_str()) || is_loaded(progress, number) {
         return Ok(());
     }
     if set.is_complete() {
-        missing.past = missing.past.saturating_add(1);
+        progress.past = progress.past.saturating_add(1);
         return Ok(());
     }
     match load_one(rt, set, name, path.as_str(), reading) {
-        Ok(()) => Ok(()),
+        Ok(()) => note_loaded(progress, number),
         Err(LeftOut::Memory) => Err(AllocError),
         Err(LeftOut::Because(why)) => {
-            leave_out(rt, name, why, missing);
+            leave_out(rt, name, why, progress);
             Ok(())
         }
     }
+}
+
+// The number of a file; standard input is none.
+fn number_of<R: Files>(rt: &R, name: &str) -> Option<FileNumber> {
+    if name == INPUT {
+        return None;
+    }
+    file_number(rt, name)
+}
+
+// Whether a file of this number was loaded, perhaps by another of its names.
+fn is_loaded(progress: &Progress, number: Option<FileNumber>) -> bool {
+    match number {
+        Some(number) => progress.loaded.as_slice().contains(&number),
+        None => false,
+    }
+}
+
+fn note_loaded(progress: &mut Progress, number: Option<FileNumber>) -> Result<(), AllocError> {
+    if let Some(number) = number {
+        progress.loaded.push(number)?;
+    }
+    Ok(())
 }
 
 // The path by which a file is told from others; no file's is that of standard input.
@@ -236,9 +265,9 @@ fn load_one<R: AllocGlobal + Files + Input, S: FileSink>(
     load(rt, set, Named { name, path }, keywords)
 }
 
-fn leave_out<R: Eprint + AllocGlobal>(rt: &R, path: &str, why: &str, missing: &mut Missing) {
+fn leave_out<R: Eprint + AllocGlobal>(rt: &R, path: &str, why: &str, progress: &mut Progress) {
     say_of(rt, path, why);
-    missing.is_some = true;
+    progress.is_some = true;
 }
 
 /// Whether a word of the command line can't be mistaken: it names a file or a folder.

@@ -1,0 +1,2 @@
+printf '* TODO one\n' > a.org
+ln a.org b.org
