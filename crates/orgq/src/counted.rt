@@ -4,10 +4,11 @@ use crate::session::run;
 use crate::shown_config::show_config;
 use clap::ArgMatches;
 use orgq_args::{command, joined_values, parser_said};
-use orgq_files::{Config, NamedChoices, Unread, no_config, read_config, words_with};
+use orgq_files::{Choice, Config, NamedChoices, Unread, no_config, read_config, words_with};
 use orgq_messages::{
     BAD_ARGUMENTS, Problem, Variable, out_of_memory, report_problem, say_of, value_of,
 };
+use std::fs;
 use std::fs::File;
 use std::rt::{Env, Files};
 use std::time::Clock;
@@ -40,7 +41,7 @@ fn with_settings<
     config: &Config,
     on_terminal: bool,
 ) -> Result<u8, Unread> {
-    let named = named_choices(rt, matches)?;
+    let named = named_choices(rt, matches, config)?;
     if let Some(("config", _)) = matches.subcommand() {
         return Ok(show_config(rt, matches, config, &named)?);
     }
@@ -56,17 +57,42 @@ fn with_settings<
 }
 
 // Which options are named by the command line, or by the environment, which names files.
-fn named_choices<R: AllocGlobal + Env>(
+fn named_choices<R: AllocGlobal + Env + Files>(
     rt: &R,
     matches: &ArgMatches<'_>,
+    config: &Config,
 ) -> Result<NamedChoices, Problem> {
+    let is_named = names_file(matches) || value_of(rt, Variable::Files)?.is_some();
     Ok(NamedChoices {
         color: matches.get_str("color").is_some(),
-        file: names_file(matches) || value_of(rt, Variable::Files)?.is_some(),
+        file: is_named || !takes_files(rt, matches, config),
         inherit: matches.get_strs("inherit").is_some(),
         keywords: matches.get_str("keywords").is_some(),
         profile: matches.get_one::<u32>("profile").is_some(),
     })
+}
+
+// Whether a command takes the files that the settings name. One that adds a heading takes a single one, where it isn't to go
+// below a heading of another.
+fn takes_files<R: Files>(rt: &R, matches: &ArgMatches<'_>, config: &Config) -> bool {
+    match matches.subcommand() {
+        Some(("add", own)) => own.get_str("under").is_none() && has_one_file(rt, config),
+        _ => true,
+    }
+}
+
+// Whether the settings name one file, and no folder.
+fn has_one_file<R: Files>(rt: &R, config: &Config) -> bool {
+    let mut count = 0u64;
+    for setting in config.settings.as_slice() {
+        if setting.choice == Choice::File {
+            count = count.saturating_add(1);
+            if fs::metadata(rt, setting.value.as_str()).is_ok_and(|found| found.is_dir()) {
+                return false;
+            }
+        }
+    }
+    count == 1
 }
 
 /// Whether the command line names a file, by an option or by a word.

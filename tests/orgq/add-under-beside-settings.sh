@@ -1,0 +1,4 @@
+export XDG_CONFIG_HOME=conf HOME=/home/ann
+mkdir -p conf/orgq folder
+printf '* One\n' > a.org
+printf 'file b.org\nfile c.org\n' > conf/orgq/config
