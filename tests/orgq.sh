@@ -8,10 +8,11 @@
 # writes, as the bytes of a file that was changed, follows in NAME.stdout. The folder has the files of tests/orgq/files. Where
 # NAME.terminal is there the program is run on a terminal, by `script`, and what it writes to either stands in NAME.stdout.
 # What the sentences of `orgq check` advise is done by tests/advice.py, and has to help.
-# Objects are read back by python3 where there is one, and held against docs/orgq-rows.schema.json. Then each control character in all that a file, a name and an argument
-# hold: none is written in any form but into a pipe, as in the file. Each refused growth of memory gives the answer all the
-# same or status 4. Each option of --help has to be offered by bash; what completes and orgq-notify are run. The last line
-# counts.
+# Objects are read back by python3, and held against docs/orgq-rows.schema.json. Then each control character in all that a file,
+# a name and an argument hold: none is written in any form but into a pipe, as in the file. Each refused growth of memory gives
+# the answer all the same or status 4. Each option of --help has to be offered by bash; what completes and orgq-notify are run.
+# What can't be tried for want of python3, script, bash, /dev/full or the shim of tests/faults has failed; only where the system
+# has no zones are zones left out, and the last line, which counts, says so.
 here=$(cd "$(dirname "$0")" && pwd)
 passed=0
 failed=0
@@ -52,7 +53,7 @@ cut_stream() {
         /^add [^ ]+ [0-9]+$/ && views == 0 {
             if ($2 ~ /^\// || $2 !~ /\.org$/ || ($2 in seen)) stop()
             seen[$2] = 1
-            path = to "/" $2
+            path = to "/files/" $2
             folder = path
             sub(/\/[^\/]*$/, "", folder)
             if (system("mkdir -p \"" folder "\"") != 0) stop()
@@ -68,20 +69,22 @@ cut_stream() {
     ' "$1"
 }
 
-# The words of a clock table for the options of its view; fails where it is over one file.
+# The words of a clock table for the options of its view; fails where it is over one file, and where a block or a level is
+# lacking, for which orgq has one of its own.
 table_words() {
     printf '%s\n' "$1" | awk '{
         print "clock"
         count = split($0, words, " ")
         for (i = 1; i <= count; i++) {
             if (words[i] ~ /^file=/) exit 1
-            else if (words[i] ~ /^block=/) print substr(words[i], 7)
-            else if (words[i] ~ /^maxlevel=/) print "--level\n" substr(words[i], 10)
+            else if (words[i] ~ /^block=/) { print substr(words[i], 7); block = 1 }
+            else if (words[i] ~ /^maxlevel=/) { print "--level\n" substr(words[i], 10); level = 1 }
             else if (words[i] ~ /^step=/) print "--step\n" substr(words[i], 6)
             else if (words[i] == "effort") print "--effort"
-            else if (words[i] ~ /^match=/) { print "--match\n" substr($0, index($0, "match=") + 6); exit }
+            else if (words[i] ~ /^match=/) { print "--match\n" substr($0, index($0, "match=") + 6); next }
         }
-    }'
+    }
+    END { if (!block || !level) exit 1 }'
 }
 
 # The arguments of orgq for a view's line, one a line; fails where it has none.
@@ -103,20 +106,69 @@ arguments_of() {
     esac
 }
 
-# Asks orgq each view of a stream, in the stream's folder.
-ask_views() {
-    while IFS= read -r view; do
-        arguments_of "$view" > "$folder/words" || return 9
-        set -- --at "$(sed -n 2p "$stream.args")" $(sed -n '3,$p' "$stream.args")
-        while IFS= read -r file; do set -- "$@" -f "$file"; done < "$folder/order"
-        while IFS= read -r word; do set -- "$@" "$word"; done < "$folder/words"
-        (cd "$folder" && "$orgq" "$@") >> "$folder/printed" 2> "$folder/said"
-        status=$?
-        [ "$status" -le 1 ] || return "$status"
-    done < "$folder/views"
+# Cuts replies: what answers the Kth view into answer.K, and its refusal into refusal.K.
+cut_replies() {
+    LC_ALL=C awk -v to="$2" '
+        left > 0 {
+            piece = $0 "\n"
+            printf "%s", piece > path
+            left -= length(piece)
+            if (left == 0) close(path)
+            next
+        }
+        /^ok / { next }
+        /^err / { views++; print > (to "/refusal." views); close(to "/refusal." views); next }
+        /^view / {
+            views++
+            path = to "/answer." views
+            left = $2 + 0
+            printf "" > path
+            if (left == 0) close(path)
+            next
+        }
+        { exit 1 }
+        END { if (left != 0) exit 1 }
+    ' "$1"
 }
 
+# Asks orgq the view of a number and a line, in the stream's folder: it answers what the stream does, or refuses where that
+# refuses. Counts those that no arguments ask for: over one of the files, without a table's options, and lines that are too long
+# or no command.
+ask_view() {
+    if ! arguments_of "$2" > "$folder/words" || grep -q -s -e '^err 2 command$' -e '^err 3 long$' "$folder/refusal.$1"; then
+        unasked=$((unasked + 1))
+        return
+    fi
+    set -- "$1" --at "$(sed -n 2p "$stream.args")" $(sed -n '3,$p' "$stream.args")
+    while IFS= read -r file; do set -- "$@" -f "$file"; done < "$folder/order"
+    while IFS= read -r word; do set -- "$@" "$word"; done < "$folder/words"
+    view=$1
+    shift
+    (cd "$folder/files" && "$orgq" "$@") > "$folder/printed" 2> "$folder/said"
+    status=$?
+    views=$((views + 1))
+    if [ -f "$folder/refusal.$view" ]; then
+        [ "$status" -eq 2 ] && [ ! -s "$folder/printed" ] && [ -s "$folder/said" ] ||
+            wrong="view $view: status $status, wanted a refusal as $(cat "$folder/refusal.$view"): $(cat "$folder/said")"
+    elif [ "$status" -gt 1 ]; then
+        wrong="view $view: status $status: $(cat "$folder/said")"
+    elif ! cmp -s "$folder/printed" "$folder/answer.$view"; then
+        wrong="view $view differs: $(diff "$folder/answer.$view" "$folder/printed" | head -n 6)"
+    fi
+}
+
+# What can't be tried has failed: WHAT TOOL.
+lack() {
+    fail "$1 can't be tried: there is no $2"
+}
+has() {
+    command -v "$1" > /dev/null 2>&1
+}
+left_out=""
+
 streams=0
+views=0
+unasked=0
 for expected in "$here"/rows/*.stdout; do
     name=$(basename "$expected" .stdout)
     stream=$here/rows/$name
@@ -124,27 +176,24 @@ for expected in "$here"/rows/*.stdout; do
     grep -q -x -e --at "$stream.args" && ! grep -q -e --idle "$stream.args" || continue
     folder=$room/stream
     rm -rf "$folder"
-    mkdir "$folder"
+    mkdir -p "$folder/files"
     cut_stream "$stream" "$folder" || continue
-    [ -f "$folder/order" ] || continue
+    # A stream without files is one of a folder without any.
+    [ -f "$folder/order" ] || echo . > "$folder/order"
     "$orgviews" --at "$(sed -n 2p "$stream.args")" $(sed -n '3,$p' "$stream.args") < "$stream" > "$folder/replies" 2> "$folder/said"
-    grep -q '^err ' "$folder/replies" && continue
-    sed '/^ok /d;/^view [0-9]*$/d' "$folder/replies" > "$folder/wanted"
-    : > "$folder/printed"
-    ask_views
-    status=$?
-    [ "$status" -ne 9 ] || continue
     streams=$((streams + 1))
-    if [ "$status" -ne 0 ]; then
-        fail "$name: status $status: $(cat "$folder/said")"
-    elif cmp -s "$folder/printed" "$folder/wanted"; then
-        passed=$((passed + 1))
-    else
-        fail "$name: the views differ"
-        diff "$folder/wanted" "$folder/printed" | head -n 6
-    fi
+    wrong=""
+    cut_replies "$folder/replies" "$folder" || wrong="its replies can't be cut"
+    number=0
+    while IFS= read -r line; do
+        number=$((number + 1))
+        ask_view "$number" "$line"
+        [ -z "$wrong" ] || break
+    done < "$folder/views"
+    [ -z "$wrong" ] && passed=$((passed + 1)) || fail "$name: $wrong"
 done
-echo "orgq: $streams streams of adds and views"
+echo "orgq: $streams streams of adds and views, $views views; $unasked more can be asked of a stream alone"
+[ "$streams" -ge 70 ] || fail "only $streams streams of adds and views"
 
 # Runs orgq on a terminal of its own; the carriage return that the terminal puts before a line feed is taken away.
 on_terminal() {
@@ -167,11 +216,14 @@ follow_schema() {
     fi
 }
 
+for given in "$here"/orgq/*.args; do
+    [ -f "${given%.args}.stdout" ] || fail "$(basename "$given" .args) has no .stdout, and is never run"
+done
 for expected in "$here"/orgq/*.stdout; do
     name=$(basename "$expected" .stdout)
     given=$here/orgq/$name
-    if [ -f "$given.terminal" ] && ! command -v script > /dev/null 2>&1; then
-        echo "orgq: $name is left out: there is no script"
+    if [ -f "$given.terminal" ] && ! has script; then
+        lack "$name" script
         continue
     fi
     folder=$room/case
@@ -208,7 +260,8 @@ for expected in "$here"/orgq/*.stdout; do
     else
         passed=$((passed + 1))
     fi
-    grep -q -x -e --json "$given.args" && command -v python3 > /dev/null 2>&1 || continue
+    grep -q -x -e --json "$given.args" && [ -s "$room/out" ] || continue
+    has python3 || { lack "what $name writes as JSON" python3; continue; }
     while IFS= read -r object; do
         if printf '%s\n' "$object" | python3 -m json.tool > /dev/null 2>&1; then
             passed=$((passed + 1))
@@ -237,10 +290,14 @@ cd "$here/orgq/files" || exit 2
 if [ -c /dev/full ]; then
     "$orgq" --at "2024-02-28 10:30" -f home.org todo > /dev/full 2> "$room/err"
     [ $? -eq 4 ] && passed=$((passed + 1)) || fail "a full device: $(cat "$room/err")"
+else
+    lack "a full device" /dev/full
 fi
 
 # Rows of a year, of lists, of what comes and of tables follow the schema.
-if command -v python3 > /dev/null 2>&1; then
+if ! has python3; then
+    lack "that rows follow the schema" python3
+else
     for view in "agenda 2024" "agenda 2024-02 --profile 2" "todo" "match LEVEL>0" "next" "next --since 2024-01-01" "clock 2024 --effort --level 9 --step week" "clocks 2024"; do
         case $view in *--since*) set -- next --since "2024-01-01 0:00" ;; *) set -- $view ;; esac
         "$orgq" --at "2024-02-28 10:30" --json -f . "$@" > "$room/out" 2> "$room/err"
@@ -261,6 +318,8 @@ if [ -f /usr/share/zoneinfo/Asia/Tokyo ]; then
     cp /usr/share/zoneinfo/Asia/Tokyo "$room/zones/My/Town"
     TZDIR=$room/zones TZ=My/Town "$orgq" -f home.org agenda > "$room/out" 2> "$room/err"
     [ "$(head -c 10 "$room/out")" = "$(TZ=Asia/Tokyo date +%F)" ] && passed=$((passed + 1)) || fail "today by TZDIR: $(cat "$room/err")"
+else
+    left_out=" (without zones: there is no /usr/share/zoneinfo)"
 fi
 
 # Whether no control character stands in a text but line feeds and, where the second argument is there, colours of ours.
@@ -360,11 +419,13 @@ refuse_memory() {
         fi
         growth=$((growth + 1))
     done
-    [ "$refused" -gt 0 ] && passed=$((passed + 1)) || fail "no growth of memory was refused, $*"
+    [ "$refused" -gt 0 ] && [ "$met" -eq 0 ] && passed=$((passed + 1)) || fail "not each growth of memory was refused, $*"
     echo "orgq: $refused refused growths of memory with status 4, $*"
 }
 
-if shim=$(sh "$here/faults/build.sh" "$room" 2> /dev/null); then
+if ! shim=$(sh "$here/faults/build.sh" "$room" 2> "$room/err"); then
+    lack "each refused growth of memory" "shim of tests/faults: $(tail -n 1 "$room/err")"
+else
     refuse_memory -f home.org -f work.org todo
     refuse_memory -f home.org -f work.org calendar week --columns 100
     refuse_memory -f home.org -f work.org agenda --grid
@@ -372,8 +433,6 @@ if shim=$(sh "$here/faults/build.sh" "$room" 2> /dev/null); then
     refuse_memory -f home.org -f work.org page
     refuse_memory --keywords "TODO | DONE" check --all ../../check/kinds.org ../../check/other.org
     refuse_memory --keywords "TODO | DONE" check --all ../../check/near.org
-else
-    echo "orgq: refused growths of memory are left out: the shim of tests/faults can't be built here"
 fi
 
 # Reminders: a category that looks like an option, a notifier that reads what it is given, one that fails, and refusals.
@@ -458,11 +517,13 @@ if mkfifo "$room/pipe" 2> /dev/null && command -v timeout > /dev/null 2>&1; then
     unset ORGQ_NOTIFY_SECONDS
     [ -z "$(ls -d "$room"/state/orgq/asked-* 2> /dev/null)" ] && passed=$((passed + 1)) || fail "orgq-notify leaves folders"
 else
-    echo "orgq: reminders over a pipe are left out: no mkfifo or no timeout"
+    lack "reminders over a pipe" "mkfifo and timeout"
 fi
 
 # What bash completes: names with spaces, folders, and no command of a word that is an option's value.
-if command -v bash > /dev/null 2>&1; then
+if ! has bash; then
+    lack "what bash completes" bash
+else
     completed() {
         PATH=$room/bin:$PATH bash -c '. "$0"; shift; COMP_WORDS=("$@") COMP_CWORD=$(($# - 1)) COMP_LINE="$*"; COMP_POINT=${#COMP_LINE}
             _orgq orgq "${@: -1}"; printf "%s\n" "${COMPREPLY[@]}"' \
@@ -500,5 +561,5 @@ said=$("$orgq" --version 2> "$room/err")
 said=$("$orgviews" --version 2>&1 > "$room/out")
 [ $? -eq 2 ] && [ "$(printf '%s\n' "$said" | head -n 1)" = "orgviews $(cat "$here/../VERSION")" ] && [ ! -s "$room/out" ] && passed=$((passed + 1)) || fail "orgviews --version: $said"
 
-echo "orgq: $passed passed, $failed failed"
+echo "orgq: $passed passed$left_out, $failed failed"
 [ "$failed" -eq 0 ] && [ "$passed" -gt 0 ]
