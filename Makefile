@@ -103,8 +103,8 @@ acts-test: $(ORGQ)
 ical-test: $(ORGQ)
 	@sh tests/ical.sh $(ORGQ)
 
-# What the programs do as they were last built where memory is refused, the stream is cut, reads and writes fail, and a file
-# is replaced on a real disk.
+# What the programs do as they were last built where memory is refused, the stream is cut, reads and writes fail, a file is
+# replaced on a real disk, standard streams are closed, and files have access lists.
 faults: $(PROGRAM) $(PARTS) $(ORGQ)
 	@sh tests/refused.sh $(PROGRAM) $(PARTS) calls
 	@sh tests/devices.sh $(PROGRAM)
@@ -114,6 +114,8 @@ faults: $(PROGRAM) $(PARTS) $(ORGQ)
 	@sh tests/saves.sh $(ORGQ) out
 	@sh tests/saves.sh $(ORGQ) cancel
 	@sh tests/saves.sh $(ORGQ) add
+	@sh tests/streams.sh $(ORGQ) $(PROGRAM)
+	@sh tests/access.sh $(ORGQ) all
 
 # What README says, from an empty folder with nothing but the kit, with the minutes of each command. WHOLE=yes runs what proves
 # everything too, for hours; BUILT=PROGRAM has that program answer the commands of `orgq`. No part of the gate.

@@ -88,6 +88,10 @@ echo "gate: files that are replaced on a real disk"
 counted saves crates/org_measure/out/org_measure append
 counted saves crates/orgq/out/orgq done
 
+echo "gate: standard streams that are closed, and who may read what is written"
+counted streams crates/orgq/out/orgq crates/orgviews/out/orgviews
+counted access crates/orgq/out/orgq
+
 # What it cost: user and system time of all that was run, then how much of what.
 times > "$work/times"
 processor=$(tail -n 1 "$work/times" | tr 'ms' '  ' | awk '{ printf "%.0f", $1 + $3 + ($2 + $4) / 60 }')

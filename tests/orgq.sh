@@ -423,9 +423,43 @@ refuse_memory() {
     echo "orgq: $refused refused growths of memory with status 4, $*"
 }
 
+# The same of an act on a file: it is done and said as with ample memory, or the file is as it was, with status 4: WORD..
+refuse_act() {
+    growth=1
+    refused=0
+    met=1
+    folder=$room/acts
+    mkdir -p "$folder"
+    printf '* TODO One\nSCHEDULED: <2024-02-28 Wed +1w>\n:LOGBOOK:\nCLOCK: [2024-02-28 Wed 09:45]\n:END:\n* TODO Two\n' > "$folder/old.org"
+    cp "$folder/old.org" "$folder/a.org"
+    "$orgq" --at "2024-02-28 10:30" -f "$folder/a.org" "$@" > "$room/wanted"
+    answered=$?
+    cp "$folder/a.org" "$folder/new.org"
+    while [ "$met" -gt 0 ] && [ "$growth" -lt 20000 ]; do
+        rm -f "$room/counts"
+        cp "$folder/old.org" "$folder/a.org"
+        REFUSE=$growth FAULTS=$room/counts LD_PRELOAD=$shim "$orgq" --at "2024-02-28 10:30" -f "$folder/a.org" "$@" > "$room/out" 2> "$room/err"
+        status=$?
+        met=0
+        [ ! -s "$room/counts" ] || read -r growths met rest < "$room/counts"
+        if [ "$status" -eq 4 ] && [ ! -s "$room/out" ] && [ -s "$room/err" ] && cmp -s "$folder/a.org" "$folder/old.org"; then
+            refused=$((refused + 1))
+        elif [ "$status" -ne "$answered" ] || ! cmp -s "$room/out" "$room/wanted" || ! cmp -s "$folder/a.org" "$folder/new.org"; then
+            fail "growth $growth refused, $*: status $status: $(cat "$room/err")"
+        fi
+        growth=$((growth + 1))
+    done
+    [ "$refused" -gt 0 ] && ! cmp -s "$folder/new.org" "$folder/old.org" && passed=$((passed + 1)) || fail "no growth of memory was refused, $*"
+    echo "orgq: $refused refused growths of memory with status 4 and the file as it was, $*"
+}
+
 if ! shim=$(sh "$here/faults/build.sh" "$room" 2> "$room/err"); then
     lack "each refused growth of memory" "shim of tests/faults: $(tail -n 1 "$room/err")"
 else
+    refuse_act done "$room/acts/a.org:1"
+    refuse_act deadline "$room/acts/a.org:1" +3d
+    refuse_act add -t TODO --tag x Three
+    refuse_act clock out
     refuse_memory -f home.org -f work.org todo
     refuse_memory -f home.org -f work.org calendar week --columns 100
     refuse_memory -f home.org -f work.org agenda --grid

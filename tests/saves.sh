@@ -2,7 +2,7 @@
 # Tries on real files a program that changes a file by one replacement: PROGRAM append, which puts a line at the end,
 # PROGRAM add, which puts a heading there, PROGRAM done, which completes the heading on the first line, or PROGRAM in, out or
 # cancel, which begins, ends or takes away the clock of that heading. Its status is to be 0 where the change stands there, and 5
-# where nothing was changed; of all but `append` also 3 where the file couldn't be read, and 4 where the change stands there and
+# where nothing was changed; of all but `append` also 3 where the file couldn't be read, and 6 where the change stands there and
 # output failed.
 # Modes, links, pipes, read-only and locked files, a read-only folder; each call on files failing with four errors, the program
 # killed before each, and another program writing in place before each (tests/save/shim.c); eight programs at once; a program
@@ -258,6 +258,18 @@ new
 { printf 'b0'; head -c 1006 /dev/zero; } > d/.a.org.swp
 put d/a.org
 is_done "no changes in Vim" ".a.org.swp "
+new
+mkfifo d/.a.org.swp d/.a.org.swo 'd/.#a.org'
+put d/a.org
+is_done "pipes in place of what editors leave" ".#a.org .a.org.swo .a.org.swp "
+new
+ln d/a.org d/.a.org.orgw
+put d/a.org
+is_done "a second name that a stopped program left"
+new
+printf 'other' > d/.a.org.orgw
+put d/a.org
+is_done "another file of that name"
 name=$(head -c 251 /dev/zero | tr '\0' n).o
 new
 mv d/a.org "d/$name"
@@ -314,7 +326,7 @@ for error in 5 28 13 4 none; do
         fi
         case "$status $(held)" in
             "0 new" | "5 old" | "137 old" | "137 new") passed=$((passed + 1)) ;;
-            "3 old" | "4 new")
+            "3 old" | "6 new")
                 if [ "$kind" = append ]; then wanted=done; else wanted=$kind; fi
                 is "error $error at call $call is one of an act" "$kind" "$wanted"
                 ;;
@@ -347,7 +359,12 @@ while [ "$call" -lt "$calls" ]; do
     [ ! -e d/a.org.orgq1 ] || rescued=$((rescued + 1))
     is "foreign line at call $call" "$(cat d/* | grep -c '^foreign$') $(stands d/a.org)" "1 $((status == 0))"
     if [ -e d/a.org.orgq1 ]; then
-        is "kept line at call $call" "$(grep -c 'd/a.org.orgq1' err) $(wc -c < d/a.org.orgq1)" "1 $(($(wc -c < was) + 8))"
+        # It was written into the file that was there before, or into the one that had its name until that came back.
+        case $(wc -c < d/a.org.orgq1) in
+            $(($(wc -c < was) + 8)) | $(($(wc -c < will) + 8))) kept=whole ;;
+            *) kept=torn ;;
+        esac
+        is "kept line at call $call" "$(grep -c 'd/a.org.orgq1' err) $kept" "1 whole"
     fi
 done
 is "some were refused, and some kept" "$((refused > 0)) $((rescued > 0))" "1 1"
@@ -404,6 +421,13 @@ if [ "$kind" = add ]; then
     done
     echo "saves: of 100 headings $stood stand, and the others were refused"
 fi
+
+echo "saves: a limit on the size of files"
+long 50000
+(ulimit -f 16 && put d/a.org) 2> /dev/null
+is "a file over the limit" "$(held)" old
+put d/a.org
+is_done "and then without it"
 
 echo "saves: killed at any time, fifty times"
 long 4000000

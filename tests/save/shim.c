@@ -85,6 +85,14 @@ int rename(const char *from, const char *to) {
     int NEXT((*next)(const char *, const char *), "rename");
     return fails() ? -1 : next(from, to);
 }
+int link(const char *from, const char *to) {
+    int NEXT((*next)(const char *, const char *), "link");
+    return fails() ? -1 : next(from, to);
+}
+int ftruncate(int file, long length) {
+    int NEXT((*next)(int, long), "ftruncate");
+    return fails() ? -1 : next(file, length);
+}
 int unlink(const char *path) {
     int NEXT((*next)(const char *), "unlink");
     return fails() ? -1 : next(path);

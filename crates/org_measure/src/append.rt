@@ -3,7 +3,7 @@
 use org_save::{Disk, Meanwhile, Name, Opened, Saved, Store, Unfit, open, replace};
 use std::alloc::{AllocError, Global};
 use std::fs::File;
-use std::rt::Files;
+use std::rt::{Env, Files};
 use std::time::Clock;
 
 // The exit statuses: the line stands there; no memory; nothing of the file was changed.
@@ -14,7 +14,7 @@ const NO_MEMORY: u8 = 4;
 const REFUSED: u8 = 5;
 
 /// Puts a line at the end of a file, says on standard error what isn't as it should be, and answers the exit status.
-pub fn append<R: AllocGlobal + Clock + Files<File = File> + Eprint>(
+pub fn append<R: AllocGlobal + Clock + Env + Files<File = File> + Eprint>(
     rt: &R,
     path: &str,
     line: &str,
@@ -36,8 +36,9 @@ fn append_to<R: AllocGlobal + Files<File = File> + Eprint>(
     opened: &mut Opened<'_, R>,
     line: &str,
 ) -> u8 {
-    match opened.disk.read(rt.alloc(), Name::Target) {
-        Ok(old) => replace_by(rt, path, &mut opened.disk, &old, line),
+    let mut old = Vec::new(rt.alloc());
+    match opened.disk.read(Name::Target, &mut old) {
+        Ok(()) => replace_by(rt, path, &mut opened.disk, &old, line),
         Err(why) => {
             let _ = eprintln!(rt; "{path}: {why:?}");
             REFUSED
@@ -79,7 +80,15 @@ fn say<R: Eprint>(rt: &R, path: &str, saved: Saved, rescue: Option<&str>) {
     if !saved.durable {
         let _ = eprintln!(rt; "{path}: written, and not yet surely on the disk");
     }
-    match (saved.meanwhile, rescue) {
+    let told = match saved.restored {
+        Some(meanwhile) if saved.meanwhile == Meanwhile::Nothing => meanwhile,
+        Some(_) => saved.meanwhile,
+        None => {
+            let _ = eprintln!(rt; "{path}: written, and open to its owner alone");
+            saved.meanwhile
+        }
+    };
+    match (told, rescue) {
         (Meanwhile::Nothing, _) => {}
         (Meanwhile::Rescued, Some(rescue)) => {
             let _ = eprintln!(rt; "{path}: another program wrote meanwhile, see {rescue}");

@@ -42,6 +42,7 @@ use org_base::{Fault, Profile};
 use org_cal::Day;
 use org_pieces::Pieces;
 use org_repeat::occurs_on;
+use org_save::hold_streams;
 use org_stamp::{Stamp, read_stamp, stamps_in};
 use org_text::Whole;
 use std::alloc::Global;
@@ -69,6 +70,7 @@ enum Part<'a> {
 }
 
 fn main(rt: HostRuntime) -> ExitCode {
+    let _held = hold_streams(&rt);
     let Ok(words) = env::args(&rt) else {
         return ExitCode::from(2);
     };

@@ -1,8 +1,8 @@
 -- Events one after another, and what they leave as it is.
 use Rattle.std.proofs.Common.{◌≡◌, List, [], ◌∷◌, ◌++◌, refl, ◌∙◌, ap, append_assoc, Result, Ok, Err, IfErr, IsErrAnd, OnErr, sym}
 use Rattle.org_save.specs.Calls.{AddsEither}
-use Rattle.org_save.specs.Contents.{Content, Contents, Differ, Leaves, LeaveAll, absent, after_event, after_events, content_at, lengthened, settled, torn, with_content, written}
-use Rattle.org_save.specs.Events.{Event, made, gave_access, wrote, tore, synced, found, found_former, renamed, removed, listed}
+use Rattle.org_save.specs.Contents.{Content, Contents, Differ, Leaves, LeaveAll, absent, after_event, after_events, content_at, kept, lengthened, settled, torn, with_content, written}
+use Rattle.org_save.specs.Events.{Event, made, gave_access, wrote, tore, synced, found, found_former, renamed, removed, listed, restored}
 use Rattle.org_save.specs.declared.name.Name.{Name}
 use Rattle.org_save.specs.declared.name.Name.TheVariants.{Target, Temporary, Rescue}
 
@@ -30,6 +30,7 @@ event_leaves a (renamed b e) d c =
     other_content a b d.0 absent (with_content e (content_at b c) c) ∙ other_content a e d.1 (content_at b c) c
 event_leaves a (removed b) d c = other_content a b d absent c
 event_leaves a listed d c = refl
+event_leaves a (restored bytes) d c = other_content a Target d (kept bytes) c
 
 pub events_leave : (a : Name) (done : List Event) → LeaveAll a done → (c : Contents) → content_at a (after_events c done) ≡ content_at a c
 events_leave a [] are c = refl

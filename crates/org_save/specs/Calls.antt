@@ -1,5 +1,5 @@
 -- What a call adds to what was done, the newest first.
-use Rattle.std.specs.Prelude.{◌≡◌, ◌⊎◌, ℕ, Bool, List, ◌∷◌, ◌++◌, Result, MatchResult, OnOk, Vec}
+use Rattle.std.specs.Prelude.{◌≡◌, ◌⊎◌, ℕ, Bool, List, ◌∷◌, ◌++◌, Result, MatchResult, OnOk}
 use Rattle.std.specs.Bool.{OnFalse}
 use Rattle.org_save.specs.Contents.{LeaveAll}
 use Rattle.org_save.specs.Events.{Event, wrote, tore, found, found_former, removed}
@@ -49,10 +49,9 @@ MayAdd result e before after =
     MatchResult result (λ _. after ≡ e ∷ before) (λ _. (after ≡ before) ⊎ (after ≡ e ∷ before))
 
 -- the bytes are what a file was found to have
-abbrev pub Finds : {A E : Type 0} → Result (Vec ℕ A) E → Name → List Event → List Event → Type 0
-Finds result a before after = MatchResult result (λ v. after ≡ found a v.items ∷ before) (λ _. after ≡ before)
+abbrev pub Finds : {T E : Type 0} → Result T E → Name → List ℕ → List Event → List Event → Type 0
+Finds result a bytes before after = Adds result (found a bytes) before after
 
 -- the bytes are what the former target was found to have
-abbrev pub FindsFormer : {A E : Type 0} → Result (Vec ℕ A) E → List Event → List Event → Type 0
-FindsFormer result before after =
-    MatchResult result (λ v. after ≡ found_former v.items ∷ before) (λ _. after ≡ before)
+abbrev pub FindsFormer : {T E : Type 0} → Result T E → List ℕ → List Event → List Event → Type 0
+FindsFormer result bytes before after = Adds result (found_former bytes) before after

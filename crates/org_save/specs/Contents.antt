@@ -1,6 +1,6 @@
 -- What the files hold after what a program did. A rename is one step in it.
 use Rattle.std.specs.Prelude.{⊤, ℕ, List, [], ◌∷◌, ◌++◌}
-use Rattle.org_save.specs.Events.{Event, made, gave_access, wrote, tore, synced, found, found_former, renamed, removed, listed}
+use Rattle.org_save.specs.Events.{Event, made, gave_access, wrote, tore, synced, found, found_former, renamed, removed, listed, restored}
 use Rattle.org_save.specs.declared.name.Name.{Name}
 use Rattle.org_save.specs.declared.name.Name.TheVariants.{Target, Temporary, Rescue}
 
@@ -53,6 +53,7 @@ after_event (found_former bytes) c = c
 after_event (renamed a b) c = with_content a absent (with_content b (content_at a c) c)
 after_event (removed a) c = with_content a absent c
 after_event listed c = c
+after_event (restored bytes) c = with_content Target (kept bytes) c
 
 -- after these events, the newest first
 abbrev pub after_events : Contents → List Event → Contents
@@ -78,6 +79,7 @@ Leaves a (found_former bytes) = ⊤
 Leaves a (renamed b c) = Differ a b × Differ a c
 Leaves a (removed b) = Differ a b
 Leaves a listed = ⊤
+Leaves a (restored bytes) = Differ a Target
 
 -- events that all leave it so
 abbrev pub LeaveAll : Name → List Event → Type 0

@@ -25,6 +25,8 @@ pub data Event : Type 0 where
   removed : Name → Event
   -- the folder's names are on the disk
   listed : Event
+  -- the file that was the target before got these bytes, on the disk, and took the target's place again, in one step
+  restored : List ℕ → Event
 
 -- how the logic stores an event
 
@@ -55,13 +57,14 @@ to_parts (found_former bytes) = (6, (0, (0, bytes)))
 to_parts (renamed a b) = (7, (number a, (number b, [])))
 to_parts (removed a) = (8, (number a, (0, [])))
 to_parts listed = (9, (0, (0, [])))
+to_parts (restored bytes) = (10, (0, (0, bytes)))
 
 abbrev pub from_parts : Parts → Event
 from_parts p =
     cond (p.0 == 0) (made (name p.1.0)) (cond (p.0 == 1) (gave_access (name p.1.0)) (cond (p.0 == 2) (wrote (name p.1.0) p.1.1.1)
     (cond (p.0 == 3) (tore (name p.1.0)) (cond (p.0 == 4) (synced (name p.1.0)) (cond (p.0 == 5) (found (name p.1.0) p.1.1.1)
     (cond (p.0 == 6) (found_former p.1.1.1) (cond (p.0 == 7) (renamed (name p.1.0) (name p.1.1.0))
-    (cond (p.0 == 8) (removed (name p.1.0)) listed))))))))
+    (cond (p.0 == 8) (removed (name p.1.0)) (cond (p.0 == 9) listed (restored p.1.1.1))))))))))
 
 pub from_parts-to_parts : (e : Event) → from_parts (to_parts e) ≡ e
 from_parts-to_parts (made a) = ap made (names_are_numbered a)
@@ -75,6 +78,7 @@ from_parts-to_parts (renamed a b) =
     ap (λ (c : Name). renamed c (name (number b))) (names_are_numbered a) ∙ ap (renamed a) (names_are_numbered b)
 from_parts-to_parts (removed a) = ap removed (names_are_numbered a)
 from_parts-to_parts listed = refl
+from_parts-to_parts (restored bytes) = refl
 
 abbrev pub events_code : Coded (List Event)
 events_code = coded_list (code_by Parts (coded× coded_ℕ (coded× coded_ℕ (coded× coded_ℕ (coded_list coded_ℕ)))) to_parts from_parts from_parts-to_parts)

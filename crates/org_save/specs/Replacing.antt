@@ -1,8 +1,8 @@
 -- A file's text replaced, and what stands there at each moment.
-use Rattle.std.specs.Prelude.{◌≡◌, ◌≢◌, ◌⊎◌, ⊤, ℕ, true, false, List, [], ◌∷◌, ◌++◌, Result, IfErr, IfOk}
+use Rattle.std.specs.Prelude.{◌≡◌, ◌≢◌, ◌⊎◌, ⊤, ℕ, true, false, List, [], ◌∷◌, ◌++◌, Option, Result, IfErr, IfOk, IfSome}
 use Rattle.org_save.specs.Calls.{Did}
-use Rattle.org_save.specs.Contents.{Contents, absent, kept, after_events, LeaveAll}
-use Rattle.org_save.specs.Events.{Event, made, gave_access, wrote, synced, found, found_former, renamed, listed}
+use Rattle.org_save.specs.Contents.{Contents, absent, kept, after_events, LeaveAll, Leaves}
+use Rattle.org_save.specs.Events.{Event, made, gave_access, wrote, synced, found, found_former, renamed, listed, restored}
 use Rattle.org_save.specs.declared.name.Name.TheVariants.{Target, Temporary, Rescue}
 use Rattle.org_save.specs.declared.saved.Meanwhile.{Meanwhile}
 use Rattle.org_save.specs.declared.saved.Meanwhile.TheVariants.{Nothing, Rescued, Lost, Unknown}
@@ -67,17 +67,49 @@ pub record LooksBack (old : List ℕ) (meanwhile : Meanwhile) (before after : Li
   pub temporary : LeaveAll Temporary done
   pub says : Says old meanwhile done
 
--- what is done after the rename, and what is said of it
-pub record Finishes (old : List ℕ) (saved : Saved) (before after : List Event) : Type 0 where
+-- events after which a target that has the new text still has it: each leaves it, or gives it to the file that it was before
+abbrev pub HoldAll : List ℕ → List Event → Type 0
+HoldAll new [] = ⊤
+HoldAll new (e ∷ done) = (Leaves Target e ⊎ (e ≡ restored new)) × HoldAll new done
+
+-- the target was found to have the new text, and right then the file that it was before took its place with that; what is said
+-- of the file that stood there meanwhile is so
+pub record IsRestored (new : List ℕ) (done : List Event) (meanwhile : Meanwhile) : Type 0 where
+  pub later : List Event
+  pub earlier : List Event
+  pub all : done ≡ later ++ restored new ∷ found Target new ∷ earlier
+  pub says : Says new meanwhile later
+
+-- the target has the new text still, and may be the file again that it was
+pub record Restores (new : List ℕ) (again : Option Meanwhile) (before after : List Event) : Type 0 where
   pub done : List Event
   pub did : Did before after done
-  pub target : LeaveAll Target done
+  pub target : HoldAll new done
+  pub temporary : LeaveAll Temporary done
+  pub says : IfSome again (IsRestored new done)
+
+-- what is done after the rename but for the folder, and what is said of it
+pub record Settles (old new : List ℕ) (saved : Saved) (before after : List Event) : Type 0 where
+  pub done : List Event
+  pub did : Did before after done
+  pub target : HoldAll new done
   pub temporary : LeaveAll Temporary done
   pub meanwhile : Says old saved.meanwhile done
+  pub again : IfSome saved.restored (IsRestored new done)
+  pub durable : saved.durable ≡ false
+
+-- what is done after the rename, and what is said of it
+pub record Finishes (old new : List ℕ) (saved : Saved) (before after : List Event) : Type 0 where
+  pub done : List Event
+  pub did : Did before after done
+  pub target : HoldAll new done
+  pub temporary : LeaveAll Temporary done
+  pub meanwhile : Says old saved.meanwhile done
+  pub again : IfSome saved.restored (IsRestored new done)
   pub durable : saved.durable ≡ true → IsListed done
 
 -- the target was found to have the old text, and was then replaced before anything else was done. It has the new text, on
--- the disk; no temporary file stands there; and what is said of the former file and of the folder is so
+-- the disk; no temporary file stands there; and what is said of the former file, of its coming back and of the folder is so
 pub record IsReplaced (old new : List ℕ) (saved : Saved) (before after : List Event) : Type 0 where
   pub later : List Event
   pub earlier : List Event
@@ -85,6 +117,7 @@ pub record IsReplaced (old new : List ℕ) (saved : Saved) (before after : List 
   pub target : (c : Contents) → (after_events c (later ++ renamed Temporary Target ∷ found Target old ∷ earlier)).target ≡ kept new
   pub temporary : (c : Contents) → (after_events c (later ++ renamed Temporary Target ∷ found Target old ∷ earlier)).temporary ≡ absent
   pub meanwhile : Says old saved.meanwhile later
+  pub again : IfSome saved.restored (IsRestored new later)
   pub durable : saved.durable ≡ true → IsListed later
 
 -- the target has what it had

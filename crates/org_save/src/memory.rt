@@ -108,6 +108,16 @@ impl Memory {
     }
 }
 
+// Puts the bytes of a file, if it is there, in place of those that a vector has.
+fn copy_into(content: Option<&[u8]>, bytes: &mut Vec<u8>) -> Result<(), Cause> {
+    let content = content.ok_or(Cause::Missing)?;
+    bytes.clear();
+    match bytes.extend_from_slice(content) {
+        Ok(()) => Ok(()),
+        Err(_) => Err(Cause::Memory),
+    }
+}
+
 impl Store for Memory {
     ghost events = { λ m. m.record.events };
 
@@ -150,28 +160,28 @@ impl Store for Memory {
         Ok(())
     }
 
-    fn read(&mut self, alloc: Global, name: Name) -> Result<Vec<u8>, Cause> {
+    fn read(&mut self, name: Name, bytes: &mut Vec<u8>) -> Result<(), Cause> {
         self.count()?;
-        let Some(bytes) = self.file(name) else {
-            return Err(Cause::Missing);
-        };
-        let Ok(bytes) = bytes.to_vec(alloc) else {
-            return Err(Cause::Memory);
-        };
-        self.record.note_found(name, &bytes);
-        Ok(bytes)
+        copy_into(self.file(name), bytes)?;
+        self.record.note_found(name, bytes);
+        Ok(())
     }
 
-    fn read_former(&mut self, alloc: Global) -> Result<Vec<u8>, Cause> {
+    fn read_former(&mut self, bytes: &mut Vec<u8>) -> Result<(), Cause> {
         self.count()?;
-        let Some(bytes) = &self.former else {
-            return Err(Cause::Missing);
-        };
-        let Ok(bytes) = bytes.to_vec(alloc) else {
-            return Err(Cause::Memory);
-        };
-        self.record.note_found_former(&bytes);
-        Ok(bytes)
+        copy_into(self.former.as_deref(), bytes)?;
+        self.record.note_found_former(bytes);
+        Ok(())
+    }
+
+    fn restore(&mut self, bytes: &[u8]) -> Result<(), Cause> {
+        self.count()?;
+        let mut content = Vec::new(self.alloc);
+        copy_into(Some(bytes), &mut content)?;
+        self.former = self.target.take();
+        self.target = Some(content);
+        self.record.note_restored(bytes);
+        Ok(())
     }
 
     fn rename(&mut self, from: Name, to: Name) -> Result<(), Cause> {

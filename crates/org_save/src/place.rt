@@ -1,11 +1,11 @@
 //! A file that is to be changed: where it lies, and who else is at it.
 
-use crate::{Access, Cause, Disk, Paths};
+use crate::editors::{Editor, unsaved_in};
+use crate::{Access, Cause, Disk, Paths, open_apart};
 use std::alloc::{AllocError, Global};
 use std::fs::{File, Metadata, OpenFile, OpenOptions, TryLockError};
-use std::io::{ErrorKind, Read};
 use std::os::unix::fs::MetadataExt;
-use std::rt::Files;
+use std::rt::{Env, Files};
 use std::thread::sleep;
 use std::time::{Clock, Duration};
 use std::{fs, io};
@@ -21,10 +21,10 @@ pub enum Unfit {
     Linked,
     /// Nobody may write it.
     ReadOnly,
-    /// Emacs has changes of it that aren't saved; so its lock says, with who has them.
-    InEmacs(String),
-    /// Vim has changes of it that aren't saved; so its swap file says.
-    InVim,
+    /// Emacs has changes of it that aren't saved; so its lock says, with who has them. The lock stands beside it, by this name.
+    InEmacs(String, String),
+    /// Vim or Neovim has changes of it that aren't saved; so its swap file says, which stands beside it by this name, or there.
+    InVim(String),
     /// Another program of this kind is changing it.
     Busy,
     /// The system didn't say.
@@ -62,7 +62,7 @@ const PAUSE_MS: u64 = 10;
 
 /// Opens the file that a path leads to for a change, once nobody else of this kind has it. Links are followed first. What a
 /// program that was stopped left beside it is removed.
-pub fn open<'a, R: AllocGlobal + Clock + Files<File = File>>(
+pub fn open<'a, R: AllocGlobal + Clock + Env + Files<File = File>>(
     rt: &'a R,
     path: &str,
 ) -> Result<Opened<'a, R>, Unfit> {
@@ -72,15 +72,23 @@ pub fn open<'a, R: AllocGlobal + Clock + Files<File = File>>(
     };
     let _unlocked = fit(rt, real.as_str())?;
     let lock = take_lock(rt, real.as_str())?;
-    let found = fit(rt, real.as_str())?;
-    free_of_editors(rt, folder, name)?;
     let paths = paths_of(rt.alloc(), folder, name)?;
     if lock.is_some() {
-        // Who has the lock is the only one that may have made it.
+        // Who has the lock is the only one that may have made them.
         let _ = fs::remove_file(rt, paths.temporary.as_str());
+        let _ = fs::remove_file(rt, paths.second.as_str());
+    }
+    let found = fit(rt, real.as_str())?;
+    if found.nlink() != 1 {
+        return Err(Unfit::Linked);
+    }
+    match unsaved_in(rt, folder, name)? {
+        Some(Editor::Emacs(owner, lock)) => return Err(Unfit::InEmacs(owner, lock)),
+        Some(Editor::Vim(swap)) => return Err(Unfit::InVim(swap)),
+        None => {}
     }
     Ok(Opened {
-        disk: Disk::new(rt, rt.alloc(), paths, Access::of(&found)),
+        disk: Disk::new(rt, paths, Access::of(&found)),
         lock,
     })
 }
@@ -89,9 +97,17 @@ fn paths_of(alloc: Global, folder: &str, name: &str) -> Result<Paths, AllocError
     Ok(Paths {
         target: format!(in alloc; "{folder}/{name}")?,
         temporary: format!(in alloc; "{folder}/.{name}.orgq")?,
-        rescue: format!(in alloc; "{folder}/{name}.orgq")?,
+        second: format!(in alloc; "{folder}/.{name}.orgw")?,
+        rescue: rescue_front(alloc, folder, name)?,
         folder: format!(in alloc; "{folder}/")?,
     })
+}
+
+// The path of a file that keeps what was found, but for its last digit, for which there is room.
+fn rescue_front(alloc: Global, folder: &str, name: &str) -> Result<String, AllocError> {
+    let mut path = format!(in alloc; "{folder}/{name}.orgq")?;
+    path.reserve(1)?;
+    Ok(path)
 }
 
 // What the system says of a file that may be changed.
@@ -100,74 +116,16 @@ fn fit<R: Files<File = File>>(rt: &R, path: &str) -> Result<Metadata, Unfit> {
     if !found.is_file() {
         return Err(Unfit::Irregular);
     }
-    if found.nlink() != 1 {
-        return Err(Unfit::Linked);
-    }
     if found.permissions().readonly() {
         return Err(Unfit::ReadOnly);
     }
     Ok(found)
 }
 
-// Refuses where an editor has changes of the file that aren't saved.
-fn free_of_editors<R: AllocGlobal + Files<File = File>>(
-    rt: &R,
-    folder: &str,
-    name: &str,
-) -> Result<(), Unfit> {
-    let lock = format!(in rt.alloc(); "{folder}/.#{name}")?;
-    if let Some(owner) = emacs_owner(rt, lock.as_str())? {
-        return Err(Unfit::InEmacs(owner));
-    }
-    let swap = format!(in rt.alloc(); "{folder}/.{name}.swp")?;
-    if is_unsaved_in_vim(rt, swap.as_str()) {
-        return Err(Unfit::InVim);
-    }
-    Ok(())
-}
-
-// Who has Emacs' lock: a link to `USER@HOST.PID:BOOT`, which leads nowhere, or, where there are no links, a file of that text.
-fn emacs_owner<R: AllocGlobal + Files<File = File>>(
-    rt: &R,
-    lock: &str,
-) -> Result<Option<String>, Unfit> {
-    let found = match fs::symlink_metadata(rt, lock) {
-        Ok(found) => found,
-        Err(error) if error.kind() == ErrorKind::NotFound => return Ok(None),
-        Err(error) => return Err(Unfit::from(error)),
-    };
-    if found.is_symlink() {
-        let owner = fs::read_link(rt, lock)?;
-        return Ok(Some(String::from_str(rt.alloc(), owner.as_str())?));
-    }
-    match fs::read_to_string(rt, lock) {
-        Ok(owner) => Ok(Some(owner)),
-        Err(_) => Ok(Some(String::new(rt.alloc()))),
-    }
-}
-
-// Vim's swap file begins with these bytes, and has this byte at that place while its buffer isn't saved.
-const SWAP: &[u8; 2] = b"b0";
-
-const DIRTY: u8 = 0x55;
-
-const DIRTY_AT: usize = 1007;
-
-fn is_unsaved_in_vim<R: Files<File = File>>(rt: &R, swap: &str) -> bool {
-    let mut head = [0u8; 1008];
-    let Ok(mut file) = fs::open(rt, swap) else {
-        return false;
-    };
-    match file.read_exact(&mut head) {
-        Ok(()) => head.starts_with(SWAP) && head[DIRTY_AT] == DIRTY,
-        Err(_) => false,
-    }
-}
-
 // The lock of the file that a path leads to; none where the file system knows no locks. It is waited for, for a while.
 fn take_lock<R: Clock + Files<File = File>>(rt: &R, path: &str) -> Result<Option<File>, Unfit> {
     for _ in 0..TRIES {
-        let file = OpenOptions::new().read(true).write(true).open(rt, path)?;
+        let file = open_apart(rt, OpenOptions::new().read(true).write(true), path)?;
         match file.try_lock() {
             Ok(()) => {
                 if is_still(rt, &file, path)? {

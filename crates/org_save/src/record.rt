@@ -2,7 +2,7 @@
 ghost use Rattle.std.specs.Prelude.{◌≡◌, List, [], ◌∷◌};
 ghost use Rattle.std.specs.Borrow.{ftrue};
 ghost use Rattle.org_save.specs.Events.{Event, event_of, events_code, number};
-ghost use Rattle.org_save.specs.Events.{found, found_former, gave_access, listed, made, removed, renamed, synced, tore, wrote};
+ghost use Rattle.org_save.specs.Events.{found, found_former, gave_access, listed, made, removed, renamed, restored, synced, tore, wrote};
 
 use crate::Name;
 use std::marker::{Model, PhantomData};
@@ -105,5 +105,11 @@ impl Record {
         ensures { self.new.events ≡ listed ∷ self.old.events }
     {
         self.note(&[9, 0, 0], &[]);
+    }
+
+    pub(crate) fn note_restored(&mut self, bytes: &[u8])
+        ensures { self.new.events ≡ restored bytes.now ∷ self.old.events }
+    {
+        self.note(&[10, 0, 0], bytes);
     }
 }

@@ -21,4 +21,7 @@ pub struct Saved {
     pub durable: bool,
     /// What another program did meanwhile.
     pub meanwhile: Meanwhile,
+    /// Whether the file is again the one that it was, with all that lets others read and write it, and what another program
+    /// did to the file that had its name until then. Where it isn't, its owner alone may read and write it.
+    pub restored: Option<Meanwhile>,
 }

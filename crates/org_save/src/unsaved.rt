@@ -13,8 +13,12 @@ pub enum Cause {
     Missing,
     /// It isn't allowed, or the file system is read-only.
     Denied,
-    /// There is no room on the device, or the quota is used up.
+    /// There is no room on the device, the quota is used up, or the file would be larger than one may be.
     Full,
+    /// The file is mounted on its own, so that no other one can take its place.
+    Mounted,
+    /// A file can't have a second name here, so that what lets others in would be lost with its first.
+    Single,
     /// Anything else.
     Other,
 }
@@ -27,8 +31,19 @@ impl Cause {
             ErrorKind::AlreadyExists => Cause::Exists,
             ErrorKind::NotFound => Cause::Missing,
             ErrorKind::PermissionDenied | ErrorKind::ReadOnlyFilesystem => Cause::Denied,
-            ErrorKind::StorageFull | ErrorKind::QuotaExceeded => Cause::Full,
+            ErrorKind::StorageFull | ErrorKind::QuotaExceeded | ErrorKind::FileTooLarge => {
+                Cause::Full
+            }
+            ErrorKind::ResourceBusy | ErrorKind::CrossesDevices => Cause::Mounted,
             _ => Cause::Other,
+        }
+    }
+
+    /// The cause that the error of a second name stands for.
+    pub fn of_link(error: &io::Error) -> Cause {
+        match Cause::of(error) {
+            Cause::Denied | Cause::Other => Cause::Single,
+            cause => cause,
         }
     }
 }
@@ -38,7 +53,7 @@ impl Cause {
 pub enum Step {
     /// The temporary file is made.
     Make,
-    /// It gets the owner, the group and the mode of the target.
+    /// It gets the target's owner, and the target's file a second name.
     Access,
     /// It gets the new text.
     Write,

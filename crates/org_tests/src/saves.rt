@@ -14,9 +14,10 @@ const FOREIGN: &[u8; 6] = b"* Two\n";
 
 const BOTH: &[u8; 12] = b"* One\n* Two\n";
 
-// Calls of a replacement that succeeds, beside nobody and beside another program: make, give access, write, sync, read, rename,
-// the look back and the folder's sync; make, write and sync of the file that keeps what was found.
-const CALLS: u64 = 8;
+// Calls of a replacement that succeeds, beside nobody and beside another program: make, give access, write, sync, read, rename
+// and the look back; the target's read, the restoring and one more look back, or make, write and sync of the file that keeps
+// what was found; the folder's sync.
+const CALLS: u64 = 11;
 
 const MOST_CALLS: u64 = 11;
 
@@ -90,8 +91,16 @@ fn answer_of(
 }
 
 // A replacement that was made.
-fn of_saved(durable: bool, meanwhile: Meanwhile) -> Result<Saved, Unsaved> {
-    Ok(Saved { durable, meanwhile })
+fn of_saved(
+    durable: bool,
+    meanwhile: Meanwhile,
+    restored: Option<Meanwhile>,
+) -> Result<Saved, Unsaved> {
+    Ok(Saved {
+        durable,
+        meanwhile,
+        restored,
+    })
 }
 
 // One of which a step failed, and that left nothing.
@@ -107,23 +116,50 @@ fn replaces(rt: HostRuntime) -> Result<(), Fail> {
     let alloc = rt.alloc();
     assert_eq!(rt;
         answer_of(alloc, 0, b"")?,
-        (of_saved(true, Meanwhile::Nothing), CALLS)
+        (
+            of_saved(true, Meanwhile::Nothing, Some(Meanwhile::Nothing)),
+            CALLS
+        )
     );
     assert_eq!(rt;
         answer_of(alloc, 0, FOREIGN)?,
-        (of_saved(true, Meanwhile::Rescued), MOST_CALLS)
+        (of_saved(true, Meanwhile::Rescued, None), MOST_CALLS)
     );
     assert_eq!(rt;
-        answer_of(alloc, 8, b"")?,
-        (of_saved(false, Meanwhile::Nothing), CALLS)
+        answer_of(alloc, 11, b"")?,
+        (
+            of_saved(false, Meanwhile::Nothing, Some(Meanwhile::Nothing)),
+            CALLS
+        )
     );
     assert_eq!(rt;
         answer_of(alloc, 7, FOREIGN)?,
-        (of_saved(true, Meanwhile::Unknown), CALLS)
+        (of_saved(true, Meanwhile::Unknown, None), 8)
     );
     assert_eq!(rt;
         answer_of(alloc, 9, FOREIGN)?,
-        (of_saved(true, Meanwhile::Lost), MOST_CALLS - 1)
+        (of_saved(true, Meanwhile::Lost, None), MOST_CALLS - 1)
+    );
+    Ok(())
+}
+
+#[test]
+fn says_what_came_back(rt: HostRuntime) -> Result<(), Fail> {
+    let alloc = rt.alloc();
+    assert_eq!(rt;
+        answer_of(alloc, 8, b"")?,
+        (of_saved(true, Meanwhile::Nothing, None), 9)
+    );
+    assert_eq!(rt;
+        answer_of(alloc, 9, b"")?,
+        (of_saved(true, Meanwhile::Nothing, None), 10)
+    );
+    assert_eq!(rt;
+        answer_of(alloc, 10, b"")?,
+        (
+            of_saved(true, Meanwhile::Nothing, Some(Meanwhile::Unknown)),
+            CALLS
+        )
     );
     Ok(())
 }

@@ -5,9 +5,7 @@ use crate::shown_config::show_config;
 use clap::ArgMatches;
 use orgq_args::{command, joined_values, parser_said};
 use orgq_files::{Choice, Config, NamedChoices, Unread, no_config, read_config, words_with};
-use orgq_messages::{
-    BAD_ARGUMENTS, Problem, Variable, out_of_memory, report_problem, say_of, value_of,
-};
+use orgq_messages::{BAD_ARGUMENTS, Problem, Variable, report_problem, say_of, value_of};
 use std::fs;
 use std::fs::File;
 use std::rt::{Env, Files};

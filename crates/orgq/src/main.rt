@@ -13,6 +13,7 @@ mod shown_config;
 mod words;
 
 use crate::counted::run_with_config;
+use org_save::hold_streams;
 use orgq_args::{command, joined_values, parser_said};
 use orgq_messages::{BAD_ARGUMENTS, out_of_memory, say};
 use std::env;
@@ -23,6 +24,7 @@ use std::rt::{Env, Files};
 use std::time::Clock;
 
 fn main(rt: HostRuntime) -> ExitCode {
+    let _held = hold_streams(&rt);
     let words = match env::args(&rt) {
         Ok(words) => words,
         Err(error) if error.kind() == ErrorKind::OutOfMemory => {

@@ -8,16 +8,19 @@ use org_cal::Moment;
 use org_client::FileSet;
 use org_overview::{Look, Wish, overview_text};
 use org_page::{LinkTemplate, PLAIN_LINK, is_page};
-use org_save::{Cause, Disk, Name, Store, Unfit, open, replace};
+use org_save::{
+    Access, Cause, Disk, Meanwhile, Name, Saved, Store, Unfit, make_file, open, replace,
+};
 use org_text::Whole;
 use orgq_args::profile;
-use orgq_files::{Asked, asked_files};
+use orgq_files::{Asked, INPUT, asked_files};
 use orgq_messages::{
     Problem, UNWRITTEN, out_of_memory, print_all, report_unfit, report_unmade, say_of, say_saved,
-    say_unsaved, status_of, unsaved_status,
+    say_unsaved, say_unsure, status_of, unsaved_status,
 };
 use std::alloc::Global;
-use std::fs::{File, OpenFile, OpenOptions};
+use std::fs;
+use std::fs::File;
 use std::rt::{Env, Files};
 use std::time::Clock;
 
@@ -71,7 +74,12 @@ fn print_files<
     let status = status_of(true, left_out);
     let output = own.get_str("output").unwrap_or(STANDARD_OUTPUT);
     if output != STANDARD_OUTPUT {
-        return Ok(write_page(rt, output, text.as_str(), status));
+        let page = Page {
+            text: text.as_str(),
+            bits: shared_bits(rt, &file_set),
+            status,
+        };
+        return Ok(write_page(rt, output, &page));
     }
     if matches.get_flag("quiet") {
         return Ok(status);
@@ -84,61 +92,76 @@ fn page_text(alloc: Global, file_set: &FileSet<Whole>, wish: &Wish<'_>) -> Resul
     overview_text(alloc, file_set, &inherits, wish)
 }
 
+// A page that is written into a file: its text, the bits that the group and all others may have of it, and the exit status where
+// it is written.
+#[derive(Clone, Copy)]
+struct Page<'a> {
+    text: &'a str,
+    bits: u32,
+    status: u8,
+}
+
+// The bits that the group and all others may have of what is made of these files: those that all others have of each. What
+// standard input says is for nobody else.
+fn shared_bits<R: Files>(rt: &R, file_set: &FileSet<Whole>) -> u32 {
+    let mut bits = ALL_BITS;
+    for place in 0..file_set.count() {
+        bits &= bits_of(rt, file_set.file(place).path());
+    }
+    bits
+}
+
+// The same of one file.
+fn bits_of<R: Files>(rt: &R, path: &str) -> u32 {
+    if path == INPUT {
+        return 0;
+    }
+    match fs::metadata(rt, path) {
+        Ok(metadata) => Access::of(&metadata).shared_bits(),
+        Err(_) => 0,
+    }
+}
+
 // Writes a page in the place of an older one, or into a new file, and gives the exit status.
-fn write_page<R: AllocGlobal + Clock + Files<File = File> + Eprint>(
+fn write_page<R: AllocGlobal + Clock + Env + Files<File = File> + Eprint>(
     rt: &R,
     path: &str,
-    text: &str,
-    status: u8,
+    page: &Page<'_>,
 ) -> u8 {
     match open(rt, path) {
-        Ok(mut opened) => replace_page(rt, path, &mut opened.disk, text, status),
-        Err(Unfit::Missing) => write_new(rt, path, text, status),
+        Ok(mut opened) => replace_page(rt, path, &mut opened.disk, page),
+        Err(Unfit::Missing) => write_new(rt, path, page),
         Err(why) => report_unfit(rt, path, &why),
     }
 }
 
-// Makes a file without a text, which gets its text as an older one does: so it never has a part of it. Where another program
-// made it meanwhile, that one is replaced if it is a page.
-fn write_new<R: AllocGlobal + Clock + Files<File = File> + Eprint>(
+// Writes a page into a file that isn't there: whoever looks finds none, or the page, whole. Where another program made one
+// meanwhile, that one is replaced if it is a page.
+fn write_new<R: AllocGlobal + Clock + Env + Files<File = File> + Eprint>(
     rt: &R,
     path: &str,
-    text: &str,
-    status: u8,
+    page: &Page<'_>,
 ) -> u8 {
-    let unmade = make(rt, path);
-    let written = match open(rt, path) {
-        Ok(mut opened) => replace_page(rt, path, &mut opened.disk, text, status),
-        Err(why) => report_unopened(rt, path, &why, unmade),
-    };
-    if unmade.is_none() && written != status {
-        say_of(rt, path, EMPTY);
-    }
-    written
-}
-
-// Makes a file without a text; gives why it wasn't made.
-fn make<R: AllocGlobal + Files<File = File>>(rt: &R, path: &str) -> Option<Cause> {
-    let made = OpenOptions::new()
-        .write(true)
-        .create_new(true)
-        .open(rt, path);
-    match made {
-        Ok(_file) => None,
-        Err(error) => Some(Cause::of(&error)),
+    match make_file(rt, path, page.text.as_bytes(), page.bits) {
+        Ok(durable) => {
+            if !durable {
+                say_unsure(rt, path);
+            }
+            page.status
+        }
+        Err(Cause::Exists) => replace_made(rt, path, page),
+        Err(cause) => report_unmade(rt, path, cause),
     }
 }
 
-// Says why a new file can't be opened, which is why it wasn't made where it isn't there, and gives the exit status.
-fn report_unopened<R: AllocGlobal + Eprint>(
+fn replace_made<R: AllocGlobal + Clock + Env + Files<File = File> + Eprint>(
     rt: &R,
     path: &str,
-    why: &Unfit,
-    unmade: Option<Cause>,
+    page: &Page<'_>,
 ) -> u8 {
-    match (why, unmade) {
-        (Unfit::Missing, Some(cause)) => report_unmade(rt, path, cause),
-        _ => report_unfit(rt, path, why),
+    match open(rt, path) {
+        Ok(mut opened) => replace_page(rt, path, &mut opened.disk, page),
+        Err(why) => report_unfit(rt, path, &why),
     }
 }
 
@@ -146,22 +169,23 @@ fn replace_page<R: AllocGlobal + Files<File = File> + Eprint>(
     rt: &R,
     path: &str,
     disk: &mut Disk<'_, R>,
-    text: &str,
-    status: u8,
+    page: &Page<'_>,
 ) -> u8 {
-    let old = match disk.read(rt.alloc(), Name::Target) {
-        Ok(old) => old,
+    let mut old = Vec::new(rt.alloc());
+    match disk.read(Name::Target, &mut old) {
+        Ok(()) => {}
         Err(Cause::Memory) => return out_of_memory(rt),
         Err(cause) => return report_unfit(rt, path, &Unfit::Failed(cause)),
-    };
+    }
     if !old.is_empty() && !is_page(old.as_slice()) {
         say_of(rt, path, OTHER);
         return UNWRITTEN;
     }
-    match replace(rt.alloc(), disk, old.as_slice(), text.as_bytes()) {
+    disk.narrow(page.bits);
+    match replace(rt.alloc(), disk, old.as_slice(), page.text.as_bytes()) {
         Ok(saved) => {
-            say_saved(rt, path, saved, disk.rescue());
-            status
+            say_saved(rt, path, told_of(saved, disk.is_narrowed()), disk.rescue());
+            page.status
         }
         Err(why) => {
             say_unsaved(rt, path, &why);
@@ -170,7 +194,19 @@ fn replace_page<R: AllocGlobal + Files<File = File> + Eprint>(
     }
 }
 
-const OTHER: &str = "it is no page of orgq; nothing was written";
+// What is to be said of a page: not that others may no longer read it, where they were not to.
+fn told_of(saved: Saved, is_narrowed: bool) -> Saved {
+    if !is_narrowed {
+        return saved;
+    }
+    Saved {
+        durable: saved.durable,
+        meanwhile: saved.meanwhile,
+        restored: Some(Meanwhile::Nothing),
+    }
+}
 
-// What another program wrote there meanwhile would go with it, so it isn't removed.
-const EMPTY: &str = "a file was made there, and has no page";
+// All bits of the group and of all others.
+const ALL_BITS: u32 = 0o077;
+
+const OTHER: &str = "it is no page of orgq; nothing was written";

@@ -1,7 +1,7 @@
 //! The commands that change files: a heading gets another keyword or another date, its clock begins or ends, or another
 //! heading is written.
 
-use crate::amending::{carry_out, try_out};
+use crate::amending::{carry_out_change, try_out};
 use crate::clock_act::clock_act;
 use crate::heading::{HeadingText, read_heading};
 use crate::one_match::{Search, one_match};
@@ -66,7 +66,7 @@ fn wished_act(
 }
 
 // Does what `add` asks for.
-fn add<R: AllocGlobal + Clock + Files<File = File> + Input + Print + Eprint>(
+fn add<R: AllocGlobal + Clock + Env + Files<File = File> + Input + Print + Eprint>(
     rt: &R,
     matches: &ArgMatches<'_>,
     own: &ArgMatches<'_>,
@@ -105,7 +105,7 @@ fn by_wish<
 }
 
 /// Changes the heading at a place.
-pub fn change_at<R: AllocGlobal + Clock + Files<File = File> + Print + Eprint>(
+pub fn change_at<R: AllocGlobal + Clock + Env + Files<File = File> + Print + Eprint>(
     rt: &R,
     place: &HeadingPlace,
     wish: &Wish,
@@ -164,16 +164,21 @@ fn change_heading<R: AllocGlobal + Files<File = File> + Print + Eprint>(
 ) -> u8 {
     let ending = match &heading.act {
         WishedAct::Keyword(keyword) => {
-            carry_out(rt, disk, heading, &heading.completion(keyword))
+            carry_out_change(rt, disk, heading, &heading.completion(keyword))
         }
         WishedAct::Planning(keyword, date) => {
-            carry_out(rt, disk, heading, &heading.planning(*keyword, *date))
+            carry_out_change(rt, disk, heading, &heading.planning(*keyword, *date))
         }
         WishedAct::Addition(added) => match lend(rt.alloc(), added.tags.as_slice()) {
-            Ok(tags) => carry_out(rt, disk, heading, &heading.addition(added, tags.as_slice())),
+            Ok(tags) => carry_out_change(
+                rt,
+                disk,
+                heading,
+                &heading.addition(added, tags.as_slice()),
+            ),
             Err(_) => return out_of_memory(rt),
         },
-        WishedAct::Clock(step) => carry_out(rt, disk, heading, &heading.clocking(*step)),
+        WishedAct::Clock(step) => carry_out_change(rt, disk, heading, &heading.clocking(*step)),
     };
     if let Some(saved) = ending.saved {
         say_saved(rt, heading.name.as_str(), saved, disk.rescue());

@@ -5,12 +5,12 @@ ghost use Rattle.orgq_acts.specs.Amending.{Ends, Stays};
 
 use crate::heading::HeadingText;
 use crate::refusals::say_unamended;
-use org_act::{Act, Amended, ClockStep, OwnedChange, Unamended, amend, with_change};
+use org_act::{Act, Amended, ClockStep, OwnedChange, Refusal, Unamended, amend, with_change};
 use org_answer::push_seen;
 use org_save::{Saved, Store};
 use org_stamp::is_planning;
 use orgq_args::WishedAct;
-use orgq_messages::{out_of_memory, print_all, unamended_status};
+use orgq_messages::{out_of_memory, print_all, print_changed, say_of, unamended_status};
 use std::alloc::{AllocError, Global};
 use std::str;
 
@@ -21,8 +21,49 @@ pub struct Ending {
     pub saved: Option<Saved>,
 }
 
+/// Does an act as `carry_out` does; but where the heading's file has already what the act makes of it, nothing is written, and
+/// that is said.
+pub fn carry_out_change<R: AllocGlobal + Print + Eprint, S: Store, A: Act>(
+    rt: &R,
+    store: &mut S,
+    heading: &HeadingText,
+    act: &A,
+) -> Ending {
+    match stands_already(rt.alloc(), heading, act) {
+        Ok(false) => carry_out(rt, store, heading, act),
+        Ok(true) => {
+            say_of(rt, heading.name.as_str(), ALREADY);
+            Ending {
+                status: try_out(rt, heading, act),
+                saved: None,
+            }
+        }
+        Err(_) => Ending {
+            status: out_of_memory(rt),
+            saved: None,
+        },
+    }
+}
+
+const ALREADY: &str = "it stands so already; nothing was written";
+
+// Whether an act leaves the heading's text as it is; one that is refused doesn't.
+fn stands_already<A: Act>(
+    alloc: Global,
+    heading: &HeadingText,
+    act: &A,
+) -> Result<bool, AllocError> {
+    let text = heading.text.as_str();
+    match act.plan(alloc, text) {
+        Ok(change) => Ok(
+            with_change(alloc, text.as_bytes(), &change)?.as_slice() == text.as_bytes(),
+        ),
+        Err(_) => Ok(false),
+    }
+}
+
 /// Does an act to a heading's file that had the text which was read, prints the heading's line as it was and as it is, or its
-/// line and that of its clock, or says why the act wasn't done.
+/// line and that of its clock, or says why the act wasn't done. What is printed is made before anything is written.
 pub fn carry_out<R: AllocGlobal + Print + Eprint, S: Store, A: Act>(
     rt: &R,
     store: &mut S,
@@ -32,15 +73,51 @@ pub fn carry_out<R: AllocGlobal + Print + Eprint, S: Store, A: Act>(
     ensures ok { Ends result (A.amended act.now) heading.now (S.events store.old) (S.events store.new) }
     ensures whole { Stays (A.amended act.now) heading.now (S.events store.old) (S.events store.new) }
 {
+    match planned_lines(rt.alloc(), heading, act) {
+        Ok(lines) => carry_out_shown(rt, store, heading, act, lines.as_slice()),
+        Err(why) => Ending {
+            status: report_unamended(rt, heading, why),
+            saved: None,
+        },
+    }
+}
+
+// The same with the lines that are printed of it.
+fn carry_out_shown<R: AllocGlobal + Print + Eprint, S: Store, A: Act>(
+    rt: &R,
+    store: &mut S,
+    heading: &HeadingText,
+    act: &A,
+    lines: &[u8],
+) -> Ending
+    ensures ok { Ends result (A.amended act.now) heading.now (S.events store.old) (S.events store.new) }
+    ensures whole { Stays (A.amended act.now) heading.now (S.events store.old) (S.events store.new) }
+{
     match amend(rt.alloc(), store, heading.text.as_str(), act) {
-        Ok(Amended { change, saved }) => Ending {
-            status: print_change(rt, heading, &change),
+        Ok(Amended { change: _, saved }) => Ending {
+            status: print_changed(rt, lines),
             saved: Some(saved),
         },
         Err(why) => Ending {
             status: report_unamended(rt, heading, why),
             saved: None,
         },
+    }
+}
+
+// What is printed of the change that an act makes, or why it is refused.
+fn planned_lines<A: Act>(
+    alloc: Global,
+    heading: &HeadingText,
+    act: &A,
+) -> Result<Vec<u8>, Unamended> {
+    let planned = act.plan(alloc, heading.text.as_str());
+    match planned {
+        Ok(change) => match shown_lines(alloc, heading, &change) {
+            Ok(lines) => Ok(lines),
+            Err(refused) => Err(Unamended::Refused(Refusal::from(refused))),
+        },
+        Err(why) => Err(Unamended::Refused(why)),
     }
 }
 
@@ -85,13 +162,24 @@ fn print_change<R: AllocGlobal + Print + Eprint>(
 ) -> u8
     requires within { LiesIn (string_bytes heading.now.text) change.now }
 {
-    if heading.look.is_quiet {
-        return 0;
-    }
-    match change_lines(rt.alloc(), heading, change) {
+    match shown_lines(rt.alloc(), heading, change) {
         Ok(lines) => print_all(rt, lines.as_slice(), 0),
         Err(_) => out_of_memory(rt),
     }
+}
+
+// What is printed of a change: nothing, or its lines.
+fn shown_lines(
+    alloc: Global,
+    heading: &HeadingText,
+    change: &OwnedChange,
+) -> Result<Vec<u8>, AllocError>
+    requires within { LiesIn (string_bytes heading.now.text) change.now }
+{
+    if heading.look.is_quiet {
+        return Ok(Vec::new(alloc));
+    }
+    change_lines(alloc, heading, change)
 }
 
 fn change_lines(

@@ -11,7 +11,7 @@ use org_answer::Form;
 use org_cal::Moment;
 use orgq_args::{HeadingPlace, Wish, WishedAct, named_form, read_place, read_wish};
 use orgq_files::{real_path, refuse_words};
-use orgq_messages::{BAD_ARGUMENTS, NO_MATCH, Problem, out_of_memory, say};
+use orgq_messages::{BAD_ARGUMENTS, NO_MATCH, Problem, UNTOLD, out_of_memory, say};
 use std::alloc::{AllocError, Global};
 use std::fs::File;
 use std::rt::{Env, Files};
@@ -140,7 +140,7 @@ fn refuse_second<R: AllocGlobal + Eprint>(rt: &R, clock: &RunningPlace) -> u8 {
 
 // Ends the clock that runs and begins another. Where the other can't begin, none is ended; where it then fails, that the first
 // has ended is said.
-fn switch<R: AllocGlobal + Clock + Files<File = File> + Print + Eprint>(
+fn switch<R: AllocGlobal + Clock + Env + Files<File = File> + Print + Eprint>(
     rt: &R,
     asked: &Asked<'_, '_>,
     clock: &RunningPlace,
@@ -154,15 +154,21 @@ fn switch<R: AllocGlobal + Clock + Files<File = File> + Print + Eprint>(
     if !wish.is_dry {
         follow_end(rt, clock, place, asked.moment)?;
     }
-    let status = change_at(rt, &clock.heading, &ends);
-    if status != 0 {
-        return Ok(status);
+    let ended = change_at(rt, &clock.heading, &ends);
+    if !is_changed(ended) {
+        return Ok(ended);
     }
-    let status = change_at(rt, place, wish);
-    if status != 0 && !wish.is_dry {
-        say_ended(rt, clock);
+    let begun = change_at(rt, place, wish);
+    if wish.is_dry || is_changed(begun) {
+        return Ok(begun.max(ended));
     }
-    Ok(status)
+    say_ended(rt, clock);
+    Ok(UNTOLD)
+}
+
+// Whether a file was changed, by the exit status.
+fn is_changed(status: u8) -> bool {
+    status == 0 || status == UNTOLD
 }
 
 // Says why a clock can't begin at a place, and gives the exit status; none where it can.

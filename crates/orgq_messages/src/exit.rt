@@ -21,6 +21,9 @@ pub const STOPPED: u8 = 4;
 /// Nothing of a file was changed, since it could not be.
 pub const UNWRITTEN: u8 = 5;
 
+/// A file was changed, and not all was done, or not all that is said of it could be printed.
+pub const UNTOLD: u8 = 6;
+
 /// The status after an answer: 3 where a file was left out, else 0 where there is a row and 1 where there is none.
 pub fn status_of(has_row: bool, left_out: bool) -> u8
     ensures value { result ≡ status_of has_row left_out }

@@ -21,10 +21,10 @@ mod unwritten;
 
 pub use environment::{Variable, value_of};
 pub use exit::{
-    BAD_ARGUMENTS, LEFT_OUT, NO_MATCH, STOPPED, UNWRITTEN, check_status, status_of,
+    BAD_ARGUMENTS, LEFT_OUT, NO_MATCH, STOPPED, UNTOLD, UNWRITTEN, check_status, status_of,
     unamended_status, unsaved_status,
 };
 pub use problem::{Problem, report_problem};
 pub use standard_error::{out_of_memory, say, say_lines, say_of, visible_text};
-pub use standard_output::print_all;
-pub use unwritten::{CHANGED, report_unfit, report_unmade, say_saved, say_unsaved};
+pub use standard_output::{print_all, print_changed};
+pub use unwritten::{CHANGED, report_unfit, report_unmade, say_saved, say_unsaved, say_unsure};

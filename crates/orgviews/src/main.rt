@@ -14,6 +14,7 @@ use crate::new_engine::new_engine;
 use org_cal::Moment;
 use org_engine::Engine;
 use org_pieces::Pieces;
+use org_save::hold_streams;
 use org_wire::{Counted, End, Options, run};
 use std::io::Input;
 use std::mem::forget;
@@ -22,6 +23,7 @@ use std::rt::Files;
 use std::{env, io};
 
 fn main(rt: HostRuntime) -> ExitCode {
+    let _held = hold_streams(&rt);
     let Ok(words) = env::args(&rt) else {
         let _ = eprintln!(rt; "orgviews: command");
         return ExitCode::from(BAD_ARGUMENTS);

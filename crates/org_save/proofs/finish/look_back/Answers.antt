@@ -11,10 +11,10 @@ returns-in_default g c = record { value = record { done = []; did = record { all
 
 pub returns-then-is_same : goal.returns-then-is_same
 returns-then-is_same g c =
-    let is : c.in-Ok.now.items ≡ c.args.old.now = sym c.deref.ensures.value ∙ c.if-is_same.ensures.value.0 refl in
+    let is : c.read_former.new.bytes.items ≡ c.args.old.now = sym c.deref.ensures.value ∙ c.if-is_same.ensures.value.0 refl in
     record {
       value = record {
-        done = found_former c.in-Ok.now.items ∷ [];
+        done = found_former c.read_former.new.bytes.items ∷ [];
         did = record { all = c.in-Ok.ensures };
         target = (tt, tt);
         temporary = (tt, tt);
@@ -24,7 +24,7 @@ returns-then-is_same g c =
 
 pub returns-in-Ok-rescue : goal.returns-in-Ok-rescue
 returns-in-Ok-rescue g c =
-    let now = c.in-Ok.now.items in
+    let now = c.read_former.new.bytes.items in
     let bytes = c.deref-2.result.now in
     record {
       value = record {
@@ -43,9 +43,9 @@ returns-in-Ok-rescue g c =
       };
     }
 
-pub returns : goal.returns
-returns g c =
-    let now = c.in-Ok.now.items in
+pub returns-in-Err : goal.returns-in-Err
+returns-in-Err g c =
+    let now = c.read_former.new.bytes.items in
     let err = c.in-Err.ensures.err in
     record {
       value = record {

@@ -1,0 +1,2 @@
+printf '* TODO a\n' > a.org
+mkfifo .a.org.swp .a.org.swo .#a.org

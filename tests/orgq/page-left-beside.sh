@@ -1,0 +1,3 @@
+rm -rf *
+printf '* TODO a\n' > a.org
+printf 'left' > .p.html.orgq
