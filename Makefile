@@ -46,19 +46,22 @@ $(PARTS): $(SOURCES)
 	@cd crates/org_measure && rt run -- stamps < /dev/null > /dev/null
 	@test -x $(PARTS) && touch $(PARTS)
 
-# Every crate, over what earlier checks kept.
+# Every crate, over what earlier checks kept; what these checks keep is there for `make test` then.
 check:
 	@$(NEEDS_RT)
 	rt all check
+	@python3 tests/kept.py fill
 
 # What differs from BASE (origin/main, where there is one), and what stands above it: for daily work.
 changed:
 	@sh tests/changed.sh $(BASE)
 
-# The gate: proofs from nothing, must-fail edits, tests, both builds of the program; then the worked streams and the faults.
+# The gate: proofs, must-fail edits, tests, both builds of the program; then the worked streams and the faults. Over what `make
+# check` kept, and then from nothing until MINUTES after the start (150), what FIRST names first; with WHOLE=1, or where nothing is
+# kept, all from nothing.
 test:
 	@$(NEEDS_RT)
-	@sh tests/gate.sh
+	@WHOLE="$(WHOLE)" MINUTES="$(MINUTES)" FIRST="$(FIRST)" sh tests/gate.sh
 
 # What the headline rests on, in one page, in the order in which it is used; and how many lines it has.
 reading:
@@ -131,7 +134,7 @@ collide: $(PROGRAM)
 	@mkdir -p bench/out
 	@rustc -O -o bench/out/collide bench/collide.rs && bench/out/collide $(PROGRAM)
 
-.PHONY: uninstall proof dist package-test
+.PHONY: uninstall proof dist package-test kept-test
 
 # What contrib/files.sh lists, under PREFIX: programs, pages, completions, clients, documents, licence, notices, units that stay
 # off. Prints the programs' SHA-256.
@@ -152,10 +155,16 @@ $(NOTICES): $(PROGRAM) $(ORGQ) contrib/notices.sh
 contrib/out/clients: $(shell find clients -type f) contrib/clients.sh
 	@sh contrib/clients.sh
 
-# What was proved, for archive and package: checks each crate of the programs over what earlier checks kept (some minutes).
+# What was proved, for archive and package: wants what the whole gate wrote of these sources (`make test WHOLE=1`), and checks each
+# crate of the programs over what earlier checks kept (some minutes).
 proof: $(PROGRAM) $(ORGQ)
 	@$(NEEDS_RT)
 	@sh contrib/proof.sh
+
+# The gate over kept proofs with a stand-in for the prover, in a minute or two. No part of the gate.
+kept-test:
+	@$(NEEDS_RT)
+	@sh tests/kept.sh
 
 # An archive of what `install` installs, the same to the byte whenever it is made of the same, into this folder.
 dist: $(PROGRAM) $(ORGQ) $(PACKED) proof

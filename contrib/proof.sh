@@ -3,11 +3,15 @@
 # Writes what an archive says of the proof: version and commit, the kit and its logic, the handles that are allowed, and of each
 # crate of the programs the last line of its check, made over what earlier checks kept. Where a check doesn't end in that line,
 # or a program isn't the one that `rt` noted as built of proved crates, there is no record. The kit is the one that built the
-# programs: what another one built is built anew. GATE names a file with what `make test`
-# wrote: its last two lines are taken, if nothing failed there.
+# programs: what another one built is built anew. Nor is there a record where the whole gate didn't pass these sources, everything
+# proved from nothing: its last two lines are taken, from the file that GATE names, else from contrib/out/gate, where `make test`
+# leaves them.
 # The record is kept in contrib/out/PROOF as long as no source, no program, no kit and no commit changes.
 cd "$(dirname "$0")/.." || exit 2
 record=contrib/out/PROOF
+mkdir -p contrib/out
+work=$(mktemp -d) || exit 2
+trap 'rm -rf "$work"' EXIT
 commit=$(git rev-parse HEAD 2> /dev/null || echo unknown)
 [ -z "$(git status --porcelain 2> /dev/null)" ] || commit="$commit, and changes that are not committed"
 for program in orgviews orgq; do
@@ -27,18 +31,21 @@ if ! { (cd crates/orgviews && rt run -- --at "2024-02-28 10:30" < /dev/null) && 
     echo "orgviews: the programs can't be built by this kit, so there is no record and no archive" >&2
     exit 1
 fi
+gate=${GATE:-contrib/out/gate}
+of=$(sh contrib/sources.sh)
+tail -n 2 "$gate" 2> /dev/null > "$work/gate"
+if ! tail -n 1 "$work/gate" | grep -qE '^[1-9][0-9]* passed, 0 failed$' ||
+    ! head -n 1 "$work/gate" | grep -qx "gate: everything was proved from nothing, of the sources $of"; then
+    echo "orgviews: $gate doesn't end as the whole gate does that all of these sources passed: make test WHOLE=1" >&2
+    exit 1
+fi
 sources=$({
-    echo "$commit"
-    rt version
-    cat VERSION HANDLES crates.txt crates/orgviews/out/orgviews.stamp crates/orgq/out/orgq.stamp ${GATE:+"$GATE"}
-    find crates -name out -prune -o -type f -print | LC_ALL=C sort | xargs sha256sum
+    echo "$commit $of"
+    cat VERSION crates/orgviews/out/orgviews.stamp crates/orgq/out/orgq.stamp "$work/gate"
 } | sha256sum)
 if [ -f $record ] && [ "$(cat contrib/out/proof.sum 2> /dev/null)" = "$sources" ]; then
     exit 0
 fi
-mkdir -p contrib/out
-work=$(mktemp -d) || exit 2
-trap 'rm -rf "$work"' EXIT
 
 # The crates below the programs, and these, in the order of crates.txt.
 crates=" orgviews orgq "
@@ -67,13 +74,6 @@ for name in $(sed -n 's/#.*//; s/^\([a-z_0-9]*\)[ :].*/\1/p' crates.txt); do
     fi
     echo "$name: $said" >> "$work/lines"
 done
-if [ -n "$GATE" ]; then
-    tail -n 2 "$GATE" > "$work/gate"
-    if ! tail -n 1 "$work/gate" | grep -qE '^[1-9][0-9]* passed, 0 failed$'; then
-        echo "orgviews: $GATE doesn't end as a gate does that all passed" >&2
-        exit 1
-    fi
-fi
 {
     echo "orgviews $(cat VERSION)"
     echo "commit $commit"
@@ -87,10 +87,8 @@ fi
     echo
     cat "$work/lines"
     sed 's/.* functions=\([0-9]*\).*/\1/' "$work/lines" | awk '{ sum += $1 } END { print NR " crates, " sum " functions: all proved" }'
-    if [ -n "$GATE" ]; then
-        echo
-        echo "The gate of this commit ended with"
-        cat "$work/gate"
-    fi
+    echo
+    echo "The gate of these sources ended with"
+    cat "$work/gate"
 } > "$work/record"
 mv "$work/record" $record && echo "$sources" > contrib/out/proof.sum

@@ -1,9 +1,11 @@
 #!/bin/sh
-# The whole gate. The last line is 'N passed, M failed', over the checks of `rt ci` (by tests/ci.py, which asks the same at less
-# cost), what the tables of definitions name, the worked streams, what the program does where memory is refused and reads and
-# writes fail, and what is looked at first since it takes seconds: whether each must-fail edit can be applied and says where it
-# is refused, each file is in the formatter's layout, no crate of the store stands on views, the number of a rule stands once,
-# and what the pages say of the sources is so.
+# The gate. The last line is 'N passed, M failed', over the checks of `rt ci` (tests/kept.py asks them all, from nothing, or over
+# proofs that were kept, where there are some: its lines say which), what the tables of definitions name, the worked streams,
+# what the program does where memory is refused and reads and writes fail, and what is looked at first since it takes seconds:
+# whether each must-fail edit can be applied and says where it is refused, each file is in the formatter's layout, no crate of
+# the store stands on views, the number of a rule stands once, what the pages say of the sources is so, and each crate has a row
+# on the page of what was proved from nothing. With WHOLE=1 everything is proved from nothing. Where all passed so, the last two
+# lines go into contrib/out/gate, for an archive or a package of these sources.
 cd "$(dirname "$0")/.." || exit 2
 work=$(mktemp -d) || exit 2
 watcher=""
@@ -30,19 +32,21 @@ counted() {
 passed=0
 failed=0
 start=$(date +%s)
-echo "gate: whether each must-fail edit can be applied, each file is in the formatter's layout, no crate of the store stands on views, numbers of rules stand once, and what the pages say of the sources is so"
+echo "gate: whether each must-fail edit can be applied, each file is in the formatter's layout, no crate of the store stands on views, numbers of rules stand once, what the pages say of the sources is so, and each crate has a row on the page of proofs"
 counted edits
 counted layout
 counted layers
 counted rules
 counted pages
+counted proved
 if [ "$failed" -gt 0 ]; then
     echo "gate: nothing else was tried"
     echo "$passed passed, $failed failed"
     exit 1
 fi
 
-echo "gate: proving every crate from nothing, its must-fail edits and tests (one to two hours on four processors)"
+sources=$(sh contrib/sources.sh)
+echo "gate: proving every crate, its must-fail edits and tests (from nothing: one to two hours on four processors)"
 # By its own plan `rt ci` takes each check for two to three times the memory that it needs, so that processors stand idle. With
 # RT_JOBS it runs so many tasks side by side, one job each, and asks for no memory; a kit that doesn't know it isn't hindered.
 [ -n "$RT_JOBS" ] || RT_JOBS=$(python3 tests/spent.py lanes 2> /dev/null)
@@ -53,7 +57,7 @@ fi
 python3 tests/spent.py watch $$ "$work/spent" 2> /dev/null &
 watcher=$!
 {
-    python3 tests/ci.py 2>&1
+    python3 tests/kept.py gate "$work/kept" 2>&1
     echo $? > "$work/status"
 } | tee "$work/log"
 ci=$(cat "$work/status")
@@ -101,5 +105,14 @@ edits=$(grep -c '^rt: must-fail ' "$work/log")
 echo "gate: $processor processor minutes in $((($(date +%s) - start) / 60)) minutes: $proofs crates proved, $tests with tests, $edits must-fail edits"
 [ ! -s "$work/spent" ] || python3 tests/spent.py tell "$work/spent" "$processor" 2> /dev/null
 
+# What was proved from nothing, beside the page's rows; of which sources, where it was everything and all passed.
+touch "$work/kept"
+counted proved "$work/log" "$work/kept"
+cat "$work/kept"
+if [ "$(cat "$work/kept")" = "kept: everything was proved from nothing" ] && [ "$failed" -eq 0 ] && [ "$(sh contrib/sources.sh)" = "$sources" ]; then
+    echo "gate: everything was proved from nothing, of the sources $sources" | tee "$work/last"
+    echo "$passed passed, 0 failed" >> "$work/last"
+    mkdir -p contrib/out && cp "$work/last" contrib/out/gate
+fi
 echo "$passed passed, $failed failed"
 [ "$failed" -eq 0 ]

@@ -44,8 +44,11 @@ refuses() {
 
 . "$here/tests/package/stand-ins.sh"
 
+# Runs make in a folder, which has what the whole gate leaves where all passed.
 quiet_make() {
-    (cd "$1" && shift && make --no-print-directory "$@")
+    mkdir -p "$1/contrib/out" && sources=$(sh "$1/contrib/sources.sh") &&
+        printf 'gate: everything was proved from nothing, of the sources %s\n6 passed, 0 failed\n' "$sources" > "$1/contrib/out/gate" &&
+        (cd "$1" && shift && make --no-print-directory "$@")
 }
 
 # Everything below a folder: names, modes, and what is in files.
@@ -194,10 +197,21 @@ gate_failed() {
     printf 'gate: 1 crate\n5 passed, 1 failed\n' > "$work/gate"
     GATE=$work/gate quiet_make "$first" dist
 }
-refuses "no archive with a gate that failed" "doesn't end as a gate" gate_failed
+refuses "no archive with a gate that failed" "doesn't end as the whole gate" gate_failed
+gate_partial() {
+    printf 'kept: 2 of 3 proofs were made from nothing by this run: org_base, org_cal\n6 passed, 0 failed\n' > "$work/gate"
+    GATE=$work/gate quiet_make "$first" dist
+}
+refuses "no archive with a gate that took kept work" "doesn't end as the whole gate" gate_partial
+gate_of_others() {
+    printf 'gate: everything was proved from nothing, of the sources %s\n6 passed, 0 failed\n' "$(echo other | sha256sum | cut -d ' ' -f 1)" > "$work/gate"
+    GATE=$work/gate quiet_make "$first" dist
+}
+refuses "no archive with the gate of other sources" "doesn't end as the whole gate" gate_of_others
+refuses "no archive without a gate" "doesn't end as the whole gate" env GATE="$work/none" make --no-print-directory -C "$first" dist
 gate_passed() {
-    printf 'gate: 1 crate\n6 passed, 0 failed\n' > "$work/gate"
-    GATE=$work/gate quiet_make "$first" dist && tar -xOf "$first/$archive.tar.xz" "$archive/share/doc/orgviews/PROOF" | tail -n 1 | grep -x '6 passed, 0 failed'
+    printf 'gate: everything was proved from nothing, of the sources %s\n7 passed, 0 failed\n' "$(sh "$first/contrib/sources.sh")" > "$work/gate"
+    GATE=$work/gate quiet_make "$first" dist && tar -xOf "$first/$archive.tar.xz" "$archive/share/doc/orgviews/PROOF" | tail -n 1 | grep -x '7 passed, 0 failed'
 }
 check "the gate's last lines go into the record" gate_passed
 holds_path() {
@@ -286,7 +300,7 @@ check "the unit has a limit of time" in_time
 if command -v dpkg-shlibdeps strip dpkg-deb > /dev/null; then
     for folder in "$work/debian" "$work/elsewhere/debian"; do
         git clone -q "$first" "$folder" && built "$folder" orgviews /usr/bin/sort && built "$folder" orgq /usr/bin/env || exit 2
-        mkdir "$folder/contrib/out" && cp "$first/contrib/out/THIRD-PARTY-NOTICES" "$folder/contrib/out/"
+        mkdir -p "$folder/contrib/out" && cp "$first/contrib/out/THIRD-PARTY-NOTICES" "$folder/contrib/out/"
     done
     package=orgviews_$(cat "$here/VERSION")_$(dpkg --print-architecture).deb
     check "make deb" quiet_make "$work/debian" deb

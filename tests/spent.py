@@ -60,8 +60,9 @@ def check_of(pid):
         return crate, "tests"
     if "--crate-checked" in words:
         return crate, "builds"
-    # A must-fail edit is checked alone, and nothing is made of it.
-    return crate, "edits" if "check" in words[:2] and "-o" not in words else "proofs"
+    # A must-fail edit is checked alone, and nothing is made of it. Nor is it of what tests/kept.py proves from nothing.
+    is_anew = any(it.endswith(".fresh") for it in words)
+    return crate, "edits" if "check" in words[:2] and "-o" not in words and not is_anew else "proofs"
 
 
 def look(root, checks):
