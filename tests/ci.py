@@ -39,9 +39,11 @@ EDITS = {
 SUMS = {"rtlib.Crate.stamp": "self", "rtlib.crates_below": "top"}
 # The last line of a check of some functions alone: how many were asked for, and how many of them are proved.
 LAST = re.compile(r"only=(\d+) proved=(\d+)")
-# What the prover says where a clause or an invariant isn't met: at the source, or in the answer to a goal that a clause makes.
+# What the prover says where a clause or an invariant isn't met: at the source, or in the answer to a goal that one makes; but not
+# where that answer only names what the edit took away.
 AT_SOURCE = re.compile(r"note: (\./)?src/\S+:\d+:\d+: it is not proved that (what .* (ensures|requires) |the (\S+ )*`?invariant)")
-IN_ANSWER = re.compile(r"(\./)?proofs/\S+:\d+:\d+: error: `\S*(clause|requires|invariant)\S*`: (?!.*(has no field|is not in scope|has no `|was not admitted))")
+NAMES = r"has no field|is not in scope|has no `|was not admitted"
+IN_ANSWER = re.compile(rf"(\./)?proofs/\S+:\d+:\d+: error: `(returns|\S*(clause|requires|invariant|-preserved|-init))\S*`: (?!.*({NAMES}))")
 
 
 def toolchain():
