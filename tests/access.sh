@@ -144,6 +144,24 @@ opens_to_none() {
     passed=$((passed + 1))
 }
 
+echo "access: files that can't stay what they are are refused"
+new 664
+chown 4002:4001 d/a.org
+before="$(state d/a.org)"
+put person
+is "a file of another owner" "$status $(state d/a.org) $(ls -A d) $(grep -c 'its owner is another one.*nothing was written' err)" "5 $before a.org 1"
+for mode in 600 644; do
+    new "$mode"
+    cp -p d/a.org kept
+    if mount --bind kept d/a.org 2> /dev/null; then
+        put root
+        is "a file of mode $mode that is mounted on its own" "$status $(head -n 1 kept) $(ls -A d) $(grep -c 'mounted on its own.*nothing was written' err)" "5 * TODO One a.org 1"
+        umount d/a.org
+    else
+        echo "access: a file that is mounted on its own is left out, none can be made here"
+    fi
+done
+
 if [ "$2" = all ]; then
     prepare both
     put root LD_PRELOAD="$shim" FILE_CALLS="$work/count"
