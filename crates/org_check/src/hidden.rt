@@ -1,17 +1,17 @@
 //! Planning that shows on no day, since its heading is hidden.
-ghost use Rattle.org_head.specs.Head.{AreInside};
 
 use crate::beside_kinds::BesideKind;
 use crate::finding::Cause;
 use crate::here::{Here, State};
 use crate::notes::Notes;
-use org_head::{Head, part};
+use crate::settings::part_of;
+use org_head::Head;
 use org_stamp::stamps_in;
 use std::alloc::AllocError;
 
 // A heading that hides itself and those below it.
 #[derive(Clone, Copy)]
-pub(crate) struct Hiding {
+pub(crate) struct HidingHeading {
     // Its stars.
     level: usize,
     // Its line.
@@ -20,15 +20,15 @@ pub(crate) struct Hiding {
 
 // The heading that hides the one of this line, if one does, where another hid the heading before: that one, where it has
 // fewer stars, else the heading itself.
-pub(crate) fn hiding(
-    before: Option<Hiding>,
+pub(crate) fn hidden_by(
+    before: Option<HidingHeading>,
     here: Here,
     level: usize,
     hides: bool,
-) -> Option<Hiding> {
+) -> Option<HidingHeading> {
     match before {
         Some(above) if above.level < level => Some(above),
-        _ if hides => Some(Hiding {
+        _ if hides => Some(HidingHeading {
             level,
             line: here.number,
         }),
@@ -37,17 +37,13 @@ pub(crate) fn hiding(
 }
 
 // Whether a heading hides itself: by the word COMMENT, or by the tag ARCHIVE.
-pub(crate) fn hides(head: &Head, line: &[u8]) -> bool
-    requires inside { AreInside line.now head.now }
-{
+pub(crate) fn hides(head: &Head, line: &[u8]) -> bool {
     head.comment || has_archive(head, line)
 }
 
-fn has_archive(head: &Head, line: &[u8]) -> bool
-    requires inside { AreInside line.now head.now }
-{
+fn has_archive(head: &Head, line: &[u8]) -> bool {
     for tag in head.tags.as_slice() {
-        if part(line, *tag) == b"ARCHIVE".as_slice() {
+        if part_of(line, tag.at as usize, tag.len as usize) == b"ARCHIVE".as_slice() {
             return true;
         }
     }
@@ -59,7 +55,7 @@ pub(crate) fn push_hidden(
     notes: &mut Notes,
     here: Here,
     line: &[u8],
-    hidden: Option<Hiding>,
+    hidden: Option<HidingHeading>,
 ) -> Result<(), AllocError> {
     let Some(hidden) = hidden else {
         return Ok(());

@@ -9,7 +9,7 @@ use crate::blocks::{
 use crate::clocks::{push_clock_case, push_clock_item};
 use crate::headings::{push_heading, push_heading_like};
 use crate::here::{Above, Here, State};
-use crate::hidden::{hiding, push_hidden};
+use crate::hidden::{hidden_by, push_hidden};
 use crate::near_planning::{push_near_planning, push_near_ranges};
 use crate::planning::{push_heading_planning, push_planning, push_planning_case};
 use crate::properties::{MetNames, push_node};
@@ -74,7 +74,7 @@ fn check_heading(seen: &mut Seen<'_>, here: Here, line: &[u8]) -> Result<State, 
 {
     push_heading_planning(&mut seen.notes, here, line)?;
     let (state, hides) = push_heading(seen, here, line)?;
-    seen.hiding = hiding(seen.hiding, here, leading_stars(line), hides);
+    seen.hiding = hidden_by(seen.hiding, here, leading_stars(line), hides);
     Ok(state)
 }
 

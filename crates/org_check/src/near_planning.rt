@@ -29,7 +29,7 @@ pub(crate) fn push_near_planning(
             continue;
         }
         let (before, _) = line.split_at(found.at);
-        let Some((kind, place)) = near_planning(before) else {
+        let Some((kind, place)) = planning_before(before) else {
             continue;
         };
         if !quotes.holds(line, found.at) {
@@ -41,7 +41,7 @@ pub(crate) fn push_near_planning(
 }
 
 // Why what stands before a stamp is no planning, if it is nearly so, and where it begins.
-fn near_planning(before: &[u8]) -> Option<(BesideKind, usize)> {
+fn planning_before(before: &[u8]) -> Option<(BesideKind, usize)> {
     let text = trim_end(before);
     let (named, has_colon) = match text {
         [named @ .., b':'] => (named, true),
@@ -62,11 +62,10 @@ fn near_planning(before: &[u8]) -> Option<(BesideKind, usize)> {
 
 // A text before the letters at its end, and these.
 fn split_word(text: &[u8]) -> (&[u8], &[u8]) {
-    let from = match text.iter().rposition(|b| !b.is_ascii_alphabetic()) {
-        Some(place) if place < text.len() => place + 1,
-        _ => 0,
-    };
-    text.split_at(from)
+    match text.iter().rposition(|b| !b.is_ascii_alphabetic()) {
+        Some(place) if place < text.len() => text.split_at(place + 1),
+        _ => text.split_at(0),
+    }
 }
 
 // The most bytes before a word of which it is asked whether they are white space.

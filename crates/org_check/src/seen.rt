@@ -4,7 +4,7 @@ use crate::clocks::Clocks;
 use crate::drawers::Ahead;
 use crate::file::About;
 use crate::here::Above;
-use crate::hidden::Hiding;
+use crate::hidden::HidingHeading;
 use crate::notes::Notes;
 use crate::properties::MetNames;
 use std::alloc::{AllocError, Global};
@@ -29,7 +29,7 @@ pub(crate) struct Seen<'a> {
     // The words in capitals that stand in front of headings and are no keywords.
     pub capitals: MetNames,
     // What hides the last heading, if it is hidden.
-    pub hiding: Option<Hiding>,
+    pub hiding: Option<HidingHeading>,
     // What is known of the section before the line.
     pub above: Above,
     // What comes after a line of the section.

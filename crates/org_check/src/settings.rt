@@ -135,7 +135,8 @@ fn keyword_name(word: &[u8]) -> &[u8] {
     }
 }
 
-fn part_of(line: &[u8], at: usize, len: usize) -> &[u8] {
+// So many bytes of a line from a place on; none where it hasn't as many.
+pub(crate) fn part_of(line: &[u8], at: usize, len: usize) -> &[u8] {
     if at <= line.len() && len <= line.len() - at {
         &line[at..at + len]
     } else {
