@@ -1,7 +1,7 @@
 -- How lines are printed (profile): colours as terminals have them (ECMA-48, "SGR").
 use Rattle.std.specs.Prelude.{◌≡◌, ℕ, Bool, true, false, not, ◌&&◌, if◌then◌else◌, Option, is_none, List, [], ◌∷◌, ◌++◌, codes, decimal, length, ◌==◌, ◌⊎◌, Result, OnOk, Vec}
 use Rattle.org_agenda.specs.declared.row.RowKind.{RowKind}
-use Rattle.org_agenda.specs.declared.row.RowKind.TheVariants.{LateSchedule, LateDeadline, Warning}
+use Rattle.org_agenda.specs.declared.row.RowKind.TheVariants.{LateSchedule, LateDeadline, OnDeadline, Warning}
 use Rattle.org_client.specs.Clean.{IsClean}
 use Rattle.org_client.specs.Visible.{visible}
 use Rattle.org_client.specs.declared.visible.Escape.TheVariants.{Caret}
@@ -11,22 +11,23 @@ use Rattle.org_answer.specs.declared.show.PrintOptions.{PrintOptions}
 use Rattle.org_layout.specs.declared.shown.Line.{Line}
 use Rattle.org_layout.specs.declared.shown.Line.TheVariants.{Day, Step, Row, Table}
 
--- the colour of a kind of rows: late ones are red, warnings yellow
-abbrev pub kind_color : RowKind → List ℕ
-kind_color LateSchedule = 27 ∷ codes "[31m"
-kind_color LateDeadline = 27 ∷ codes "[31m"
-kind_color Warning = 27 ∷ codes "[33m"
-kind_color _ = []
+-- the colour of a kind of rows: late ones are red, warnings yellow, and so are deadlines on their days, if they are due
+abbrev pub kind_color : Bool → RowKind → List ℕ
+kind_color is_due LateSchedule = 27 ∷ codes "[31m"
+kind_color is_due LateDeadline = 27 ∷ codes "[31m"
+kind_color is_due Warning = 27 ∷ codes "[33m"
+kind_color is_due OnDeadline = if is_due then 27 ∷ codes "[33m" else []
+kind_color is_due _ = []
 
 -- days are bold
-abbrev pub color_of : Line → List ℕ
-color_of (Day day) = 27 ∷ codes "[1m"
-color_of (Step first last) = 27 ∷ codes "[1m"
-color_of (Row shown) = kind_color shown.row.kind
-color_of (Table row) = []
+abbrev pub color_of : Bool → Line → List ℕ
+color_of is_due (Day day) = 27 ∷ codes "[1m"
+color_of is_due (Step first last) = 27 ∷ codes "[1m"
+color_of is_due (Row shown) = kind_color is_due shown.row.kind
+color_of is_due (Table row) = []
 
-abbrev pub color : PrintOptions → Line → List ℕ
-color look line = if look.is_colored then color_of line else []
+abbrev pub color : PrintOptions → Bool → Line → List ℕ
+color look is_due line = if look.is_colored then color_of is_due line else []
 
 -- a text, without control characters where they are to be seen
 abbrev pub shown_text : Bool → List ℕ → List ℕ
@@ -57,7 +58,7 @@ IsSafe look = is_safe look.form look.is_seen ≡ true
 
 -- one of our colours, or none
 abbrev pub IsColor : List ℕ → Type 0
-IsColor color = (color ≡ []) ⊎ ((line : Line) × (color ≡ color_of line))
+IsColor color = (color ≡ []) ⊎ ((is_due : Bool) × (line : Line) × (color ≡ color_of is_due line))
 
 -- what stands before a colour of ours, and a text after it: neither has a control character
 pub record IsCleanLine (bytes : List ℕ) : Type 0 where

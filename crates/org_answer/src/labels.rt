@@ -90,9 +90,14 @@ pub(crate) fn tone_of(inherits: &Inherits<'_>, row: &Row) -> Tone {
     match row.kind {
         RowKind::LateSchedule | RowKind::LateDeadline => Tone::Late,
         RowKind::Warning => Tone::Soon,
-        RowKind::OnDeadline if !is_done(inherits, row) => Tone::Soon,
+        _ if is_due_row(inherits, row) => Tone::Soon,
         _ => Tone::File(row.file),
     }
+}
+
+/// Whether a row is that of a deadline on its day, of a heading that isn't done.
+pub(crate) fn is_due_row(inherits: &Inherits<'_>, row: &Row) -> bool {
+    row.kind == RowKind::OnDeadline && !is_done(inherits, row)
 }
 
 fn is_done(inherits: &Inherits<'_>, row: &Row) -> bool {

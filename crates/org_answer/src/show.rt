@@ -3,6 +3,7 @@ ghost use Rattle.std.specs.Prelude.{◌≡◌, [], ◌∷◌, ◌++◌, true, If
 ghost use Rattle.org_base.specs.Results.{Adds};
 ghost use Rattle.org_answer.specs.Shown.{AddsClean, AreCleanLines, IsSafe, KeepsClean, color, color_of, number_text, shown_line, shown_text};
 
+use crate::labels::is_due_row;
 use org_agenda::RowKind;
 use org_base::Fault;
 use org_cal::Day;
@@ -11,6 +12,7 @@ use org_client::{
     push_visible, template_line,
 };
 use org_clocktable::Of;
+use org_inherit::Inherits;
 use org_layout::Line;
 use org_text::Text;
 use std::alloc::{AllocError, Global};
@@ -79,6 +81,7 @@ pub(crate) fn lines_bytes<T: Text>(
         let text = text.trim_end_matches('\n');
         let shown = LineOfAnswer {
             line,
+            is_due: is_due(files.inherits, line),
             days: days_at(line, days),
             text,
         };
@@ -96,10 +99,19 @@ fn days_at(line: &Line, before: Option<(Day, Day)>) -> Option<(Day, Day)> {
     }
 }
 
-// A line of an answer: what it stands for, the days of its clock table, and its text.
+// Whether a line is the row of a deadline on its day, of a heading that isn't done.
+fn is_due(inherits: &Inherits<'_>, line: &Line) -> bool {
+    match line {
+        Line::Row(shown) => is_due_row(inherits, &shown.row),
+        Line::Day(_) | Line::Step(..) | Line::Table(_) => false,
+    }
+}
+
+// A line of an answer: what it stands for, whether it is due, the days of its clock table, and its text.
 #[derive(Clone, Copy)]
 struct LineOfAnswer<'a> {
     line: &'a Line,
+    is_due: bool,
     days: Option<(Day, Day)>,
     text: &'a str,
 }
@@ -142,10 +154,10 @@ fn push_text(
     shown: &LineOfAnswer<'_>,
     look: &PrintOptions<'_, '_>,
 ) -> Result<(), AllocError>
-    ensures { Adds result out.old out.new (shown_line (color look.now shown.now.line.now) look.now.is_seen shown.now.text.now) }
+    ensures { Adds result out.old out.new (shown_line (color look.now shown.now.is_due shown.now.line.now) look.now.is_seen shown.now.text.now) }
 {
     let color = if look.is_colored {
-        color_of(shown.line)
+        color_of(shown.is_due, shown.line)
     } else {
         ""
     };
@@ -169,15 +181,16 @@ pub fn push_seen(out: &mut Vec<u8>, text: &str, is_seen: bool) -> Result<(), All
     Ok(())
 }
 
-// Days are bold, late rows red, and warnings yellow.
-fn color_of(line: &Line) -> &'static str
-    ensures { result.now ≡ color_of line.now }
+// Days are bold, late rows red, warnings and what is due yellow.
+fn color_of(is_due: bool, line: &Line) -> &'static str
+    ensures { result.now ≡ color_of is_due line.now }
 {
     match line {
         Line::Day(_) | Line::Step(..) => "\x1b[1m",
         Line::Row(shown) => match shown.row.kind {
             RowKind::LateSchedule | RowKind::LateDeadline => "\x1b[31m",
             RowKind::Warning => "\x1b[33m",
+            RowKind::OnDeadline if is_due => "\x1b[33m",
             _ => "",
         },
         Line::Table(_) => "",
@@ -201,7 +214,7 @@ fn push_placed<T: Text>(
 
 // Appends the file and the line of a row's heading; before a row of a clock table, which begins with a number, a space, so
 // that editors take no number of it as a column.
-#[tactic(auto, using(crate::proofs::ShownLemmas::places_alone, crate::proofs::ShownLemmas::places_named, crate::proofs::ShownLemmas::places_nothing))]
+#[tactic(auto, using(crate::proofs::ShownLemmas::places_alone, crate::proofs::ShownLemmas::places_after, crate::proofs::ShownLemmas::places_nothing))]
 fn push_place<T: Text>(
     alloc: Global,
     out: &mut Vec<u8>,
@@ -221,8 +234,35 @@ fn push_place<T: Text>(
     if file >= files.file_set.count() {
         return push_number(alloc, out, place.line, is_spaced);
     }
-    push_seen(out, files.file_set.file(file).name(), is_seen)?;
+    push_name(out, files.file_set.file(file).name(), is_seen)?;
     push_number(alloc, out, place.line, is_spaced)
+}
+
+// Appends the name of a file. One in which a place seems to stand is put between quotation marks, so that it leads nowhere
+// else.
+#[tactic(auto, using(crate::proofs::ShownLemmas::names_bare, crate::proofs::ShownLemmas::names_quoted))]
+fn push_name(out: &mut Vec<u8>, name: &str, is_seen: bool) -> Result<(), AllocError>
+    ensures clean { is_seen ≡ true → OnOk result (AddsClean out.old.items out.new.items) }
+{
+    if !seems_placed(name.as_bytes()) {
+        return push_seen(out, name, is_seen);
+    }
+    out.push(b'"')?;
+    push_seen(out, name, is_seen)?;
+    out.push(b'"')?;
+    Ok(())
+}
+
+// Whether a colon and a digit stand in a name.
+fn seems_placed(name: &[u8]) -> bool {
+    let mut after_colon = false;
+    for byte in name {
+        if after_colon && byte.is_ascii_digit() {
+            return true;
+        }
+        after_colon = *byte == b':';
+    }
+    false
 }
 
 fn push_number(

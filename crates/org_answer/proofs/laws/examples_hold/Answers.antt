@@ -5,6 +5,7 @@ pub returns : goal.returns
 returns c = record {
   late_alike = refl;
   soon_alike = refl;
+  due_alike = refl;
   seventh_file = refl;
   sixth_file = refl;
   bare_part = refl;
