@@ -11,7 +11,7 @@ NEEDS_RT = $(if $(shell command -v rt),,$(error there is no `rt`: building wants
 built already is an archive or a package, see docs/building.md))
 
 .PHONY: run try build check changed test rows orgq-test reading faults emacs-test vim-test ical-test bench collide install deb clean
-.PHONY: completions-test recipes-test agenda-test acts-test stranger
+.PHONY: completions-test recipes-test agenda-test acts-test stranger org-agenda-test org-agenda-bench
 
 # Builds the program where it isn't fresh, and runs the first example.
 run: $(PROGRAM)
@@ -78,6 +78,15 @@ orgq-test: $(PROGRAM) $(ORGQ)
 # The Emacs client over both programs as they were last built; left out where Emacs isn't installed. No part of the gate.
 emacs-test: $(PROGRAM) $(ORGQ)
 	@sh tests/clients.sh $(PROGRAM) $(ORGQ)
+
+# Org's agenda with `org-views-agenda-mode` and by Org alone, in a real Emacs and in a terminal; left out where Emacs isn't
+# installed. No part of the gate.
+org-agenda-test: $(PROGRAM)
+	@sh tests/org-agenda.sh $(PROGRAM)
+
+# What both cost over 100,000 headings, in seconds of processor; takes minutes.
+org-agenda-bench: $(PROGRAM)
+	@sh bench/org-agenda.sh $(PROGRAM)
 
 # The clients for Vim and Neovim over both programs as they were last built; an editor that isn't installed is left out. No part
 # of the gate.

@@ -22,11 +22,11 @@ commands() {
             command = ""
         }
         /^[(;]/ { known() }
-        cookie && $1 != "(defun" {
+        cookie && $1 != "(defun" && $1 != "(define-minor-mode" {
             print FILENAME ": what is known of this before it is loaded? " $0 > "/dev/stderr"
             exit 1
         }
-        cookie { command = $2; asked = "" }
+        cookie { command = $2; asked = $1 == "(define-minor-mode" ? " t" : "" }
         / \(interactive[ )]/ || / \(interactive$/ { asked = " t" }
         { cookie = $0 == ";;;###autoload" }
         END { known() }
