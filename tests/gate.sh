@@ -22,6 +22,9 @@ counted() {
     more_failed=$(sed -n "s/^$name: .*, \([0-9]*\) failed$/\1/p" "$work/$name")
     more_passed=${more_passed:-0}
     more_failed=${more_failed:-1}
+    without=$(sed -n "s/^$name: .* (without \(.*\)), .*/\1/p" "$work/$name")
+    [ -z "$without" ] || left_out="${left_out:+$left_out; }$name: $without"
+    [ $((more_passed + more_failed)) -gt 0 ] || [ -n "$without" ] || more_failed=1
     if [ "$status" -ne 0 ] && [ "$more_failed" -eq 0 ]; then
         more_failed=1
     fi
@@ -31,6 +34,7 @@ counted() {
 
 passed=0
 failed=0
+left_out=""
 start=$(date +%s)
 echo "gate: whether each must-fail edit can be applied, each file is in the formatter's layout, no crate of the store stands on views, numbers of rules stand once, what the pages say of the sources is so, and each crate has a row on the page of proofs"
 counted edits
@@ -105,6 +109,7 @@ edits=$(grep -c '^rt: must-fail ' "$work/log")
 echo "gate: $processor processor minutes in $((($(date +%s) - start) / 60)) minutes: $proofs crates proved, $tests with tests, $edits must-fail edits"
 [ ! -s "$work/spent" ] || python3 tests/spent.py tell "$work/spent" "$processor" 2> /dev/null
 
+[ -z "$left_out" ] || echo "gate: not tried, for want of tools: $left_out"
 # What was proved from nothing, beside the page's rows; of which sources, where it was everything and all passed.
 touch "$work/kept"
 counted proved "$work/log" "$work/kept"
