@@ -125,6 +125,7 @@ faults: $(PROGRAM) $(PARTS) $(ORGQ)
 	@sh tests/saves.sh $(ORGQ) in
 	@sh tests/saves.sh $(ORGQ) out
 	@sh tests/saves.sh $(ORGQ) cancel
+	@sh tests/saves.sh $(ORGQ) switch
 	@sh tests/saves.sh $(ORGQ) add
 	@sh tests/streams.sh $(ORGQ) $(PROGRAM)
 	@sh tests/access.sh $(ORGQ) all

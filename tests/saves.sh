@@ -1,7 +1,7 @@
 #!/bin/sh
 # Tries on real files a program that changes a file by one replacement: PROGRAM append, which puts a line at the end,
 # PROGRAM add, which puts a heading there, PROGRAM done, which completes the heading on the first line, or PROGRAM in, out or
-# cancel, which begins, ends or takes away the clock of that heading. Its status is to be 0 where the change stands there, and 5
+# cancel, which begins, ends or takes away the clock of that heading, or PROGRAM switch, which ends it and begins another. Its status is to be 0 where the change stands there, and 5
 # where nothing was changed; of all but `append` also 3 where the file couldn't be read, and 6 where the change stands there and
 # output failed.
 # Modes, links, pipes, read-only and locked files, a read-only folder; each call on files failing with four errors, the program
@@ -50,6 +50,21 @@ body"
         after="* One
 body"
         ;;
+    switch)
+        before="* One
+:LOGBOOK:
+$clock
+:END:
+* Two"
+        after="* One
+:LOGBOOK:
+$clock--[2024-02-28 Wed 10:30] =>  0:45
+:END:
+* Two
+:LOGBOOK:
+CLOCK: [2024-02-28 Wed 10:30]
+:END:"
+        ;;
     *) give_up "there is no kind $kind" ;;
 esac
 # The status where a file can't be read: an act on a clock reads it once before it is opened to be changed.
@@ -83,6 +98,7 @@ run() {
         add) exec $user "$program" --no-config --at "2024-02-28 10:30" -f "$1" add -t DONE "$2" ;;
         done) exec $user "$program" --no-config --at "2024-02-28 10:30" done "$1:$2" ;;
         in) exec $user "$program" --no-config --at "2024-02-28 10:30" clock in "$1:$2" ;;
+        switch) exec $user "$program" --no-config --at "2024-02-28 10:30" -f "$1" clock in --switch "$1:5" ;;
         *) exec $user "$program" --no-config --at "2024-02-28 10:30" -f "$1" clock "$kind" ;;
     esac
 }
@@ -295,7 +311,7 @@ long() {
 
 # Makes the file as it was where the act can't be done twice.
 renew() {
-    case $kind in in | out | cancel) cp was d/a.org ;; esac
+    case $kind in in | out | cancel | switch) cp was d/a.org ;; esac
 }
 
 # What the file holds: what it did, what it is to, or neither.

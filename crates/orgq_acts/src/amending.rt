@@ -7,6 +7,7 @@ use crate::heading::HeadingText;
 use crate::refusals::say_unamended;
 use org_act::{Act, Amended, ClockStep, OwnedChange, Refusal, Unamended, amend, with_change};
 use org_answer::push_seen;
+use org_base::{Code, Fault};
 use org_save::{Saved, Store};
 use org_stamp::is_planning;
 use orgq_args::WishedAct;
@@ -105,6 +106,43 @@ fn carry_out_shown<R: AllocGlobal + Print + Eprint, S: Store, A: Act>(
     }
 }
 
+/// The text that an act makes of a heading's file, and what is printed of the change.
+#[derive(Debug, Drop)]
+pub struct PlannedText {
+    pub text: String,
+    pub lines: Vec<u8>,
+}
+
+/// What an act makes of a heading's file, or why it is refused.
+pub fn planned_text<A: Act>(
+    alloc: Global,
+    heading: &HeadingText,
+    act: &A,
+) -> Result<PlannedText, Unamended> {
+    let lines = planned_lines(alloc, heading, act)?;
+    let text = changed_text(alloc, heading, act)?;
+    Ok(PlannedText { text, lines })
+}
+
+fn changed_text<A: Act>(
+    alloc: Global,
+    heading: &HeadingText,
+    act: &A,
+) -> Result<String, Unamended> {
+    let text = heading.text.as_str();
+    let change = match act.plan(alloc, text) {
+        Ok(change) => change,
+        Err(why) => return Err(Unamended::Refused(why)),
+    };
+    let Ok(bytes) = with_change(alloc, text.as_bytes(), &change) else {
+        return Err(Unamended::Refused(Refusal::Fault(Fault::Plain(Code::Memory))));
+    };
+    match String::from_utf8(bytes) {
+        Ok(text) => Ok(text),
+        Err(_) => Err(Unamended::Refused(Refusal::Misread)),
+    }
+}
+
 // What is printed of the change that an act makes, or why it is refused.
 fn planned_lines<A: Act>(
     alloc: Global,
@@ -115,7 +153,7 @@ fn planned_lines<A: Act>(
     match planned {
         Ok(change) => match shown_lines(alloc, heading, &change) {
             Ok(lines) => Ok(lines),
-            Err(refused) => Err(Unamended::Refused(Refusal::from(refused))),
+            Err(_) => Err(Unamended::Refused(Refusal::Fault(Fault::Plain(Code::Memory)))),
         },
         Err(why) => Err(Unamended::Refused(why)),
     }
@@ -145,9 +183,13 @@ pub fn report_refusal<R: AllocGlobal + Eprint, A: Act>(
     }
 }
 
-// Says why an act wasn't done, and gives the exit status.
+/// Says why an act wasn't done, and gives the exit status.
 #[tactic(auto, using(orgq_messages::proofs::ExitLemmas::never_0))]
-fn report_unamended<R: AllocGlobal + Eprint>(rt: &R, heading: &HeadingText, why: Unamended) -> u8
+pub fn report_unamended<R: AllocGlobal + Eprint>(
+    rt: &R,
+    heading: &HeadingText,
+    why: Unamended,
+) -> u8
     ensures refused { result ≡ 0 → ⊥ }
 {
     say_unamended(rt, heading, &why);

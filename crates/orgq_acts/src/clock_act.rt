@@ -5,12 +5,13 @@ use crate::amending::report_refusal;
 use crate::heading::HeadingText;
 use crate::one_match::{Search, one_match};
 use crate::running::{Running, RunningPlace, find_beside, find_running};
+use crate::switching::switch_at;
 use clap::ArgMatches;
 use org_act::{Act, ClockAct, ClockStep, with_change};
 use org_answer::Form;
 use org_cal::Moment;
 use orgq_args::{HeadingPlace, Wish, WishedAct, named_form, read_place, read_wish};
-use orgq_files::{real_path, refuse_words};
+use orgq_files::{file_number, real_path, refuse_words};
 use orgq_messages::{BAD_ARGUMENTS, NO_MATCH, Problem, UNTOLD, out_of_memory, say};
 use std::alloc::{AllocError, Global};
 use std::fs::File;
@@ -138,8 +139,8 @@ fn refuse_second<R: AllocGlobal + Eprint>(rt: &R, clock: &RunningPlace) -> u8 {
     }
 }
 
-// Ends the clock that runs and begins another. Where the other can't begin, none is ended; where it then fails, that the first
-// has ended is said.
+// Ends the clock that runs and begins another, in one file by one write. Where the other can't begin, none is ended; where it
+// stands in another file and then fails, that the first has ended is said.
 fn switch<R: AllocGlobal + Clock + Env + Files<File = File> + Print + Eprint>(
     rt: &R,
     asked: &Asked<'_, '_>,
@@ -151,8 +152,9 @@ fn switch<R: AllocGlobal + Clock + Env + Files<File = File> + Print + Eprint>(
         return Ok(status);
     }
     let ends = asked.wish(rt.alloc(), ClockStep::Out(asked.moment))?;
-    if !wish.is_dry {
-        follow_end(rt, clock, place, asked.moment)?;
+    if !wish.is_dry && is_one_file(rt, place.name.as_str(), clock.heading.name.as_str())? {
+        place.found_in = ended_text(rt.alloc(), &clock.heading, asked.moment)?;
+        return Ok(switch_at(rt, &clock.heading, &ends, place, wish));
     }
     let ended = change_at(rt, &clock.heading, &ends);
     if !is_changed(ended) {
@@ -191,25 +193,18 @@ fn check_heading<R: AllocGlobal + Eprint>(rt: &R, heading: &HeadingText) -> Opti
     }
 }
 
-// Gives a place in the same file the text that this will have once a clock has ended.
-fn follow_end<R: AllocGlobal + Files>(
-    rt: &R,
-    clock: &RunningPlace,
-    place: &mut HeadingPlace,
-    moment: Moment,
-) -> Result<(), AllocError> {
-    if is_one_file(rt, place.name.as_str(), clock.heading.name.as_str())? {
-        place.found_in = ended_text(rt.alloc(), &clock.heading, moment)?;
-    }
-    Ok(())
-}
-
 // Whether two names lead to one file.
 fn is_one_file<R: AllocGlobal + Files>(
     rt: &R,
     name: &str,
     other: &str,
 ) -> Result<bool, AllocError> {
+    if name == other {
+        return Ok(true);
+    }
+    if let (Some(number), Some(other)) = (file_number(rt, name), file_number(rt, other)) {
+        return Ok(number == other);
+    }
     let path = real_path(rt, name)?;
     let other = real_path(rt, other)?;
     Ok(path.as_str() == other.as_str())

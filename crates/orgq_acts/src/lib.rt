@@ -19,5 +19,6 @@ mod heading;
 mod one_match;
 mod refusals;
 mod running;
+mod switching;
 
 pub use acts::act;

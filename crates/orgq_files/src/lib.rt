@@ -26,7 +26,8 @@ pub use checked::CheckedFiles;
 pub use config::{Config, Unread, no_config, read_config};
 pub use file_list::{FileList, INPUT, listed_word, path_of, read_list};
 pub use files::{
-    FileSink, LeftOut, Named, push_paths, read_input, read_text, read_whole, real_path,
+    FileNumber, FileSink, LeftOut, Named, file_number, push_paths, read_input, read_text,
+    read_whole, real_path,
 };
 pub use findings::{Report, report_of};
 pub use keywords::{line_behind, say_unknown};
