@@ -95,7 +95,12 @@ fn carry_out_shown<R: AllocGlobal + Print + Eprint, S: Store, A: Act>(
     ensures whole { Stays (A.amended act.now) heading.now (S.events store.old) (S.events store.new) }
 {
     match amend(rt.alloc(), store, heading.text.as_str(), act) {
-        Ok(Amended { change: _, saved }) => Ending {
+        Ok(
+            Amended {
+                change: _change,
+                saved,
+            },
+        ) => Ending {
             status: print_changed(rt, lines),
             saved: Some(saved),
         },

@@ -1,6 +1,6 @@
 use Rattle.std.proofs.Common.{List, ℕ, subst}
 use Rattle.org_act.specs.Amending.{IsAmended}
-use Rattle.orgq.proofs.amending.carry_out_shown.Goals as goal
+use Rattle.orgq_acts.proofs.amending.carry_out_shown.Goals as goal
 
 -- the text that was lent is the heading's
 pub returns-in-Ok-clause-ok : goal.returns-in-Ok-clause-ok
