@@ -3,6 +3,8 @@
 PROGRAM = crates/orgviews/out/orgviews
 ORGQ = crates/orgq/out/orgq
 PARTS = crates/org_measure/out/org_measure
+# What `make try` builds, without any proof.
+TRIED = out/orgq
 SOURCES = $(shell find crates -name out -prune -o -type f \( -name '*.rt' -o -name '*.antt' \) -print) crates.txt
 NOTICES = contrib/out/THIRD-PARTY-NOTICES
 PACKED = $(NOTICES) contrib/out/clients
@@ -17,11 +19,16 @@ built already is an archive or a package, see docs/building.md))
 run: $(PROGRAM)
 	@$(PROGRAM) --at "2024-02-28 10:30" < tests/rows/first-run
 
-# An agenda of two files without any proof, for a first look: the sources are compiled with checks and run.
-try:
+# `orgq` without any proof, for a first look: built once, some minutes, into out/, then asked for a day of two example files, or
+# for ARGS: make try ARGS="-f ~/org". Without rows it ends with status 1, which is no failure here.
+try: $(TRIED)
+	@$(TRIED) $(if $(ARGS),$(ARGS),--no-config --at "2024-02-28 10:30" -f tests/orgq/files/home.org -f tests/orgq/files/work.org) \
+	|| test $$? -eq 1
+
+$(TRIED): $(SOURCES)
 	@$(NEEDS_RT)
 	@echo "orgviews: nothing is proved here; make run and make test do that"
-	@cd crates/orgviews && rt try -- --at "2024-02-28 10:30" < ../../tests/rows/first-agenda
+	@python3 bench/unproved.py orgq $(TRIED)
 
 build: $(PROGRAM) $(ORGQ) $(PACKED)
 
@@ -189,4 +196,4 @@ package-test:
 	@sh tests/package.sh
 
 clean:
-	rm -rf crates/*/out bench/out contrib/out
+	rm -rf crates/*/out bench/out contrib/out out
