@@ -459,7 +459,11 @@ else
     refuse_act done "$room/acts/a.org:1"
     refuse_act deadline "$room/acts/a.org:1" +3d
     refuse_act add -t TODO --tag x Three
+    refuse_act set "$room/acts/a.org:6" DONE
+    refuse_act schedule "$room/acts/a.org:6" fri
     refuse_act clock out
+    refuse_act clock cancel
+    refuse_act clock in --switch "$room/acts/a.org:6"
     refuse_memory -f home.org -f work.org todo
     refuse_memory -f home.org -f work.org calendar week --columns 100
     refuse_memory -f home.org -f work.org agenda --grid

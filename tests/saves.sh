@@ -458,7 +458,7 @@ for each in 0 1 2 3 4 5 6 7 8 9 10 11 12 13 14 15 16 17 18 19 20 21 22 23 24 25 
     sleep "0.$(printf %03d $((each * 2)))"
     { kill -9 "$it" && wait "$it"; } 2> /dev/null
     wait "$it" 2> /dev/null
-    [ ! -e d/.a.org.orgq ] || left=$((left + 1))
+    found=$(beside)
     case $(held) in
         old) old=$((old + 1)) ;;
         new) made=$((made + 1)) ;;
@@ -467,11 +467,16 @@ for each in 0 1 2 3 4 5 6 7 8 9 10 11 12 13 14 15 16 17 18 19 20 21 22 23 24 25 
             echo "saves: killed, and torn"
             ;;
     esac
+    [ -n "$found" ] || continue
+    left=$((left + 1))
+    cp was d/a.org
+    put d/a.org
+    is_done "after a kill that left $found"
 done
 cp was d/a.org
 put d/a.org
 is_done "after those"
-echo "saves: $old times the old text stands, $made times the new one, $left times a temporary file was left"
+echo "saves: $old times the old text stands, $made times the new one, $left times a file was left, and kept no next act from its work"
 
 mkdir full
 if mount -t tmpfs -o size=80k tmpfs full 2> /dev/null; then
