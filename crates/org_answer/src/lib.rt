@@ -50,6 +50,8 @@ pub use picture::{Picture, calendar_picture};
 pub use print::answer_bytes;
 pub use query::{ClockQuery, Query, Question, answer, check};
 pub use running::{running_clocks, running_lines};
-pub use show::{Form, PrintOptions, has_stamp, heading_of, push_seen};
+pub use show::{
+    Form, PrintOptions, has_stamp, heading_of, push_file_name, push_seen, seems_placed,
+};
 pub use view::{Answer, Chosen, Days, match_list};
 pub use words::{WordKind, word_lines, words_of};

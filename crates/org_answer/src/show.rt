@@ -234,17 +234,17 @@ fn push_place<T: Text>(
     if file >= files.file_set.count() {
         return push_number(alloc, out, place.line, is_spaced);
     }
-    push_name(out, files.file_set.file(file).name(), is_seen)?;
+    push_file_name(out, files.file_set.file(file).name(), is_seen)?;
     push_number(alloc, out, place.line, is_spaced)
 }
 
-// Appends the name of a file. One in which a place seems to stand is put between quotation marks, so that it leads nowhere
-// else.
+/// Appends the name of a file as it stands in front of rows. One in which a place seems to stand is put between quotation marks,
+/// so that it leads nowhere else.
 #[tactic(auto, using(crate::proofs::ShownLemmas::names_bare, crate::proofs::ShownLemmas::names_quoted))]
-fn push_name(out: &mut Vec<u8>, name: &str, is_seen: bool) -> Result<(), AllocError>
+pub fn push_file_name(out: &mut Vec<u8>, name: &str, is_seen: bool) -> Result<(), AllocError>
     ensures clean { is_seen ≡ true → OnOk result (AddsClean out.old.items out.new.items) }
 {
-    if !seems_placed(name.as_bytes()) {
+    if !seems_placed(name) {
         return push_seen(out, name, is_seen);
     }
     out.push(b'"')?;
@@ -253,14 +253,14 @@ fn push_name(out: &mut Vec<u8>, name: &str, is_seen: bool) -> Result<(), AllocEr
     Ok(())
 }
 
-// Whether a colon and a digit stand in a name.
-fn seems_placed(name: &[u8]) -> bool {
+/// Whether a colon and a digit stand in a name, so that a place seems to stand in it.
+pub fn seems_placed(name: &str) -> bool {
     let mut after_colon = false;
-    for byte in name {
+    for byte in name.bytes() {
         if after_colon && byte.is_ascii_digit() {
             return true;
         }
-        after_colon = *byte == b':';
+        after_colon = byte == b':';
     }
     false
 }

@@ -6,7 +6,7 @@ ghost use Rattle.orgq_acts.specs.Amending.{Ends, Stays};
 use crate::heading::HeadingText;
 use crate::refusals::say_unamended;
 use org_act::{Act, Amended, ClockStep, OwnedChange, Refusal, Unamended, amend, with_change};
-use org_answer::push_seen;
+use org_answer::{push_file_name, push_seen};
 use org_base::{Code, Fault};
 use org_save::{Saved, Store};
 use org_stamp::is_planning;
@@ -270,8 +270,7 @@ fn push_added(
     let entry = inserted.trim_start_matches('\n');
     let feeds = inserted.len().saturating_sub(entry.len());
     let before = count_feeds(front).saturating_add(feeds);
-    let place = format!(in alloc; "{}:{}:", heading.name, before.saturating_add(1))?;
-    push_seen(lines, place.as_str(), heading.look.is_seen)?;
+    push_place(alloc, lines, heading, before.saturating_add(1) as u64)?;
     let line = line_of(entry, 1);
     push_seen(lines, line, heading.look.is_seen)?;
     lines.push(b'\n')?;
@@ -323,11 +322,23 @@ fn push_line(
 ) -> Result<(), AllocError> {
     let look = heading.look;
     if look.has_place {
-        let place = format!(in alloc; "{}:{number}:", heading.name)?;
-        push_seen(lines, place.as_str(), look.is_seen)?;
+        push_place(alloc, lines, heading, number)?;
     }
     push_seen(lines, line_of(text, number), look.is_seen)?;
     lines.push(b'\n')?;
+    Ok(())
+}
+
+// Appends the place of a line, as it stands in front of rows.
+fn push_place(
+    alloc: Global,
+    lines: &mut Vec<u8>,
+    heading: &HeadingText,
+    number: u64,
+) -> Result<(), AllocError> {
+    push_file_name(lines, heading.name.as_str(), heading.look.is_seen)?;
+    let number = format!(in alloc; ":{number}:")?;
+    lines.extend_from_slice(number.as_bytes())?;
     Ok(())
 }
 

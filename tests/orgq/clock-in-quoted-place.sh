@@ -1,0 +1,1 @@
+printf '* a\n' > 'b.org:3: y.org'

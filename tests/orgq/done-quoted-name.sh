@@ -1,0 +1,2 @@
+printf '* TODO a\n' > '"b".org'
+printf '* TODO z\n' > b.org
