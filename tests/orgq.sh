@@ -8,8 +8,8 @@
 # writes, as the bytes of a file that was changed, follows in NAME.stdout. The folder has the files of tests/orgq/files. Where
 # NAME.terminal is there the program is run on a terminal, by `script`, and what it writes to either stands in NAME.stdout.
 # What the sentences of `orgq check` advise is done by tests/advice.py, and has to help.
-# Objects are read back by python3, and held against docs/orgq-rows.schema.json. Then each control character in all that a file,
-# a name and an argument hold: none is written in any form but into a pipe, as in the file. Each refused growth of memory gives
+# Objects are read back by python3, and held against docs/orgq-rows.schema.json. Then each control character, and marks that turn
+# or hide text, in all that a file, a name and an argument hold: none is written in any form but into a pipe, as in the file. Each refused growth of memory gives
 # the answer all the same or status 4. Each option of --help has to be offered by bash; what completes and orgq-notify are run.
 # What can't be tried for want of python3, script, bash, /dev/full or the shim of tests/faults has failed; only where the system
 # has no zones are zones left out, and the last line, which counts, says so.
@@ -322,9 +322,10 @@ else
     left_out=" (without zones: there is no /usr/share/zoneinfo)"
 fi
 
-# Whether no control character stands in a text but line feeds and, where the second argument is there, colours of ours.
+# Whether no control character stands in a text but line feeds and, where the second argument is there, colours of ours; and,
+# where no third argument is there, no mark that turns or hides text.
 is_clean() {
-    LC_ALL=C od -An -v -tu1 "$1" | LC_ALL=C tr -s ' ' '\n' | awk -v colors="$2" '
+    LC_ALL=C od -An -v -tu1 "$1" | LC_ALL=C tr -s ' ' '\n' | awk -v colors="$2" -v marks="$3" '
         $1 == "" { next }
         colors != "" && escape && $1 == 91 { escape = 0; number = 1; next }
         escape { exit 1 }
@@ -333,70 +334,94 @@ is_clean() {
         number { exit 1 }
         colors != "" && $1 == 27 { escape = 1; next }
         ($1 < 32 && $1 != 10) || $1 == 127 || (last == 194 && $1 >= 128 && $1 < 160) { exit 1 }
-        { last = $1 }
+        marks == "" && before == 226 && last == 128 && $1 >= 170 && $1 < 175 { exit 1 }
+        marks == "" && before == 226 && last == 129 && $1 >= 166 && $1 < 170 { exit 1 }
+        marks == "" && first == 243 && before == 160 && (last == 128 || last == 129) { exit 1 }
+        { first = before; before = last; last = $1 }
     '
 }
 
-# A character by its number, below 256, as UTF-8.
+# Bytes by their numbers.
+bytes() {
+    for byte in "$@"; do printf "\\$(printf %03o "$byte")"; done
+}
+
+# A character by its number as UTF-8.
 character() {
     if [ "$1" -lt 128 ]; then
-        printf "\\$(printf %03o "$1")"
+        bytes "$1"
+    elif [ "$1" -lt 2048 ]; then
+        bytes $((192 + $1 / 64)) $((128 + $1 % 64))
+    elif [ "$1" -lt 65536 ]; then
+        bytes $((224 + $1 / 4096)) $((128 + $1 / 64 % 64)) $((128 + $1 % 64))
     else
-        printf "\\302\\$(printf %03o "$1")"
+        bytes $((240 + $1 / 262144)) $((128 + $1 / 4096 % 64)) $((128 + $1 / 64 % 64)) $((128 + $1 % 64))
     fi
 }
 
-# Each control character, in a folder of its own: as category, in a title and where a tag and a keyword stand, in a property,
-# in a name, and as argument.
+# Each control character, each mark that turns text around and the ends of the tags, which hide it, in a folder of their own: as
+# category, in a title and where a tag and a keyword stand, in a property, in a name, and as argument. A file whose name has a
+# control character is left out. A calendar keeps marks.
 controls=$room/controls
 mkdir -p "$controls"
 cd "$controls" || exit 2
-number=1
 count=0
-while [ "$number" -lt 160 ]; do
-    if [ "$number" -ne 10 ] && { [ "$number" -lt 32 ] || [ "$number" -ge 127 ]; }; then
-        count=$((count + 1))
-        of=$(character "$number"; echo .)
-        of=${of%.}
-        {
-            printf '#+CATEGORY: c%sc\n#+TODO: TODO K%s | DONE\n#+FILETAGS: :f%s:\n' "$of" "$of" "$of"
-            printf '* TODO [#A] a%sb%s c :t%st: <2024-02-28 Wed> :u:\nDEADLINE: <2024-03-01 Fri>\n' "$of" "$of" "$of"
-            printf ':PROPERTIES:\n:CATEGORY: p%sp\n:area: q%sq\n:END:\nCLOCK: [2024-02-27 Tue 09:10]--[2024-02-27 Tue 10:40]\n' "$of" "$of"
-            printf '* K%s k%sk :v%sv:\n' "$of" "$of" "$of"
-        } > "$number.org"
-        printf '* TODO named\n' > "n${of}n.org"
-        for form in --json --csv --color=always "-n --color=always" "--format {file}{category}{title}{tags}{keyword}{text}" "--json --properties area"; do
-            for view in "agenda" "agenda --grid" "calendar" "calendar week --columns=120" "todo" "todo K$of" "match LEVEL>0" "clock" "clocks" "next" "keywords" "tags"; do
-                case "$form $view" in --format*keywords | --format*tags | *properties*keywords | *properties*tags) continue ;; esac
-                # shellcheck disable=SC2086
-                "$orgq" --at "2024-02-28 10:30" $form --inherit area -f "$number.org" -f "n${of}n.org" ${view%% *} ${view#"${view%% *}"} > "$room/out" 2> "$room/err"
-                [ $? -eq 3 ] || fail "control character $number, $form $view: $(cat "$room/err")"
-                case $form in *color*) is_clean "$room/out" colors ;; *) is_clean "$room/out" "" ;; esac || fail "control character $number stands in $form $view"
-                is_clean "$room/err" "" || fail "control character $number stands in what $form $view says"
-            done
-        done
-        "$orgq" --at "2024-02-28 10:30" -f "$number.org" -f "n${of}n.org" ical > "$room/out" 2> "$room/err"
-        [ $? -eq 3 ] && [ -s "$room/out" ] || fail "control character $number, ical: $(cat "$room/err")"
-        LC_ALL=C sed 's/\r$//' "$room/out" > "$room/lines"
-        is_clean "$room/lines" "" || fail "control character $number stands in ical"
-        printf '* K%s k :v%s:\n\nDEADLINE: <2024-02-30%s>\n=<2024-02-31 %s>=\n' "$of" "$of" "$of" "$of" > "found$number.org"
-        for form in "" --json --color=always; do
-            # shellcheck disable=SC2086
-            "$orgq" --at "2024-02-28 10:30" $form check --all "$number.org" "found$number.org" "n${of}n.org" > "$room/out" 2> "$room/err"
-            [ $? -eq 3 ] && [ -s "$room/out" ] || fail "control character $number, check $form: $(cat "$room/err")"
-            is_clean "$room/out" "" || fail "control character $number stands in what check $form finds"
-            is_clean "$room/err" "" || fail "control character $number stands in what check $form says"
-        done
-        for words in "match -- a${of}(" "clock x${of}" "agenda x${of}" "agenda --tag x${of}" "agenda --match x${of}(" "next --since x${of}" "clock --from x${of}" "--color x${of}" "--at x${of}" "-d x${of}" "x${of}" "--x${of}" "--profile x${of}" "clock --step x${of}" "check --only x${of}" "check --severity x${of}"; do
-            # shellcheck disable=SC2086
-            (IFS=' '; "$orgq" --at "2024-02-28 10:30" -f 1.org $words) > "$room/out" 2> "$room/err"
-            [ $? -eq 2 ] && [ -s "$room/err" ] && is_clean "$room/err" "" || fail "control character $number in the arguments $words"
-        done
+numbers=$(awk 'BEGIN {
+    for (n = 1; n < 160; n++) if (n != 10 && (n < 32 || n >= 127)) print n
+    for (n = 8234; n < 8239; n++) print n
+    for (n = 8294; n < 8298; n++) print n
+    print 917504 "\n" 917569 "\n" 917631
+}')
+for number in $numbers; do
+    count=$((count + 1))
+    if [ "$number" -lt 160 ]; then
+        left=3 found=3 marks=""
+    else
+        left=0 found=1 marks=stand
     fi
-    number=$((number + 1))
+    of=$(character "$number"; echo .)
+    of=${of%.}
+    {
+        printf '#+CATEGORY: c%sc\n#+TODO: TODO K%s | DONE\n#+FILETAGS: :f%s:\n' "$of" "$of" "$of"
+        printf '* TODO [#A] a%sb%s c :t%st: <2024-02-28 Wed> :u:\nDEADLINE: <2024-03-01 Fri>\n' "$of" "$of" "$of"
+        printf ':PROPERTIES:\n:CATEGORY: p%sp\n:area: q%sq\n:END:\nCLOCK: [2024-02-27 Tue 09:10]--[2024-02-27 Tue 10:40]\n' "$of" "$of"
+        printf '* K%s k%sk :v%sv:\n' "$of" "$of" "$of"
+    } > "$number.org"
+    printf '* TODO named\n' > "n${of}n.org"
+    for form in --json --csv --color=always "-n --color=always" "--format {file}{category}{title}{tags}{keyword}{text}" "--json --properties area"; do
+        for view in "agenda" "agenda --grid" "calendar" "calendar week --columns=120" "todo" "todo K$of" "match LEVEL>0" "clock" "clocks" "next" "keywords" "tags"; do
+            case "$form $view" in --format*keywords | --format*tags | *properties*keywords | *properties*tags) continue ;; esac
+            # shellcheck disable=SC2086
+            "$orgq" --at "2024-02-28 10:30" $form --inherit area -f "$number.org" -f "n${of}n.org" ${view%% *} ${view#"${view%% *}"} > "$room/out" 2> "$room/err"
+            [ $? -eq "$left" ] || fail "character $number, $form $view: $(cat "$room/err")"
+            case $form in *color*) is_clean "$room/out" colors ;; *) is_clean "$room/out" "" ;; esac || fail "character $number stands in $form $view"
+            is_clean "$room/err" "" || fail "character $number stands in what $form $view says"
+        done
+    done
+    "$orgq" --at "2024-02-28 10:30" -f "$number.org" -f "n${of}n.org" ical > "$room/out" 2> "$room/err"
+    [ $? -eq "$left" ] && [ -s "$room/out" ] || fail "character $number, ical: $(cat "$room/err")"
+    LC_ALL=C sed 's/\r$//' "$room/out" > "$room/lines"
+    is_clean "$room/lines" "" "$marks" || fail "character $number stands in ical"
+    "$orgq" --at "2024-02-28 10:30" -f "$number.org" -f "n${of}n.org" page > "$room/out" 2> "$room/err"
+    [ $? -eq "$left" ] && [ -s "$room/out" ] || fail "character $number, page: $(cat "$room/err")"
+    tr -d '\t' < "$room/out" > "$room/lines"
+    is_clean "$room/lines" "" || fail "character $number stands in a page"
+    printf '* K%s k :v%s:\n\nDEADLINE: <2024-02-30%s>\n=<2024-02-31 %s>=\n' "$of" "$of" "$of" "$of" > "found$number.org"
+    for form in "" --json --color=always; do
+        # shellcheck disable=SC2086
+        "$orgq" --at "2024-02-28 10:30" $form check --all "$number.org" "found$number.org" "n${of}n.org" > "$room/out" 2> "$room/err"
+        [ $? -eq "$found" ] && [ -s "$room/out" ] || fail "character $number, check $form: $(cat "$room/err")"
+        is_clean "$room/out" "" || fail "character $number stands in what check $form finds"
+        is_clean "$room/err" "" || fail "character $number stands in what check $form says"
+    done
+    for words in "match -- a${of}(" "clock x${of}" "agenda x${of}" "agenda --tag x${of}" "agenda --match x${of}(" "next --since x${of}" "clock --from x${of}" "--color x${of}" "--at x${of}" "-d x${of}" "x${of}" "--x${of}" "--profile x${of}" "clock --step x${of}" "check --only x${of}" "check --severity x${of}"; do
+        # shellcheck disable=SC2086
+        (IFS=' '; "$orgq" --at "2024-02-28 10:30" -f 1.org $words) > "$room/out" 2> "$room/err"
+        [ $? -eq 2 ] && [ -s "$room/err" ] && is_clean "$room/err" "" || fail "character $number in the arguments $words"
+    done
 done
-[ "$count" -eq 63 ] && passed=$((passed + 1)) || fail "$count control characters, not 63"
-echo "orgq: $count control characters in categories, titles, tags, keywords, properties, names and arguments"
+[ "$count" -eq 75 ] && passed=$((passed + 1)) || fail "$count control characters and marks, not 75"
+echo "orgq: $count control characters and marks in categories, titles, tags, keywords, properties, names and arguments"
 cd "$here/orgq/files" || exit 2
 
 # Each growth of memory of a call refused once: the answer is given all the same, or nothing of it with status 4: WORD..

@@ -1,10 +1,10 @@
 -- What is put after clean lines.
 use Rattle.std.proofs.Common.{◌≡◌, ◌∙◌, ℕ, ◌+◌, ◌^◌, ◌<◌, Bool, true, false, cond, ◌⊎◌, inl, inr, List, [], ◌∷◌, ◌++◌, refl, sym, ap, subst, arith, append_assoc, append-nil}
 use Rattle.std.specs.Prelude.{decimal}
-use Rattle.org_client.specs.Clean.{IsClean}
-use Rattle.org_client.specs.Visible.{visible}
-use Rattle.org_client.specs.declared.visible.Escape.TheVariants.{Caret}
-use Rattle.org_client.proofs.CleanLemmas.{clean_append, clean_byte, clean_front, visible_is_clean}
+use Rattle.org_visible.specs.Clean.{IsClean}
+use Rattle.org_visible.specs.Visible.{visible}
+use Rattle.org_visible.specs.declared.visible.Escape.TheVariants.{Caret}
+use Rattle.org_visible.proofs.CleanLemmas.{clean_append, clean_byte, clean_front, visible_is_clean}
 use Rattle.org_client.proofs.JsonLemmas.{decimal_clean}
 use Rattle.org_answer.specs.Shown.{AddsClean, AreCleanLines, no_line, one_more, IsCleanLine, IsColor, color, color_of, number_text, shown_line, shown_text}
 use Rattle.org_answer.specs.declared.show.PrintOptions.{PrintOptions}

@@ -2,9 +2,9 @@
 use Rattle.std.specs.Prelude.{◌≡◌, ℕ, Bool, true, false, not, ◌&&◌, if◌then◌else◌, Option, is_none, List, [], ◌∷◌, ◌++◌, codes, decimal, length, ◌==◌, ◌⊎◌, Result, OnOk, Vec}
 use Rattle.org_agenda.specs.declared.row.RowKind.{RowKind}
 use Rattle.org_agenda.specs.declared.row.RowKind.TheVariants.{LateSchedule, LateDeadline, OnDeadline, Warning}
-use Rattle.org_client.specs.Clean.{IsClean}
-use Rattle.org_client.specs.Visible.{visible}
-use Rattle.org_client.specs.declared.visible.Escape.TheVariants.{Caret}
+use Rattle.org_visible.specs.Clean.{IsClean}
+use Rattle.org_visible.specs.Visible.{visible}
+use Rattle.org_visible.specs.declared.visible.Escape.TheVariants.{Caret}
 use Rattle.org_answer.specs.declared.show.Form.{Form}
 use Rattle.org_answer.specs.declared.show.Form.TheVariants.{Plain, Places, Json, Csv, Template}
 use Rattle.org_answer.specs.declared.show.PrintOptions.{PrintOptions}

@@ -8,6 +8,7 @@ use org_cal::push_time;
 use org_client::KeptHeadings;
 use org_inherit::{Heading, Inherits};
 use org_look::{Entry, Signs, Stand, Tone};
+use org_visible::is_mark;
 use std::alloc::{AllocError, Global};
 
 /// How rows are said: with their times and keywords or without, by which signs, and of how many rows of a day at most.
@@ -164,7 +165,8 @@ fn push_word(label: &mut String, word: Option<&[u8]>) -> Result<(), AllocError> 
     Ok(())
 }
 
-/// Appends a text of a file in words with one space between; a control character stands as U+FFFD.
+/// Appends a text of a file in words with one space between; a control character, and a mark that turns or hides text, stands
+/// as U+FFFD.
 pub(crate) fn push_shown(label: &mut String, bytes: &[u8]) -> Result<(), AllocError> {
     let text = str::from_utf8(bytes).unwrap_or("");
     for (place, word) in text.split_ascii_whitespace().enumerate() {
@@ -172,7 +174,8 @@ pub(crate) fn push_shown(label: &mut String, bytes: &[u8]) -> Result<(), AllocEr
             label.push(' ')?;
         }
         for c in word.chars() {
-            label.push(if c.is_control() { '\u{fffd}' } else { c })?;
+            let is_left_out = c.is_control() || is_mark(c);
+            label.push(if is_left_out { '\u{fffd}' } else { c })?;
         }
     }
     Ok(())

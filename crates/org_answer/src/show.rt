@@ -8,13 +8,13 @@ use org_agenda::RowKind;
 use org_base::Fault;
 use org_cal::Day;
 use org_client::{
-    Escape, LoadReport, OneLine, ShownSum, Template, ViewRow, csv_line, day_line, json_line,
-    push_visible, template_line,
+    LoadReport, OneLine, ShownSum, Template, ViewRow, csv_line, day_line, json_line, template_line,
 };
 use org_clocktable::Of;
 use org_inherit::Inherits;
 use org_layout::Line;
 use org_text::Text;
+use org_visible::{Escape, push_visible};
 use std::alloc::{AllocError, Global};
 
 /// In which form rows are printed.
@@ -170,7 +170,7 @@ fn push_text(
     Ok(())
 }
 
-/// Appends a text; its control characters so that they can be seen, if that is wanted.
+/// Appends a text; its control characters, and marks that turn or hide text, so that they can be seen, if that is wanted.
 pub fn push_seen(out: &mut Vec<u8>, text: &str, is_seen: bool) -> Result<(), AllocError>
     ensures value { Adds result out.old out.new (shown_text is_seen text.now) }
 {

@@ -7,10 +7,11 @@ ghost use Rattle.org_client.specs.Files.{scopes_of};
 use crate::once_words::OnceWords;
 use crate::show::Form;
 use org_base::{Fault, Texts};
-use org_client::{Escape, FileSet, OneLine, push_visible};
+use org_client::{FileSet, OneLine};
 use org_inherit::{Heading, Inherit, Inherits};
 use org_settings::Settings;
 use org_text::Whole;
+use org_visible::{Escape, push_visible};
 use std::alloc::{AllocError, Global};
 
 /// Which words of files are listed.

@@ -1,7 +1,7 @@
 //! Lines that are put together.
-ghost use Rattle.std.specs.Prelude.{◌<◌};
 
 use crate::clean::CleanLine;
+use org_visible::{Escape, push_visible};
 use std::alloc::{AllocError, Global};
 
 // Bytes of a line in which control characters may still stand.
@@ -45,49 +45,10 @@ impl Draft {
         self.push(digits.as_bytes())
     }
 
-    // Puts a text at the end as a string of JSON, in which each control character stands by its number.
+    // Puts a text at the end as a string of JSON.
     pub(crate) fn push_quoted(&mut self, text: &[u8]) -> Result<(), AllocError> {
         self.push(b"\"")?;
-        let mut before = 0;
-        for byte in text {
-            self.push_escaped(before, *byte)?;
-            before = *byte;
-        }
+        push_visible(&mut self.bytes, text, Escape::Json)?;
         self.push(b"\"")
-    }
-
-    // Puts a byte after another at the end. The first byte of a control character of two bytes, which stands there already
-    // when the second comes, is taken back.
-    fn push_escaped(&mut self, before: u8, byte: u8) -> Result<(), AllocError> {
-        if before == 0xC2 && byte >= 0x80 && byte <= 0x9F {
-            self.bytes.pop();
-            return self.push_control(byte);
-        }
-        if byte < 32 || byte == 127 {
-            return self.push_control(byte);
-        }
-        if byte == b'"' || byte == b'\\' {
-            self.bytes.push(b'\\')?;
-        }
-        self.bytes.push(byte)?;
-        Ok(())
-    }
-
-    // Puts the control character of this number.
-    fn push_control(&mut self, number: u8) -> Result<(), AllocError> {
-        self.push(b"\\u00")?;
-        self.bytes.push(hex(number / 16))?;
-        self.bytes.push(hex(number % 16))?;
-        Ok(())
-    }
-}
-
-fn hex(digit: u8) -> u8
-    requires below { digit < 16 }
-{
-    if digit < 10 {
-        b'0' + digit
-    } else {
-        b'a' + (digit - 10)
     }
 }

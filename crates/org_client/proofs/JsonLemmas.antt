@@ -4,11 +4,11 @@ use Rattle.std.specs.Prelude.{codes, decimal}
 use Rattle.std.specs.Str.Parse.{AllDigits}
 use Rattle.std.proofs.lemmas.Fmt.{decimal_is_IsNumeral}
 use Rattle.std.proofs.lemmas.Str.Parse.{digit_from_value}
-use Rattle.org_client.specs.Clean.{IsClean}
+use Rattle.org_visible.specs.Clean.{IsClean}
 use Rattle.org_client.specs.Json.{begins_quoted, field_text, quoted}
-use Rattle.org_client.specs.Visible.{visible}
-use Rattle.org_client.specs.declared.visible.Escape.TheVariants.{Json, Field}
-use Rattle.org_client.proofs.CleanLemmas.{clean_append, clean_byte, clean_front, visible_is_clean}
+use Rattle.org_visible.specs.Visible.{visible}
+use Rattle.org_visible.specs.declared.visible.Escape.TheVariants.{Json, Field}
+use Rattle.org_visible.proofs.CleanLemmas.{clean_append, clean_byte, clean_front, visible_is_clean}
 
 pub quoted_clean : (text : List ℕ) → IsClean (quoted text)
 quoted_clean text =

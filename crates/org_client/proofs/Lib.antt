@@ -1,6 +1,5 @@
 pub mod AbsentLemmas
 pub mod BarLemmas
-pub mod CleanLemmas
 pub mod ClockLemmas
 pub mod FileLemmas
 pub mod FirstLemmas
@@ -17,5 +16,3 @@ pub mod PutLemmas
 pub mod ReminderLemmas
 pub mod StampLemmas
 pub mod StandLemmas
-pub mod StringLemmas
-pub mod VisibleLemmas

@@ -17,3 +17,11 @@ pub puts_three : {T E : Type 0} (result : Result T E) (old mid end new : Members
 puts_three result old mid end new some others last first second third =
     subst (λ (bytes : List ℕ). Puts result old new bytes) (sym (append_assoc some (others old.only) (last old.only)))
     (puts_after result old mid new some (λ only. others only ++ last only) first (puts_after result mid end new (others mid.only) last second third))
+
+-- the same of what was put by both
+pub puts_both : (old mid new : MembersView) (some : List ℕ) (others : Option (List ℕ) → List ℕ) →
+    mid ≡ record { only = old.only; bytes = old.bytes ++ some } → new ≡ record { only = mid.only; bytes = mid.bytes ++ others mid.only } →
+    new ≡ record { only = old.only; bytes = old.bytes ++ (some ++ others old.only) }
+puts_both old mid new some others first second =
+    subst (λ (bytes : List ℕ). new ≡ record { only = old.only; bytes = bytes }) (append_assoc old.bytes some (others old.only))
+    (subst (λ (m : MembersView). new ≡ record { only = m.only; bytes = m.bytes ++ others m.only }) first second)

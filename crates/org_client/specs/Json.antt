@@ -1,7 +1,7 @@
 -- JSON in one line, and fields between commas (RFC 8259, "Strings"; Org manual 9.6, "Extracting Agenda Information").
 use Rattle.std.specs.Prelude.{ℕ, ◌==◌, Bool, false, if◌then◌else◌, List, [], ◌∷◌, ◌++◌, codes, decimal, drop, map, nat_lt}
-use Rattle.org_client.specs.Visible.{visible}
-use Rattle.org_client.specs.declared.visible.Escape.TheVariants.{Caret, Field, Json}
+use Rattle.org_visible.specs.Visible.{visible}
+use Rattle.org_visible.specs.declared.visible.Escape.TheVariants.{Caret, Field, Json}
 
 -- a text as a string
 abbrev pub quoted : List ℕ → List ℕ

@@ -1,16 +1,12 @@
--- Laws of what comes next, and of what is shown.
+-- Laws of what comes next.
 use Rattle.std.specs.Prelude.{◌≡◌, ◌<◌, ◌≤◌, ℕ, ◌+◌, ◌*◌, false, true, List, Some, slice_get}
 use Rattle.std.specs.List.{All, list_any}
 use Rattle.org_agenda.specs.Days.{AgendaView, day_rows}
 use Rattle.org_agenda.specs.declared.row.Row.{Row}
 use Rattle.org_cal.specs.declared.moment.Moment.{Moment}
 use Rattle.org_cal.specs.declared.time_of_day.TheConstants.{MINUTES_PER_DAY}
-use Rattle.org_client.specs.Clean.{IsClean}
 use Rattle.org_client.specs.Next.{is_ahead, is_of, is_of_row, next_rows}
-use Rattle.org_client.specs.Visible.{visible}
 use Rattle.org_client.specs.declared.next.Upcoming.{Upcoming}
-use Rattle.org_client.specs.declared.visible.Escape.{Escape}
-use Rattle.org_client.specs.declared.visible.Escape.TheVariants.{Caret}
 
 -- a row of a day lies on the moment's day or after it, and its start, if it has one, at the moment or after it
 pub record LiesAhead (now : Moment) (upcoming : Upcoming) : Type 0 where
@@ -44,11 +40,3 @@ abbrev pub NextIsFirst : Type 0
 NextIsFirst = (now : Moment) (agenda : AgendaView) (a k i : ℕ) (row : Row) (u : Upcoming) → a < agenda.count →
     slice_get (day_rows agenda.profile agenda.sources agenda.today (agenda.first + a)) k ≡ Some row → is_ahead now (agenda.first + a) row ≡ true →
     slice_get (next_rows now agenda) i ≡ Some u → is_of row u ≡ true → u.day ≤ agenda.first + a
-
--- what is shown of a text has no control character
-abbrev pub VisibleIsClean : Type 0
-VisibleIsClean = (escape : Escape) (text : List ℕ) → IsClean (visible escape text)
-
--- a text that has none is shown as it is
-abbrev pub CleanStands : Type 0
-CleanStands = (text : List ℕ) → IsClean text → visible Caret text ≡ text

@@ -1,6 +1,5 @@
 pub mod BarLaws
 pub mod Bars
-pub mod Clean
 pub mod ClockLaws
 pub mod ClockTexts
 pub mod Clocks
@@ -11,8 +10,6 @@ pub mod HeadingMembers
 pub mod Headings
 pub mod KeptHeadings
 pub mod Json
-pub mod JsonLaws
-pub mod JsonReading
 pub mod Laws
 pub mod LinePlaces
 pub mod Matching
@@ -28,5 +25,4 @@ pub mod RowMembers
 pub mod TableFields
 pub mod TitleWords
 pub mod ViewRows
-pub mod Visible
 pub mod Components

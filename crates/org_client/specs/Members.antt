@@ -2,8 +2,8 @@
 use Rattle.std.specs.Prelude.{◌≡◌, ℕ, Bool, false, if◌then◌else◌, List, [], ◌∷◌, ◌++◌, Option, None, Some, Result, OnOk, bytes_eq, codes, decimal}
 use Rattle.org_cal.specs.Texts.{date_text, time_text}
 use Rattle.org_client.specs.Json.{flag_member, flag_text, joined, number_member, text_member, texts_member}
-use Rattle.org_client.specs.Visible.{visible}
-use Rattle.org_client.specs.declared.visible.Escape.TheVariants.{Caret}
+use Rattle.org_visible.specs.Visible.{visible}
+use Rattle.org_visible.specs.declared.visible.Escape.TheVariants.{Caret}
 
 -- what is written: of an object, or of the member that alone is asked for
 pub record MembersView : Type 0 where

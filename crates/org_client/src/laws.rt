@@ -2,8 +2,7 @@
 ghost use Rattle.org_client.specs.BarLaws.{BarsFollowSums, LengthsAreNearest, NothingHasNoBar, PartsAddUp};
 ghost use Rattle.org_client.specs.ClockLaws.{ClocksMakeTheTotal};
 ghost use Rattle.org_client.specs.Examples.{ExamplesHold};
-ghost use Rattle.org_client.specs.JsonLaws.{StringsReadBack};
-ghost use Rattle.org_client.specs.Laws.{AgendasShowNext, CleanStands, NextIsFirst, NextLiesAhead, NoStampIsMissed, StampsComeOnce, VisibleIsClean};
+ghost use Rattle.org_client.specs.Laws.{AgendasShowNext, NextIsFirst, NextLiesAhead, NoStampIsMissed, StampsComeOnce};
 ghost use Rattle.org_client.specs.MatchingLaws.{DaysAreFiltered, MatchingMeetsAll, NextIsFiltered};
 ghost use Rattle.org_client.specs.ReminderLaws.{RemindersJoin};
 
@@ -60,23 +59,6 @@ pub fn next_is_filtered()
 #[tactic(auto, using(crate::proofs::ReminderLemmas::reminders_join))]
 pub fn reminders_join()
     ensures { RemindersJoin }
-{}
-
-/// What is shown of a text has no control character.
-#[tactic(auto, using(crate::proofs::CleanLemmas::visible_is_clean))]
-pub fn visible_is_clean()
-    ensures { VisibleIsClean }
-{}
-
-/// A text without control characters is shown to a person as it is.
-#[tactic(auto, using(crate::proofs::CleanLemmas::clean_stands))]
-pub fn clean_stands()
-    ensures { CleanStands }
-{}
-
-/// What is written of a text in a string of JSON is read as that text.
-pub fn strings_read_back()
-    ensures { StringsReadBack }
 {}
 
 /// Of each control character of one byte and of two: how JSON, a person and a field have it.

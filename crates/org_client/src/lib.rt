@@ -5,8 +5,8 @@
 //!
 //! An entry's place in an outline is its section's place in the text, so a row's heading is found by two descents of
 //! the sequence of sections. What comes next is taken from an agenda, day by day: each row that isn't before the
-//! moment, if none of its stamp came yet. Control characters are written in one place, `push_visible`, as JSON, a
-//! person or a field has them.
+//! moment, if none of its stamp came yet. A line holds no control character and no mark that turns or hides text: `OneLine`
+//! writes all texts by `push_visible` of `org_visible`.
 //!
 //! ```
 //! let inherits = file_set.inherits()?;
@@ -41,7 +41,6 @@ mod row_members;
 mod rows;
 mod template;
 mod titles;
-mod visible;
 mod when;
 
 pub use bars::{bar_eighths, hundredths, part_lengths};
@@ -60,5 +59,4 @@ pub use read_file::ReadFile;
 pub use reminders::{Window, rows_between};
 pub use rows::{LoadReport, ShownClock, ShownSum, ViewRow};
 pub use template::{MEMBERS, Template, template_line};
-pub use visible::{Escape, push_visible};
 pub use when::{date_of, time_of};

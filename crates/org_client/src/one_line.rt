@@ -1,12 +1,12 @@
 //! Bytes of one line.
 ghost use Rattle.std.specs.Prelude.{◌≡◌, ◌<◌, ◌≤◌, [], ◌∷◌, ◌++◌, decimal, map, IfOk, OnOk};
 ghost use Rattle.org_base.specs.Results.{GivesItems};
-ghost use Rattle.org_client.specs.Clean.{IsClean};
+ghost use Rattle.org_visible.specs.Clean.{IsClean};
 ghost use Rattle.org_client.specs.Json.{begins_quoted, field_text, flag_member, flag_text, items_with, joined, named, number_member, object_of, pair_text, quoted, separator, text_member, texts_member};
-ghost use Rattle.org_client.specs.Visible.{visible};
+ghost use Rattle.org_visible.specs.Visible.{visible};
 
-use crate::visible::{Escape, push_visible};
 use org_base::Texts;
+use org_visible::{Escape, push_visible};
 use std::alloc::{AllocError, Global};
 use std::marker::Model;
 
@@ -19,7 +19,7 @@ pub struct OneLine {
 
 impl Model for OneLine {
     ghost use Rattle.std.specs.Prelude.{ℕ, List};
-    ghost use Rattle.org_client.specs.Clean.{IsClean};
+    ghost use Rattle.org_visible.specs.Clean.{IsClean};
 
     ghost Value = { List ℕ };
 
@@ -48,7 +48,7 @@ impl OneLine {
     }
 
     /// Appends a byte of ASCII that prints.
-    #[tactic(auto, using(crate::proofs::CleanLemmas::clean_byte, crate::proofs::CleanLemmas::clean_append))]
+    #[tactic(auto, using(org_visible::proofs::CleanLemmas::clean_byte, org_visible::proofs::CleanLemmas::clean_append))]
     pub fn push(&mut self, byte: u8) -> Result<(), AllocError>
         requires low { 32 ≤ byte }
         requires high { byte < 127 }
@@ -59,7 +59,7 @@ impl OneLine {
     }
 
     // Appends bytes without control characters. Where memory is refused the line is as before.
-    #[tactic(auto, using(crate::proofs::CleanLemmas::clean_append))]
+    #[tactic(auto, using(org_visible::proofs::CleanLemmas::clean_append))]
     fn push_all(&mut self, bytes: &[u8]) -> Result<(), AllocError>
         requires { IsClean bytes.now }
         ensures ok { OnOk result (self.new ≡ self.old ++ bytes.now) }

@@ -11,13 +11,13 @@ use Rattle.org_page.specs.Pieces.{attribute_text, page_text, piece_text, tag_tex
 use Rattle.org_page.specs.declared.piece.Attribute.{Attribute}
 use Rattle.org_page.specs.declared.piece.Piece.{Piece}
 use Rattle.org_page.specs.declared.piece.Piece.TheVariants.{Tag, Content, Titled}
-use Rattle.org_page.specs.Characters.{is_control, is_set_aside, part_text, char_text, words_char, shown_char, name_char, is_name_char}
+use Rattle.org_page.specs.Characters.{is_left_out, part_text, char_text, words_char, shown_char, name_char, is_name_char}
 use Rattle.org_page.specs.Reader.{Mode, Outside, Inside, Value, Letter, Said, Marked, Valued, read, read_from, letter_of, next_mode, begins_name, marks, values, words}
 use Rattle.org_page.specs.declared.character.Part.TheVariants.{Name, Words}
 
 -- what is shown of a character that means nothing means nothing
 shown_ne : (c k : ℕ) → k < 65533 → c ≢ k → shown_char c ≢ k
-shown_ne c k small ne = cond_both (is_control c || is_set_aside c) 65533 c (λ x. x ≢ k) (λ _ e. omega arith) (λ _. ne)
+shown_ne c k small ne = cond_both (is_left_out c) 65533 c (λ x. x ≢ k) (λ _ e. omega arith) (λ _. ne)
 
 -- such a character is read as it is, in words and in a value
 plain_said : (c : ℕ) (rest : List ℕ) → c ≢ 38 → c ≢ 60 → read_from Outside None (c ∷ rest) ≡ Said c ∷ read_from Outside None rest

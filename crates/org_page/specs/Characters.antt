@@ -1,6 +1,7 @@
 -- How characters stand in a page.
 use Rattle.std.specs.Prelude.{ℕ, ◌%◌, Bool, ◌&&◌, ◌||◌, ◌==◌, not, nat_lt, nat_le, if◌then◌else◌, List, [], ◌∷◌, codes}
 use Rattle.std.specs.List.{flat_map}
+use Rattle.org_visible.specs.Unseen.{is_mark}
 use Rattle.org_page.specs.declared.character.Part.{Part}
 use Rattle.org_page.specs.declared.character.Part.TheVariants.{Name, Words}
 
@@ -12,9 +13,12 @@ is_control c = nat_lt c 9 || (nat_le 11 c && nat_lt c 32) || (nat_le 127 c && na
 abbrev pub is_set_aside : ℕ → Bool
 is_set_aside c = (nat_le 64976 c && nat_lt c 65008) || nat_le 65534 (c % 65536)
 
--- what is no character of a page stands as U+FFFD
+-- what is no character of a page stands as U+FFFD, and so do marks that turn or hide what stands beside them
+abbrev pub is_left_out : ℕ → Bool
+is_left_out c = is_control c || (is_set_aside c || is_mark c)
+
 abbrev pub shown_char : ℕ → ℕ
-shown_char c = if is_control c || is_set_aside c then 65533 else c
+shown_char c = if is_left_out c then 65533 else c
 
 -- the five that mean something in a page stand by their names
 abbrev pub words_char : ℕ → List ℕ

@@ -2,7 +2,7 @@
 use Rattle.std.specs.Prelude.{◌≡◌, ◌≢◌, ℕ, ◌++◌, false, Bool, List, [], ◌∷◌, All, chars, map}
 use Rattle.std.specs.List.{flat_map}
 use Rattle.std.specs.String.{string_bytes}
-use Rattle.org_page.specs.Characters.{is_control, is_set_aside, part_text, shown_char}
+use Rattle.org_page.specs.Characters.{is_left_out, part_text, shown_char}
 use Rattle.org_page.specs.Pieces.{page_text, title_begin, title_end, title_middle, title_text}
 use Rattle.org_page.specs.Reader.{Letter, Said, Marked, Valued, marks, read, values, words}
 use Rattle.org_page.specs.declared.character.Part.TheVariants.{Name, Words}
@@ -63,4 +63,4 @@ TextsAreHarmless = (text : List ℕ) → All IsHarmless (part_text Words text)
 
 -- what is a character of a page is shown as it is
 abbrev pub CharactersStand : Type 0
-CharactersStand = (c : ℕ) → is_control c ≡ false → is_set_aside c ≡ false → shown_char c ≡ c
+CharactersStand = (c : ℕ) → is_left_out c ≡ false → shown_char c ≡ c

@@ -1,8 +1,9 @@
 //! Characters as they stand in a page.
 ghost use Rattle.std.specs.Prelude.{◌≡◌, chars, encode_utf8_all};
-ghost use Rattle.org_page.specs.Characters.{char_text, is_control, is_name_char, is_set_aside, part_text, words_char};
+ghost use Rattle.org_page.specs.Characters.{char_text, is_control, is_left_out, is_name_char, is_set_aside, part_text, words_char};
 ghost use Rattle.org_page.specs.Results.{Writes};
 
+use org_visible::is_mark;
 use std::alloc::AllocError;
 
 /// What a text is in a page: the name of a tag or an attribute, or words and values.
@@ -71,12 +72,15 @@ fn push_words_char(out: &mut String, c: char) -> Result<(), AllocError>
     if c == '\'' {
         return out.push_str("&#x27;");
     }
-    let shown = if is_control(c) || is_set_aside(c) {
-        '\u{fffd}'
-    } else {
-        c
-    };
+    let shown = if is_left_out(c) { '\u{fffd}' } else { c };
     out.push(shown)
+}
+
+// Whether a character stands as U+FFFD.
+fn is_left_out(c: char) -> bool
+    ensures { result ≡ is_left_out c }
+{
+    is_control(c) || is_set_aside(c) || is_mark(c)
 }
 
 // Whether a character is a control character other than a tab and a line feed.

@@ -3,7 +3,7 @@
 use crate::counted::names_file;
 use clap::ArgMatches;
 use org_answer::Form;
-use org_client::{Escape, push_visible};
+use org_visible::{Escape, push_visible};
 use orgq_args::{named_form, without_rows};
 use orgq_files::{Choice, Config, NamedChoices, listed_word, path_of, read_list};
 use orgq_messages::{Problem, Variable, print_all, status_of, value_of};

@@ -1,10 +1,10 @@
 //! What standard error says: lines without control characters.
 ghost use Rattle.std.specs.Prelude.{◌≡◌, string_bytes, IfSome};
-ghost use Rattle.org_client.specs.Clean.{IsClean};
-ghost use Rattle.org_client.specs.Visible.{visible};
+ghost use Rattle.org_visible.specs.Clean.{IsClean};
+ghost use Rattle.org_visible.specs.Visible.{visible};
 
 use crate::exit::STOPPED;
-use org_client::{Escape, push_visible};
+use org_visible::{Escape, push_visible};
 use std::alloc::Global;
 
 /// Says a line after the program's name.
@@ -43,7 +43,7 @@ fn say_line<R: Eprint + AllocGlobal>(rt: &R, line: &str) {
 }
 
 /// A text without control characters; none where memory is refused.
-#[tactic(auto, using(org_client::proofs::CleanLemmas::visible_is_clean))]
+#[tactic(auto, using(org_visible::proofs::CleanLemmas::visible_is_clean))]
 pub fn visible_text(alloc: Global, text: &str) -> Option<String>
     ensures value { IfSome result (λ seen. string_bytes seen ≡ visible Escape.Caret text.now) }
     ensures clean { IfSome result (λ seen. IsClean (string_bytes seen)) }

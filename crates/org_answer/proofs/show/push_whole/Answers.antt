@@ -1,6 +1,6 @@
 -- A line without control characters and its feed stand after clean lines.
 use Rattle.std.proofs.Common.{◌≡◌, ◌++◌, ◌∷◌, ◌∙◌, [], List, ℕ, ap, append_assoc, rules, subst}
-use Rattle.org_client.specs.Clean.{IsClean}
+use Rattle.org_visible.specs.Clean.{IsClean}
 use Rattle.org_answer.proofs.ShownLemmas.{keeps_row}
 use Rattle.org_answer.proofs.show.push_whole.Goals as goal
 

@@ -22,5 +22,4 @@ returns c = record {
   one_minute = refl;
   two_marks = refl;
   comment = refl;
-  shown = refl;
 }

@@ -1,5 +1,5 @@
 use Rattle.std.proofs.Common.{◌≡◌, rules, subst, sym}
-use Rattle.org_client.specs.Clean.{IsClean}
+use Rattle.org_visible.specs.Clean.{IsClean}
 use Rattle.org_client.specs.Json.{quoted}
 use Rattle.org_client.proofs.JsonLemmas.{quoted_clean}
 use Rattle.org_client.proofs.one_line.quote.Goals as goal

@@ -1,5 +1,5 @@
 use Rattle.std.proofs.Common.{◌∙◌, subst, sym}
-use Rattle.org_client.specs.Clean.{IsClean}
+use Rattle.org_visible.specs.Clean.{IsClean}
 use Rattle.org_client.proofs.JsonLemmas.{field_clean}
 use Rattle.org_client.proofs.one_line.OneLine.field.Goals as goal
 

@@ -1,5 +1,5 @@
-use Rattle.org_client.specs.Visible.{visible}
-use Rattle.org_client.specs.declared.visible.Escape.TheVariants.{Caret}
+use Rattle.org_visible.specs.Visible.{visible}
+use Rattle.org_visible.specs.declared.visible.Escape.TheVariants.{Caret}
 use Rattle.org_client.proofs.ItemLemmas.{put_more}
 use Rattle.org_client.proofs.one_line.OneLine.push_joined.Goals as goal
 

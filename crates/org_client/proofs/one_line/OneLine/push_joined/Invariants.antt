@@ -1,8 +1,8 @@
 -- The texts so far are written.
 use Rattle.std.proofs.Common.{◌≡◌, ◌++◌, map, take}
 use Rattle.org_client.specs.Json.{items_with}
-use Rattle.org_client.specs.Visible.{visible}
-use Rattle.org_client.specs.declared.visible.Escape.TheVariants.{Caret}
+use Rattle.org_visible.specs.Visible.{visible}
+use Rattle.org_visible.specs.declared.visible.Escape.TheVariants.{Caret}
 use Rattle.org_client.proofs.one_line.OneLine.push_joined.Given as goal
 
 abbrev pub invariant-loop-place : goal.invariant-loop-place

@@ -1,5 +1,5 @@
 use Rattle.std.proofs.Common.{◌∙◌, arith, subst, sym}
-use Rattle.org_client.specs.Clean.{IsClean}
+use Rattle.org_visible.specs.Clean.{IsClean}
 use Rattle.org_client.proofs.JsonLemmas.{decimal_clean}
 use Rattle.org_client.proofs.one_line.OneLine.push_number.Goals as goal
 

@@ -1,7 +1,7 @@
 use Rattle.std.proofs.Common.{◌∙◌, subst, sym}
-use Rattle.org_client.specs.Clean.{IsClean}
-use Rattle.org_client.specs.declared.visible.Escape.TheVariants.{Caret}
-use Rattle.org_client.proofs.CleanLemmas.{visible_is_clean}
+use Rattle.org_visible.specs.Clean.{IsClean}
+use Rattle.org_visible.specs.declared.visible.Escape.TheVariants.{Caret}
+use Rattle.org_visible.proofs.CleanLemmas.{visible_is_clean}
 use Rattle.org_client.proofs.one_line.OneLine.push_seen.Goals as goal
 
 pub push_all-requires : goal.push_all-requires

@@ -1,0 +1,4 @@
+pub mod CleanLemmas
+pub mod StandLemmas
+pub mod StringLemmas
+pub mod VisibleLemmas

@@ -1,0 +1,1 @@
+printf '* TODO a\342\200\256b\n' > a.org
