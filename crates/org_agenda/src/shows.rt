@@ -92,7 +92,7 @@ fn number_or_none(day: Option<Day>) -> u32
 }
 
 // Whether the stamp, if its role has rows of that kind, gives one on the day.
-pub(crate) fn is_shown(kind: RowKind, source: &HeadingStamp, as_of: &AsOf, day: Day) -> bool
+fn is_shown(kind: RowKind, source: &HeadingStamp, as_of: &AsOf, day: Day) -> bool
     ensures { result ≡ is_shown as_of.now.profile kind source.now as_of.now.today day }
 {
     let stamp = &source.stamp;
@@ -124,7 +124,7 @@ fn comes_near(due: u32, delay: Option<Delay>, today: Day) -> bool
     due <= today.number() + delay_or(WARNING_DAYS, delay) && today.number() < due
 }
 
-pub(crate) fn times_of(
+fn times_of(
     kind: RowKind,
     stamp: &Stamp,
     profile: Profile,

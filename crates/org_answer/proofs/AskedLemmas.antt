@@ -1,5 +1,5 @@
 -- What is read and shown is an answer.
-use Rattle.std.proofs.Common.{ℕ, false, List}
+use Rattle.std.proofs.Common.{ℕ, List}
 use Rattle.std.specs.Prelude.{Result, Ok, Err, chars}
 use Rattle.org_agenda.specs.Lists.{Matching}
 use Rattle.org_base.specs.declared.fault.Fault.{Fault}
@@ -18,6 +18,6 @@ listed (Ok answer) scopes text now expression reads shows = (expression, reads, 
 listed (Err fault) scopes text now expression reads shows = tt
 
 pub tabled : (result : Result Answer Fault) (scopes : List Scope) (options : List ℕ) (days : ℕ × ℕ) (now : Moment) (table : TableRequest Expr) → AsksFor options now.day table →
-    ShowsTable result table scopes days now → AnswersTable false result scopes options days now
+    ShowsTable result table scopes days now → AnswersTable result scopes options days now
 tabled (Ok answer) scopes options days now table asks shows = (table, asks, shows)
 tabled (Err fault) scopes options days now table asks shows = tt

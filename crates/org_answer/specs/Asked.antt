@@ -1,7 +1,7 @@
 -- What answers a question (profile).
-use Rattle.std.specs.Prelude.{◌≡◌, ℕ, Bool, true, false, List, Option, None, Result, Ok, Err, IfOk, chars, map, string_bytes}
+use Rattle.std.specs.Prelude.{◌≡◌, ℕ, Bool, List, Option, Result, Ok, Err, IfOk, chars, string_bytes}
 use Rattle.std.specs.List.{list_any}
-use Rattle.org_agenda.specs.Lists.{Listing, Matching, list_rows, todo_listing}
+use Rattle.org_agenda.specs.Lists.{Matching, todo_listing}
 use Rattle.org_base.specs.Results.{Gives}
 use Rattle.org_base.specs.declared.fault.Fault.{Fault}
 use Rattle.org_cal.specs.Periods.{days_of}
@@ -11,8 +11,7 @@ use Rattle.org_client.specs.declared.reminders.Window.{Window}
 use Rattle.org_clocktable.specs.Request.{AsksFor, TableRequest}
 use Rattle.org_expression.specs.Grammar.{Expr, Reads}
 use Rattle.org_inherit.specs.Scope.{Scope}
-use Rattle.org_layout.specs.Shown.{lines_of, row_line}
-use Rattle.org_layout.specs.declared.shown.Line.{Line}
+use Rattle.org_layout.specs.Shown.{lines_of}
 use Rattle.org_answer.specs.Ahead.{ShowsNext, ShowsRows}
 use Rattle.org_answer.specs.Chosen.{ShowsDays, over_chosen}
 use Rattle.org_answer.specs.Limits.{is_row}
@@ -36,24 +35,22 @@ AnswersMatch (Err fault) scopes text now = Unit {0}
 AnswersMatch (Ok answer) scopes text now =
     (expression : Expr) × Reads (chars text) expression × ShowsListing {E = Fault} (Ok answer) scopes (Matching expression now)
 
--- the tables that options ask for, over days; of bars no more is said than that they are answered
-abbrev pub AnswersTable : Bool → Result Answer Fault → List Scope → List ℕ → ℕ × ℕ → Moment → Type 0
-AnswersTable true result scopes options days now = Unit {0}
-AnswersTable false (Err fault) scopes options days now = Unit {0}
-AnswersTable false (Ok answer) scopes options days now =
+-- the tables that options ask for, over days
+abbrev pub AnswersTable : Result Answer Fault → List Scope → List ℕ → ℕ × ℕ → Moment → Type 0
+AnswersTable (Err fault) scopes options days now = Unit {0}
+AnswersTable (Ok answer) scopes options days now =
     (table : TableRequest Expr) × AsksFor options now.day table × ShowsTable {E = Fault} (Ok answer) table scopes days now
 
 abbrev pub AnswersClock : Result Answer Fault → List Scope → ClockQuery → Moment → Type 0
-AnswersClock result scopes query now = AnswersTable query.is_chart result scopes (string_bytes query.options) (days_of query.period) now
+AnswersClock result scopes query now = AnswersTable result scopes (string_bytes query.options) (days_of query.period) now
 
 -- what comes next in so many days, or begins within a window, of the stamps that are chosen
-
 abbrev pub AnswersNext : Result Answer Fault → List Scope → Chosen → Days → Option ℕ → Type 0
-AnswersNext result scopes chosen days within = ShowsNext result scopes (over_chosen chosen scopes days.first days.count) chosen.moment within
+AnswersNext result scopes chosen days within = ShowsNext result (over_chosen chosen scopes days.first days.count) chosen.moment within
 
 abbrev pub AnswersSince : Result Answer Fault → List Scope → Chosen → Days → Window → Type 0
 AnswersSince result scopes chosen days window =
-    let agenda = over_chosen chosen scopes days.first days.count in ShowsRows result scopes agenda (rows_between window agenda)
+    let agenda = over_chosen chosen scopes days.first days.count in ShowsRows result agenda (rows_between window agenda)
 
 -- what a question asks for is what is shown, unless it is refused
 abbrev pub AnswersQuery : Result Answer Fault → List Scope → Question → Query → Type 0
@@ -71,34 +68,13 @@ AnswersQuery result scopes q (Since window days) = AnswersSince result scopes (c
 abbrev pub AnswersQuestion : Result Answer Fault → List Scope → Question → Type 0
 AnswersQuestion result scopes q = AnswersQuery result scopes q q.asked.now
 
--- whether lines have a row is told, unless it's refused
-abbrev pub TellsRow : {E : Type 0} → Result Bool E → List Line → Type 0
-TellsRow result lines = Gives result (list_any is_row lines)
-
--- the same of the agenda of days, and of a list of all files
+-- whether an agenda of days has a row is told, unless it's refused
 abbrev pub TellsDays : {E : Type 0} → Result Bool E → List Scope → Chosen → Days → Type 0
-TellsDays result scopes chosen days = TellsRow result (lines_of (over_chosen chosen scopes days.first days.count))
+TellsDays result scopes chosen days = Gives result (list_any is_row (lines_of (over_chosen chosen scopes days.first days.count)))
 
-abbrev pub TellsListing : {E : Type 0} → Result Bool E → List Scope → Listing → Type 0
-TellsListing result scopes listing = TellsRow result (map (row_line None) (list_rows listing scopes))
-
-abbrev pub TellsMatch : Result Bool Fault → List Scope → List ℕ → Moment → Type 0
-TellsMatch (Err fault) scopes text now = Unit {0}
-TellsMatch (Ok found) scopes text now =
-    (expression : Expr) × Reads (chars text) expression × TellsListing {E = Fault} (Ok found) scopes (Matching expression now)
-
--- and of an answer of which this is said
-abbrev pub TellsAnswer : Result Bool Fault → (Result Answer Fault → Type 0) → Type 0
-TellsAnswer result Said = IfOk result (λ found. (answer : Answer) × Said (Ok answer) × (found ≡ list_any is_row answer.lines.items))
-
-abbrev pub TellsClock : Result Bool Fault → List Scope → ClockQuery → Moment → Type 0
-TellsClock result scopes query now = TellsAnswer result (λ answer. AnswersClock answer scopes query now)
-
-abbrev pub TellsNext : Result Bool Fault → List Scope → Chosen → Days → Option ℕ → Type 0
-TellsNext result scopes chosen days within = TellsAnswer result (λ answer. AnswersNext answer scopes chosen days within)
-
-abbrev pub TellsSince : Result Bool Fault → List Scope → Chosen → Days → Window → Type 0
-TellsSince result scopes chosen days window = TellsAnswer result (λ answer. AnswersSince answer scopes chosen days window)
+-- and of the answer to a question
+abbrev pub TellsAnswer : Result Bool Fault → List Scope → Question → Type 0
+TellsAnswer result scopes q = IfOk result (λ found. (answer : Answer) × AnswersQuestion (Ok answer) scopes q × (found ≡ list_any is_row answer.lines.items))
 
 -- whether what answers a question has a row is told, unless it's refused
 abbrev pub TellsQuery : Result Bool Fault → List Scope → Question → Query → Type 0
@@ -106,11 +82,7 @@ TellsQuery result scopes q (Agenda days) = TellsDays result scopes (chosen_of q)
 TellsQuery result scopes q (Calendar calendar) = TellsDays result scopes (chosen_of q) calendar.days
 TellsQuery result scopes q (Hours days canvas) = TellsDays result scopes (chosen_of q) days
 TellsQuery result scopes q (Ical days) = TellsDays result scopes (chosen_of q) days
-TellsQuery result scopes q (Todo words) = TellsListing result scopes (todo_listing words)
-TellsQuery result scopes q (Match expression) = TellsMatch result scopes expression.now q.moment
-TellsQuery result scopes q (Clock query) = TellsClock result scopes query q.moment
-TellsQuery result scopes q (Next days within) = TellsNext result scopes (chosen_of q) days within
-TellsQuery result scopes q (Since window days) = TellsSince result scopes (chosen_of q) days window
+TellsQuery result scopes q _ = TellsAnswer result scopes q
 
 -- the same of the question itself
 abbrev pub TellsQuestion : Result Bool Fault → List Scope → Question → Type 0

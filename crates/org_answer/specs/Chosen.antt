@@ -19,4 +19,4 @@ over_chosen chosen scopes first count = agenda_of chosen.as_of.profile (chosen_s
 
 -- that agenda, shown
 abbrev pub ShowsDays : {E : Type 0} → Result Answer E → List Scope → Chosen → ℕ → ℕ → Type 0
-ShowsDays result scopes chosen first count = ShowsAgenda result scopes (over_chosen chosen scopes first count)
+ShowsDays result scopes chosen first count = ShowsAgenda result (over_chosen chosen scopes first count)

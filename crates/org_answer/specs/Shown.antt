@@ -6,8 +6,12 @@ use Rattle.org_visible.specs.Clean.{IsClean}
 use Rattle.org_visible.specs.Visible.{visible}
 use Rattle.org_visible.specs.declared.visible.Escape.TheVariants.{Caret}
 use Rattle.org_answer.specs.declared.show.Form.{Form}
+use Rattle.org_answer.specs.declared.show.LineOfAnswer.{LineOfAnswer}
 use Rattle.org_answer.specs.declared.show.Form.TheVariants.{Plain, Places, Json, Csv, Template}
 use Rattle.org_answer.specs.declared.show.PrintOptions.{PrintOptions}
+use Rattle.org_answer.specs.declared.view.Answer.{Answer}
+use Rattle.org_client.specs.Report.{ReportView}
+use Rattle.org_layout.specs.Shown.{lines_text}
 use Rattle.org_layout.specs.declared.shown.Line.{Line}
 use Rattle.org_layout.specs.declared.shown.Line.TheVariants.{Day, Step, Row, Table}
 
@@ -37,6 +41,10 @@ shown_text is_seen text = if is_seen then visible Caret text else text
 abbrev pub shown_line : List ℕ → Bool → List ℕ → List ℕ
 shown_line color is_seen text = color ++ shown_text is_seen text ++ (if length color == 0 then [] else 27 ∷ codes "[0m") ++ 10 ∷ []
 
+-- a line of an answer as it is printed
+abbrev pub line_in : PrintOptions → LineOfAnswer → List ℕ
+line_in look shown = shown_line (color look shown.is_due shown.line.now) look.is_seen shown.text.now
+
 -- the text of a view is printed as it stands: without colours, into a pipe, and whole
 abbrev pub is_bare_form : Form → Bool → Bool → Option ℕ → Bool
 is_bare_form Plain colored seen limit = not colored && not seen && is_none limit
@@ -44,6 +52,10 @@ is_bare_form _ colored seen limit = false
 
 abbrev pub is_bare : PrintOptions → Bool
 is_bare look = is_bare_form look.form look.is_colored look.is_seen look.limit
+
+-- that text, over the files of the rows
+abbrev pub bare_text : Answer → ReportView → List ℕ
+bare_text answer files = lines_text answer.with_effort files.scopes answer.lines.items
 
 -- no control character of a file may stand in what is printed in this form
 abbrev pub is_safe : Form → Bool → Bool

@@ -3,14 +3,15 @@ ghost use Rattle.std.specs.Prelude.{◌≤◌, length};
 ghost use Rattle.org_base.specs.declared.limits.TheConstants.{MOST_FILES};
 ghost use Rattle.org_client.specs.Files.{AreRead};
 
-use crate::table::push_table;
-use crate::view::Answer;
+use crate::picture::Picture;
+use crate::query::ClockQuery;
 use org_base::{Fault, MOST_FILES};
 use org_cal::{Moment, Period, Step, day_name, push_date};
 use org_client::{bar_eighths, hundredths, part_lengths};
-use org_clocktable::{CountedFile, Of, TableRow, TableSpec, counted_files, step_rows};
+use org_clocktable::{CountedFile, Of, TableRow, counted_files, step_rows};
 use org_inherit::Inherits;
-use org_layout::{Line, TableStep};
+use org_layout::{Line, LineTexts};
+use org_look::{Sheet, Tone};
 use std::alloc::{AllocError, Global};
 
 // How many columns the longest bar takes.
@@ -22,28 +23,25 @@ const EIGHTHS: [&str; 8] = ["", "▏", "▎", "▍", "▌", "▋", "▊", "▉"]
 // The signs of files in a stacked bar, in the order of the files; from the fifth file on they come again.
 const SHADES: [&str; 4] = ["█", "▓", "▒", "░"];
 
-/// The clock table that options ask for over these days, as bars. Without steps each row has its part of the total and a bar
-/// in front. With steps each step has a line, whose bar is stacked by files, and the rows of the files stand below.
-pub(crate) fn clock_chart(
+/// The clock table that is asked for, as bars. Without steps each row has its part of the total and a bar in front. With steps
+/// each step has a line, whose bar is stacked by files, and the rows of the files stand below.
+pub fn clock_picture(
     alloc: Global,
     inherits: &Inherits<'_>,
-    spec: &TableSpec<'_>,
-    period: &Period,
+    query: &ClockQuery<'_>,
     moment: Moment,
-) -> Result<Answer, Fault>
+) -> Result<Picture, Fault>
     requires read { AreRead inherits.now }
 {
+    let spec = query.spec(alloc, moment.day)?;
     let files = counted_files(alloc, inherits, spec.expression(), &moment)?;
     let chart = Chart {
-        period: *period,
+        period: query.period,
         step: spec.step(),
         most: spec.most(),
         with_effort: spec.with_effort(),
     };
-    match chart.step {
-        Step::Whole => rows_chart(alloc, inherits, files.as_slice(), &chart),
-        Step::Day | Step::Week => steps_chart(alloc, inherits, files.as_slice(), &chart),
-    }
+    drawn(alloc, inherits, files.as_slice(), &chart)
 }
 
 // What a chart shows: its days, how they are cut, the deepest level, and whether effort sums stand beside those of clocks.
@@ -55,21 +53,6 @@ struct Chart {
     with_effort: bool,
 }
 
-// One table.
-fn table_of(
-    alloc: Global,
-    inherits: &Inherits<'_>,
-    with_effort: bool,
-    step: &TableStep<'_>,
-) -> Result<Answer, Fault> {
-    let mut answer = Answer {
-        text: String::new(alloc),
-        lines: Vec::new(alloc),
-    };
-    push_table(alloc, &mut answer, inherits, with_effort, step)?;
-    Ok(answer)
-}
-
 // What stands in front of each row of a table.
 #[derive(Clone, Copy)]
 enum Front {
@@ -79,59 +62,52 @@ enum Front {
     Sign,
 }
 
-// The rows of a table, each after its part of the total and its bar.
-fn rows_chart(
+fn drawn(
     alloc: Global,
     inherits: &Inherits<'_>,
     files: &[CountedFile<'_>],
     chart: &Chart,
-) -> Result<Answer, Fault>
+) -> Result<Picture, Fault>
     requires at_most { length files.now ≤ MOST_FILES }
 {
     let rows = step_rows(alloc, &chart.period, chart.most, files)?;
-    table_with(alloc, inherits, chart, rows.as_slice(), Front::Part)
+    let mut sheet = Sheet::new(alloc);
+    match chart.step {
+        Step::Whole => push_table(&mut sheet, inherits, chart, rows.as_slice(), Front::Part)?,
+        Step::Day | Step::Week => {
+            push_steps(alloc, &mut sheet, files, chart)?;
+            let of_files = without_headings(alloc, rows.as_slice())?;
+            push_table(
+                &mut sheet,
+                inherits,
+                chart,
+                of_files.as_slice(),
+                Front::Sign,
+            )?;
+        }
+    }
+    let has_row = !rows.is_empty();
+    Ok(Picture { sheet, has_row })
 }
 
-// The table of some rows, each with something in front.
-fn table_with(
-    alloc: Global,
+// Appends the days of a table, and its rows with something in front.
+fn push_table(
+    out: &mut Sheet,
     inherits: &Inherits<'_>,
     chart: &Chart,
     rows: &[TableRow],
     front: Front,
-) -> Result<Answer, Fault> {
-    let step = TableStep {
-        period: &chart.period,
-        rows,
-    };
-    let table = table_of(alloc, inherits, chart.with_effort, &step)?;
-    let text = with_fronts(alloc, table.text.as_str(), rows, front)?;
-    Ok(Answer {
-        text,
-        lines: table.lines,
-    })
-}
-
-// The lines of a table, whose first one names its days and whose others are its rows, with something in front of these.
-fn with_fronts(
-    alloc: Global,
-    table: &str,
-    rows: &[TableRow],
-    front: Front,
-) -> Result<String, AllocError> {
+) -> Result<(), Fault> {
+    let first = out.text.len();
+    push_days(&mut out.text, Step::Whole, &chart.period)?;
+    end_step(out, first)?;
     let total = rows.first().map_or(0, |row| row.clock);
-    let mut text = String::new(alloc);
-    let mut rows = rows;
-    for (place, line) in table.split_inclusive('\n').enumerate() {
-        if place > 0 {
-            if let [row, rest @ ..] = rows {
-                push_front(&mut text, front, row, total)?;
-                rows = rest;
-            }
-        }
-        text.push_str(line)?;
+    let mut texts = LineTexts::of(out.alloc(), inherits, &[])?;
+    for row in rows {
+        push_front(&mut out.text, front, row, total)?;
+        texts.push(&mut out.text, chart.with_effort, &Line::Table(*row))?;
     }
-    Ok(text)
+    Ok(())
 }
 
 fn push_front(
@@ -176,27 +152,21 @@ struct StepSums {
     by_file: Vec<u64>,
 }
 
-// A line for each step, then the rows of the files.
-fn steps_chart(
+// Appends a line for each step.
+fn push_steps(
     alloc: Global,
-    inherits: &Inherits<'_>,
+    out: &mut Sheet,
     files: &[CountedFile<'_>],
     chart: &Chart,
-) -> Result<Answer, Fault>
+) -> Result<(), Fault>
     requires at_most { length files.now ≤ MOST_FILES }
 {
     let steps = all_sums(alloc, files, chart)?;
     let most = greatest(steps.as_slice());
-    let mut text = String::new(alloc);
-    let mut lines = Vec::new(alloc);
     for step in &steps {
-        push_step(alloc, &mut text, chart.step, step, most)?;
-        lines.push(Line::Step(step.period.first, step.period.last))?;
+        push_step(alloc, out, chart.step, step, most)?;
     }
-    let below = file_rows(alloc, inherits, files, chart)?;
-    text.push_str(below.text.as_str())?;
-    lines.extend_from_slice(below.lines.as_slice())?;
-    Ok(Answer { text, lines })
+    Ok(())
 }
 
 fn greatest(steps: &[StepSums]) -> u64 {
@@ -255,16 +225,23 @@ fn file_sums(alloc: Global, count: usize, rows: &[TableRow]) -> Result<Vec<u64>,
 // Appends the line of a step: its days, its sum, and a bar of its files' parts.
 fn push_step(
     alloc: Global,
-    out: &mut String,
+    out: &mut Sheet,
     step: Step,
     sums: &StepSums,
     most: u64,
 ) -> Result<(), AllocError> {
-    push_days(out, step, &sums.period)?;
+    let first = out.text.len();
+    push_days(&mut out.text, step, &sums.period)?;
     let (hours, minutes) = (sums.total / 60, sums.total % 60);
-    write!(out, "{hours:>5}:{minutes:02}")?;
-    push_stacked(alloc, out, sums.by_file.as_slice(), most)?;
-    out.push('\n')
+    write!(out.text, "{hours:>5}:{minutes:02}")?;
+    push_stacked(alloc, &mut out.text, sums.by_file.as_slice(), most)?;
+    end_step(out, first)
+}
+
+// Ends the line of a step, which begins at a byte and stands out.
+fn end_step(out: &mut Sheet, first: usize) -> Result<(), AllocError> {
+    out.stain(first, Tone::Strong)?;
+    out.text.push('\n')
 }
 
 // Appends a stacked bar after two spaces, if it is a column long.
@@ -296,20 +273,7 @@ fn push_days(out: &mut String, step: Step, period: &Period) -> Result<(), AllocE
     Ok(())
 }
 
-// The rows of the total and of the files over all days, each file after its sign.
-fn file_rows(
-    alloc: Global,
-    inherits: &Inherits<'_>,
-    files: &[CountedFile<'_>],
-    chart: &Chart,
-) -> Result<Answer, Fault>
-    requires at_most { length files.now ≤ MOST_FILES }
-{
-    let all = step_rows(alloc, &chart.period, chart.most, files)?;
-    let rows = without_headings(alloc, all.as_slice())?;
-    table_with(alloc, inherits, chart, rows.as_slice(), Front::Sign)
-}
-
+// The rows of the total and of the files.
 fn without_headings(alloc: Global, rows: &[TableRow]) -> Result<Vec<TableRow>, AllocError> {
     let mut kept = Vec::new(alloc);
     for row in rows {

@@ -3,13 +3,12 @@ ghost use Rattle.org_client.specs.Files.{AreRead};
 
 use crate::calendar::Canvas;
 use crate::labels::{Wording, label_of, push_shown, tone_of};
-use crate::names::{full_day_name, month_name};
 use crate::picture::Picture;
 use crate::view::{Chosen, Days, agenda_over};
 use org_agenda::{Row, RowKind};
 use org_base::Fault;
 use org_cal::{Day, push_time};
-use org_client::KeptHeadings;
+use org_client::{KeptHeadings, full_day_name, month_name};
 use org_inherit::{Heading, Inherits};
 use org_look::{DayLook, Sheet, Timed, Tone, cut, half_hours, push_hours};
 use std::alloc::{AllocError, Global};

@@ -1,7 +1,7 @@
 //! Answers to questions over files that were read, and the bytes that are printed of them.
 //!
-//! A [`Question`] is what is asked, in which profile, at which moment and of which headings; its [`Answer`] is the text of the
-//! view with what each of its lines stands for. Contracts say it by the definitions of agendas, lists and clock tables alone.
+//! A [`Question`] is what is asked, in which profile, at which moment and of which headings; its [`Answer`] is the lines of the
+//! view. Contracts say it by the definitions of agendas, lists and clock tables alone.
 //! Of an answer, [`answer_bytes`] makes what is printed in a [`Form`]: lines, lines with places, objects of JSON, fields between
 //! commas, or a template. Whatever stands in a file, no control character of it is printed where a terminal reads.
 //!
@@ -29,6 +29,7 @@ mod names;
 mod once_words;
 mod paint;
 mod picture;
+mod placed;
 mod print;
 mod query;
 mod rows_ahead;
@@ -40,6 +41,7 @@ mod words;
 
 pub use any_row::has_row;
 pub use calendar::{Calendar, Canvas, View};
+pub use chart::clock_picture;
 pub use clocks::clock_lines;
 pub use expression::read_expression;
 pub use hours::day_picture;
@@ -47,11 +49,10 @@ pub use ical::{Ical, ical_of};
 pub use limits::lines_within;
 pub use paint::picture_bytes;
 pub use picture::{Picture, calendar_picture};
+pub use placed::{heading_of, push_file_name, seems_placed};
 pub use print::answer_bytes;
 pub use query::{ClockQuery, Query, Question, answer, check};
 pub use running::{running_clocks, running_lines};
-pub use show::{
-    Form, PrintOptions, has_stamp, heading_of, push_file_name, push_seen, seems_placed,
-};
+pub use show::{Form, PrintOptions, has_stamp, push_seen};
 pub use view::{Answer, Chosen, Days, match_list};
 pub use words::{WordKind, word_lines, words_of};

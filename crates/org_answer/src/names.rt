@@ -1,22 +1,8 @@
 //! What pictures call days, weeks and months.
 
 use org_cal::{Day, Period, day_name};
+use org_client::{month_name, short_month};
 use std::alloc::{AllocError, Global};
-
-const MONTHS: [&str; 12] = [
-    "January",
-    "February",
-    "March",
-    "April",
-    "May",
-    "June",
-    "July",
-    "August",
-    "September",
-    "October",
-    "November",
-    "December",
-];
 
 /// The number of a day, the first of a month with the month's name, today's in brackets.
 pub(crate) fn number_of(alloc: Global, day: Day, is_today: bool) -> Result<String, AllocError> {
@@ -27,8 +13,7 @@ pub(crate) fn number_of(alloc: Global, day: Day, is_today: bool) -> Result<Strin
     }
     write!(number, "{of_month}")?;
     if of_month == 1 {
-        let name = month_name(month).get(..3).unwrap_or("");
-        write!(number, " {name}")?;
+        write!(number, " {}", short_month(month))?;
     }
     if is_today {
         number.push(']')?;
@@ -41,14 +26,6 @@ pub(crate) fn name_of(alloc: Global, day: Day) -> Result<String, AllocError> {
     let (_, month, of_month) = day.parts();
     let (week, name) = (day_name(day), month_name(month));
     format!(in alloc; "{week} {of_month} {name}")
-}
-
-/// The English name of a month.
-pub(crate) fn month_name(month: u8) -> &'static str {
-    match MONTHS.get(usize::from(month).saturating_sub(1)) {
-        Some(name) => name,
-        None => "",
-    }
 }
 
 /// Appends the first and the last day of a week; what they share of month and year stands once.
@@ -80,16 +57,3 @@ pub(crate) fn push_heads(out: &mut String, cell: usize) -> Result<(), AllocError
 }
 
 const NAMES: [&str; 7] = ["Mon", "Tue", "Wed", "Thu", "Fri", "Sat", "Sun"];
-
-/// The whole English name of a day.
-pub(crate) fn full_day_name(day: Day) -> &'static str {
-    match (day.number() + 6) % 7 {
-        0 => "Monday",
-        1 => "Tuesday",
-        2 => "Wednesday",
-        3 => "Thursday",
-        4 => "Friday",
-        5 => "Saturday",
-        _ => "Sunday",
-    }
-}

@@ -5,12 +5,12 @@ ghost use Rattle.org_client.specs.Files.{AreRead};
 
 use crate::calendar::{Calendar, View};
 use crate::labels::{Wording, entries_of};
-use crate::names::{month_name, name_of, number_of, push_heads, push_span};
+use crate::names::{name_of, number_of, push_heads, push_span};
 use crate::view::{Chosen, agenda_over};
 use org_agenda::Agenda;
 use org_base::Fault;
 use org_cal::Day;
-use org_client::KeptHeadings;
+use org_client::{KeptHeadings, month_name};
 use org_inherit::Inherits;
 use org_look::{
     Entry, Grid, GridDay, Narrow, Plan, Sheet, Tone, Week, grid_lines, push_listed_day,

@@ -1,30 +1,34 @@
 //! The bytes of an answer.
 ghost use Rattle.std.specs.Prelude.{◌≡◌, true, IfOk};
 ghost use Rattle.org_base.specs.Results.{GivesItems};
-ghost use Rattle.org_answer.specs.Shown.{AreCleanLines, IsSafe, is_bare};
+ghost use Rattle.org_answer.specs.Shown.{AreCleanLines, IsSafe, bare_text, is_bare};
 
+use crate::limits::lines_within;
 use crate::show::{Form, PrintOptions, lines_bytes};
+use crate::view::Answer;
 use org_base::Fault;
 use org_client::LoadReport;
-use org_layout::Line;
+use org_layout::lines_text;
 use org_text::Text;
 use std::alloc::Global;
 
-/// The bytes of a view's text, line by line, as far as its lines are given; all of it where no line is printed otherwise.
+/// The bytes of the first lines of a view, one by one; its text where none is printed otherwise.
 pub fn answer_bytes<T: Text>(
     alloc: Global,
     files: &LoadReport<'_, '_, T>,
-    view: &str,
-    all: &[Line],
+    answer: &Answer,
     look: &PrintOptions<'_, '_>,
 ) -> Result<Vec<u8>, Fault>
     ensures clean { IsSafe look.now → IfOk result (λ out. AreCleanLines out.items) }
-    ensures bare { is_bare look.now ≡ true → GivesItems result view.now }
+    ensures bare { is_bare look.now ≡ true → GivesItems result (bare_text answer.now files.now) }
 {
+    let lines = answer.lines.as_slice();
     if is_bare(look) {
-        return Ok(Vec::from_slice(alloc, view.as_bytes())?);
+        let text = lines_text(alloc, files.inherits, answer.with_effort, lines)?;
+        return Ok(text.into_bytes());
     }
-    lines_bytes(alloc, files, view, all, look)
+    let first = lines_within(lines, look.limit);
+    lines_bytes(alloc, files, first, answer.with_effort, look)
 }
 
 // Whether a view is printed as it stands: its text, without colours, into a pipe, and whole.

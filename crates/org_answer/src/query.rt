@@ -1,10 +1,10 @@
 //! What is asked, and the answer to it.
-ghost use Rattle.std.specs.Prelude.{◌≡◌};
+ghost use Rattle.std.specs.Prelude.{◌≡◌, IfOk, string_bytes};
+ghost use Rattle.org_clocktable.specs.Request.{AsksFor};
 ghost use Rattle.org_answer.specs.Asked.{AnswersClock, AnswersMatch, AnswersNext, AnswersQuestion, AnswersSince, chosen_of};
 ghost use Rattle.org_client.specs.Files.{AreRead};
 
 use crate::calendar::{Calendar, Canvas};
-use crate::chart::clock_chart;
 use crate::expression::{LONGEST, read_expression};
 use crate::rows_ahead::{rows_ahead, rows_since};
 use crate::table::clock_table;
@@ -80,6 +80,19 @@ pub struct ClockQuery<'a> {
     pub is_chart: bool,
 }
 
+impl ClockQuery<'_> {
+    // What its options ask for on a day.
+    pub(crate) fn spec(&self, alloc: Global, today: Day) -> Result<TableSpec<'_>, Fault>
+        ensures value { IfOk result (AsksFor (string_bytes self.now.options) today) }
+    {
+        let options = self.options.as_str();
+        if options.len() > LONGEST {
+            return Err(Fault::Plain(Code::Long));
+        }
+        TableSpec::read(alloc, options, today)
+    }
+}
+
 /// What is asked, in which profile, at which moment, and of which headings.
 #[derive(Clone, Copy, Debug)]
 pub struct Question<'a, 'b> {
@@ -112,19 +125,11 @@ pub fn check(alloc: Global, question: &Question<'_, '_>) -> Result<(), Fault> {
             let _ = read_expression(alloc, expression)?;
         }
         Query::Clock(table) => {
-            check_options(alloc, table.options.as_str(), question.moment.day)?;
+            let _ = table.spec(alloc, question.moment.day)?;
         }
         Query::Agenda(_) | Query::Todo(_) | Query::Next(..) | Query::Since(..) => {}
         Query::Calendar(_) | Query::Hours(..) | Query::Ical(_) => {}
     }
-    Ok(())
-}
-
-fn check_options(alloc: Global, options: &str, today: Day) -> Result<(), Fault> {
-    if options.len() > LONGEST {
-        return Err(Fault::Plain(Code::Long));
-    }
-    let _ = TableSpec::read(alloc, options, today)?;
     Ok(())
 }
 
@@ -152,7 +157,7 @@ pub fn answer(
     }
 }
 
-pub(crate) fn next_answer(
+fn next_answer(
     alloc: Global,
     inherits: &Inherits<'_>,
     chosen: &Chosen<'_>,
@@ -163,10 +168,10 @@ pub(crate) fn next_answer(
     ensures value { AnswersNext result inherits.now chosen.now days within }
 {
     let agenda = agenda_over(alloc, inherits, chosen, days)?;
-    rows_ahead(alloc, inherits, &agenda, &chosen.moment, within)
+    rows_ahead(alloc, &agenda, &chosen.moment, within)
 }
 
-pub(crate) fn since_answer(
+fn since_answer(
     alloc: Global,
     inherits: &Inherits<'_>,
     chosen: &Chosen<'_>,
@@ -177,7 +182,7 @@ pub(crate) fn since_answer(
     ensures value { AnswersSince result inherits.now chosen.now days window.now }
 {
     let agenda = agenda_over(alloc, inherits, chosen, days)?;
-    rows_since(alloc, inherits, &agenda, window)
+    rows_since(alloc, &agenda, window)
 }
 
 #[tactic(auto, using(crate::proofs::AskedLemmas::listed))]
@@ -195,7 +200,7 @@ fn match_answer(
 }
 
 #[tactic(auto, using(crate::proofs::AskedLemmas::tabled))]
-pub(crate) fn clock(
+fn clock(
     alloc: Global,
     inherits: &Inherits<'_>,
     table: &ClockQuery<'_>,
@@ -204,14 +209,6 @@ pub(crate) fn clock(
     requires read { AreRead inherits.now }
     ensures value { AnswersClock result inherits.now table.now now }
 {
-    let options = table.options.as_str();
-    if options.len() > LONGEST {
-        return Err(Fault::Plain(Code::Long));
-    }
-    let spec = TableSpec::read(alloc, options, now.day)?;
-    if table.is_chart {
-        clock_chart(alloc, inherits, &spec, &table.period, now)
-    } else {
-        clock_table(alloc, inherits, &spec, &table.period, now)
-    }
+    let spec = table.spec(alloc, now.day)?;
+    clock_table(alloc, inherits, &spec, &table.period, now)
 }

@@ -1,18 +1,18 @@
 //! Answers as they are printed.
-ghost use Rattle.std.specs.Prelude.{◌≡◌, [], ◌∷◌, ◌++◌, true, IfOk, OnOk};
+ghost use Rattle.std.specs.Prelude.{◌≡◌, [], ◌∷◌, ◌++◌, true, IfOk};
 ghost use Rattle.org_base.specs.Results.{Adds};
-ghost use Rattle.org_answer.specs.Shown.{AddsClean, AreCleanLines, IsSafe, KeepsClean, color, color_of, number_text, shown_line, shown_text};
+ghost use Rattle.org_answer.specs.Shown.{AreCleanLines, IsSafe, KeepsClean, color_of, line_in, shown_text};
 
 use crate::labels::is_due_row;
+use crate::placed::push_place;
 use org_agenda::RowKind;
 use org_base::Fault;
 use org_cal::Day;
 use org_client::{
     LoadReport, OneLine, ShownSum, Template, ViewRow, csv_line, day_line, json_line, template_line,
 };
-use org_clocktable::Of;
 use org_inherit::Inherits;
-use org_layout::Line;
+use org_layout::{Line, LineTexts};
 use org_text::Text;
 use org_visible::{Escape, push_visible};
 use std::alloc::{AllocError, Global};
@@ -59,44 +59,67 @@ pub fn has_stamp(line: &Line) -> bool {
     matches!(line, Line::Row(shown) if shown.day.is_some())
 }
 
-/// The bytes of a view's text, line by line, as far as its lines are given.
-#[tactic(auto, using(crate::proofs::ShownLemmas::no_lines))]
+/// The bytes of some lines of a view, one by one.
 pub(crate) fn lines_bytes<T: Text>(
     alloc: Global,
     files: &LoadReport<'_, '_, T>,
-    view: &str,
-    all: &[Line],
+    lines: &[Line],
+    with_effort: bool,
+    look: &PrintOptions<'_, '_>,
+) -> Result<Vec<u8>, Fault>
+    ensures clean { IsSafe look.now → IfOk result (λ out. AreCleanLines out.items) }
+{
+    let mut written = Written {
+        texts: LineTexts::of(alloc, files.inherits, lines)?,
+        with_effort,
+        text: String::new(alloc),
+        days: None,
+    };
+    bytes_of(alloc, files, &mut written, lines, look)
+}
+
+// The text of a line, and what it is made of, which is kept from line to line; and the days of the clock table that it is of.
+#[derive(Drop)]
+struct Written<'a, 'b> {
+    texts: LineTexts<'a, 'b>,
+    with_effort: bool,
+    text: String,
+    days: Option<(Day, Day)>,
+}
+
+impl Written<'_, '_> {
+    // Writes a line.
+    fn write(&mut self, line: &Line) -> Result<(), Fault> {
+        if let Line::Step(first, last) = line {
+            self.days = Some((*first, *last));
+        }
+        self.text.clear();
+        self.texts.push(&mut self.text, self.with_effort, line)
+    }
+}
+
+#[tactic(auto, using(crate::proofs::ShownLemmas::no_lines))]
+fn bytes_of<T: Text>(
+    alloc: Global,
+    files: &LoadReport<'_, '_, T>,
+    written: &mut Written<'_, '_>,
+    lines: &[Line],
     look: &PrintOptions<'_, '_>,
 ) -> Result<Vec<u8>, Fault>
     ensures clean { IsSafe look.now → IfOk result (λ out. AreCleanLines out.items) }
 {
     let mut out = Vec::new(alloc);
-    let mut lines = all;
-    let mut days = None;
-    for text in view.split_inclusive('\n') {
-        let Some((line, rest)) = lines.split_first() else {
-            return Ok(out);
-        };
-        lines = rest;
-        let text = text.trim_end_matches('\n');
+    for line in lines {
+        written.write(line)?;
         let shown = LineOfAnswer {
             line,
             is_due: is_due(files.inherits, line),
-            days: days_at(line, days),
-            text,
+            days: &written.days,
+            text: written.text.as_str().trim_end_matches('\n'),
         };
         push_line(alloc, &mut out, files, &shown, look)?;
-        days = shown.days;
     }
     Ok(out)
-}
-
-// The days of the clock table that a line is of: its own where it begins one, else those of the line before.
-fn days_at(line: &Line, before: Option<(Day, Day)>) -> Option<(Day, Day)> {
-    match line {
-        Line::Step(first, last) => Some((*first, *last)),
-        Line::Day(_) | Line::Row(_) | Line::Table(_) => before,
-    }
 }
 
 // Whether a line is the row of a deadline on its day, of a heading that isn't done.
@@ -112,7 +135,7 @@ fn is_due(inherits: &Inherits<'_>, line: &Line) -> bool {
 struct LineOfAnswer<'a> {
     line: &'a Line,
     is_due: bool,
-    days: Option<(Day, Day)>,
+    days: &'a Option<(Day, Day)>,
     text: &'a str,
 }
 
@@ -122,8 +145,8 @@ impl LineOfAnswer<'_> {
         match (self.line, self.days) {
             (Line::Row(shown), _) => Some(ViewRow::Row(*shown)),
             (Line::Table(row), Some((first, last))) => Some(ViewRow::Sum(ShownSum {
-                first,
-                last,
+                first: *first,
+                last: *last,
                 row: *row,
             })),
             _ => None,
@@ -154,7 +177,7 @@ fn push_text(
     shown: &LineOfAnswer<'_>,
     look: &PrintOptions<'_, '_>,
 ) -> Result<(), AllocError>
-    ensures { Adds result out.old out.new (shown_line (color look.now shown.now.is_due shown.now.line.now) look.now.is_seen shown.now.text.now) }
+    ensures { Adds result out.old out.new (line_in look.now shown.now) }
 {
     let color = if look.is_colored {
         color_of(shown.is_due, shown.line)
@@ -210,87 +233,6 @@ fn push_placed<T: Text>(
 {
     push_place(alloc, out, files, shown.line, look.is_seen)?;
     push_text(out, shown, look)
-}
-
-// Appends the file and the line of a row's heading; before a row of a clock table, which begins with a number, a space, so
-// that editors take no number of it as a column.
-#[tactic(auto, using(crate::proofs::ShownLemmas::places_alone, crate::proofs::ShownLemmas::places_after, crate::proofs::ShownLemmas::places_nothing))]
-fn push_place<T: Text>(
-    alloc: Global,
-    out: &mut Vec<u8>,
-    files: &LoadReport<'_, '_, T>,
-    line: &Line,
-    is_seen: bool,
-) -> Result<(), AllocError>
-    ensures clean { is_seen ≡ true → OnOk result (AddsClean out.old.items out.new.items) }
-{
-    let Some((file, heading)) = heading_of(line) else {
-        return Ok(());
-    };
-    let Some(place) = files.file_set.place(file, heading) else {
-        return Ok(());
-    };
-    let is_spaced = matches!(line, Line::Table(_));
-    if file >= files.file_set.count() {
-        return push_number(alloc, out, place.line, is_spaced);
-    }
-    push_file_name(out, files.file_set.file(file).name(), is_seen)?;
-    push_number(alloc, out, place.line, is_spaced)
-}
-
-/// Appends the name of a file as it stands in front of rows. One in which a place seems to stand is put between quotation marks,
-/// so that it leads nowhere else.
-#[tactic(auto, using(crate::proofs::ShownLemmas::names_bare, crate::proofs::ShownLemmas::names_quoted))]
-pub fn push_file_name(out: &mut Vec<u8>, name: &str, is_seen: bool) -> Result<(), AllocError>
-    ensures clean { is_seen ≡ true → OnOk result (AddsClean out.old.items out.new.items) }
-{
-    if !seems_placed(name) {
-        return push_seen(out, name, is_seen);
-    }
-    out.push(b'"')?;
-    push_seen(out, name, is_seen)?;
-    out.push(b'"')?;
-    Ok(())
-}
-
-/// Whether a colon and a digit stand in a name, so that a place seems to stand in it.
-pub fn seems_placed(name: &str) -> bool {
-    let mut after_colon = false;
-    for byte in name.bytes() {
-        if after_colon && byte.is_ascii_digit() {
-            return true;
-        }
-        after_colon = byte == b':';
-    }
-    false
-}
-
-fn push_number(
-    alloc: Global,
-    out: &mut Vec<u8>,
-    number: u32,
-    is_spaced: bool,
-) -> Result<(), AllocError>
-    ensures { Adds result out.old out.new (number_text number is_spaced) }
-{
-    let text = format!(in alloc; ":{number}:")?;
-    out.extend_from_slice(text.as_bytes())?;
-    if is_spaced {
-        out.push(b' ')?;
-    }
-    Ok(())
-}
-
-/// The heading of a row, by the places of its file and its entry.
-pub fn heading_of(line: &Line) -> Option<(usize, usize)> {
-    match line {
-        Line::Row(shown) => Some((shown.row.file, shown.row.heading)),
-        Line::Table(row) => match row.of {
-            Of::Heading(file, place, _) => Some((file, place)),
-            Of::All | Of::File(_) => None,
-        },
-        Line::Day(_) | Line::Step(..) => None,
-    }
 }
 
 // Appends the line of a row, and the object of a day where days have any.

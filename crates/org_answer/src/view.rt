@@ -1,4 +1,4 @@
-//! The text of views, with what each of its lines stands for.
+//! Views, line by line.
 ghost use Rattle.std.specs.Prelude.{◌≡◌, ◌+◌, ◌≤◌};
 ghost use Rattle.std.specs.List.{list_any};
 ghost use Rattle.org_agenda.specs.Lists.{todo_listing, Matching};
@@ -15,15 +15,15 @@ use org_base::{Fault, Texts};
 use org_cal::{Day, LAST_DAY, Moment, Period};
 use org_client::matching_stamps;
 use org_inherit::Inherits;
-use org_layout::{Line, agenda_lines, agenda_text, list_lines, list_text};
+use org_layout::{Line, agenda_lines, list_lines};
 use org_match::Match;
-use std::alloc::Global;
+use std::alloc::{AllocError, Global};
 
-/// The text of a view, and what its lines stand for, one by one.
+/// The lines of a view, and whether those of clock tables show efforts. Its text is [`lines_text`](org_layout::lines_text).
 #[derive(Debug, Drop)]
 pub struct Answer {
-    pub text: String,
     pub lines: Vec<Line>,
+    pub with_effort: bool,
 }
 
 impl Answer {
@@ -45,7 +45,7 @@ pub(crate) fn todo_list(
     ensures value { ShowsListing result inherits.now (todo_listing words.now) }
 {
     let rows = todo_rows(alloc, inherits, words)?;
-    list_answer(alloc, inherits, rows.as_slice())
+    Ok(list_answer(alloc, rows.as_slice())?)
 }
 
 /// The list of the headings of which an expression holds at a moment.
@@ -59,16 +59,16 @@ pub fn match_list(
     ensures value { ShowsListing result inherits.now (Matching expression.now moment) }
 {
     let rows = match_rows(alloc, inherits, expression, moment)?;
-    list_answer(alloc, inherits, rows.as_slice())
+    Ok(list_answer(alloc, rows.as_slice())?)
 }
 
-fn list_answer(alloc: Global, inherits: &Inherits<'_>, rows: &[Row]) -> Result<Answer, Fault>
-    ensures { ShowsList result inherits.now rows.now }
+fn list_answer(alloc: Global, rows: &[Row]) -> Result<Answer, AllocError>
+    ensures { ShowsList result rows.now }
 {
-    let mut text = String::new(alloc);
-    list_text(alloc, &mut text, rows, inherits)?;
-    let lines = list_lines(alloc, rows)?;
-    Ok(Answer { text, lines })
+    Ok(Answer {
+        lines: list_lines(alloc, rows)?,
+        with_effort: false,
+    })
 }
 
 /// Days that are asked for, none of them past 9999-12-31.
@@ -117,10 +117,10 @@ pub(crate) fn agenda_days(
     ensures value { ShowsDays result inherits.now chosen.now days.first days.count }
 {
     let agenda = agenda_over(alloc, inherits, chosen, days)?;
-    let mut text = String::new(alloc);
-    agenda_text(alloc, &mut text, inherits, &agenda)?;
-    let lines = agenda_lines(alloc, &agenda)?;
-    Ok(Answer { text, lines })
+    Ok(Answer {
+        lines: agenda_lines(alloc, &agenda)?,
+        with_effort: false,
+    })
 }
 
 /// The agenda of some days over the stamps that are chosen, before it is shown.

@@ -12,13 +12,14 @@
 //! let inherits = file_set.inherits()?;
 //! // ..
 //! let files = LoadReport::new(alloc, file_set, inherits, properties, has_stamps)?;
-//! let text = answer_bytes(alloc, &files, answer.text.as_str(), lines, look)?;
+//! let text = answer_bytes(alloc, &files, &answer, look)?;
 //! ```
 //!
 //! Lines of `orgq/src/session.rt`. Tests: cases `tests/orgq/*`.
 #![tactic(auto)]
 
 mod bars;
+mod calendar_names;
 mod clock_places;
 mod clocks;
 mod components;
@@ -44,6 +45,7 @@ mod titles;
 mod when;
 
 pub use bars::{bar_eighths, hundredths, part_lengths};
+pub use calendar_names::{full_day_name, month_name, short_month};
 pub use clock_places::shown_clocks;
 pub use clocks::{ClockRow, clock_rows, push_clock_minute};
 pub use components::{event_rows, push_events, push_tasks, task_stamps};

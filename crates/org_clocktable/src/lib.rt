@@ -12,7 +12,7 @@
 //! let files = counted_files(alloc, inherits, spec.expression(), &moment)?;
 //! // ..
 //! for period in period.steps(spec.step()) {
-//!     let rows = step_rows(alloc, &period, spec.most(), files.as_slice())?;
+//!     let rows = step_rows(alloc, &period, spec.most(), files)?;
 //! ```
 //!
 //! Lines of `org_answer/src/table.rt`. Tests: streams `tests/rows/clock-*`.

@@ -1,15 +1,14 @@
 -- What an agenda over the files of a world shows.
-use Rattle.std.proofs.Common.{◌≡◌, ◌∙◌, ℕ, zero, suc, ◌+◌, ◌-◌, ◌<◌, ◌≤◌, List, ◌++◌, arith, false, map, refl, ap, ap₂}
+use Rattle.std.proofs.Common.{◌≡◌, ◌∙◌, ℕ, zero, suc, ◌+◌, ◌-◌, ◌<◌, ◌≤◌, List, ◌++◌, arith, false, refl, ap, ap₂}
 use Rattle.std.specs.Prelude.{Option, None, Some}
 use Rattle.std.proofs.lemmas.Bool.{lt-leb, le-leb}
-use Rattle.std.specs.List.{concat, flat_map, range_with_len}
+use Rattle.std.specs.List.{flat_map, range_with_len}
 use Rattle.org_base.specs.declared.profile.Profile.{Profile}
 use Rattle.org_agenda.specs.Bound.{near_count}
 use Rattle.org_agenda.specs.Days.{AgendaView, day_rows}
 use Rattle.org_agenda.specs.Sources.{sources_of}
 use Rattle.org_agenda.specs.declared.source.HeadingStamp.{HeadingStamp}
 use Rattle.org_inherit.specs.Scope.{Scope}
-use Rattle.org_layout.specs.Days.{agenda_lines, day_line, day_lines, row_lines}
 use Rattle.org_layout.specs.Shown.{day_lines_shown, lines_of}
 use Rattle.org_layout.specs.declared.shown.Line.{Line}
 use Rattle.org_engine.specs.Outlines.{scopes_of}
@@ -20,38 +19,19 @@ use Rattle.org_engine.specs.Questions.{asked_agenda}
 use Rattle.org_engine.proofs.QuestionsWords.{asked_days, asked_from, days_fault}
 use Rattle.org_engine.specs.Step.{DayAgenda, Unread}
 use Rattle.org_engine.specs.Examined.{near_in_world}
-use Rattle.org_engine.specs.Views.{days_over, scopes_named}
-use Rattle.org_engine.specs.Places.{agenda_in, days_shown, in_form, line_places}
+use Rattle.org_engine.specs.Views.{scopes_over}
+use Rattle.org_engine.specs.Places.{agenda_in, days_shown, view_in, view_over}
 use Rattle.org_engine.specs.declared.question.Form.{Form}
-use Rattle.org_engine.specs.declared.question.Form.TheVariants.{Places, Text}
-use Rattle.org_engine.proofs.ListLemmas.{all_files, all_named}
-use Rattle.org_engine.proofs.RenderLemmas.{agenda_is}
+use Rattle.org_engine.proofs.ListLemmas.{over_all}
 use Rattle.org_cal.specs.declared.moment.Moment.{Moment}
 use Rattle.org_engine.specs.World.{WorldView}
-
-same_texts : (f g : ℕ → List ℕ) (first n : ℕ) → ((day : ℕ) → first ≤ day → day < first + n → f day ≡ g day) → concat (map f (range_with_len first n)) ≡ concat (map g (range_with_len first n))
-same_texts f g first zero same = refl
-same_texts f g first (suc n) same =
-    ap₂ (λ a b. a ++ b) (same first (omega arith) (omega arith)) (same_texts f g (first + 1) n (λ day late early. same day (omega (arith, late)) (omega (arith, early))))
-
-same_day : (p : Profile) (scopes : List Scope) (some all : List HeadingStamp) (today day : ℕ) → day_rows p some today day ≡ day_rows p all today day → day_lines p scopes some today day ≡ day_lines p scopes all today day
-unfolding day_lines
-same_day p scopes some all today day same = λ i. day_line day ++ row_lines scopes (same i)
-
--- stamps that give the rows of all stamps on each day of a period
-pub same_days : (p : Profile) (scopes : List Scope) (some all : List HeadingStamp) (today first count last : ℕ) → all ≡ sources_of 0 scopes → last + 1 ≡ first + count → ((day : ℕ) → first ≤ day → day ≤ last → day_rows p some today day ≡ day_rows p all today day) →
-    (agenda : AgendaView) → agenda ≡ record { profile = p; sources = some; today = today; first = first; count = count } → agenda_lines scopes agenda ≡ days_over p scopes today first count
-same_days p scopes some all today first count last are end same agenda is =
-    (λ i. agenda_lines scopes (is i))
-    ∙ same_texts (day_lines p scopes some today) (day_lines p scopes all today) first count (λ day late early. same_day p scopes some all today day (same day late (omega (arith, early, end))))
-    ∙ (λ i. agenda_lines scopes (record { profile = p; sources = are i; today = today; first = first; count = count }))
 
 same_lists : (f g : ℕ → List Line) (first n : ℕ) → ((day : ℕ) → first ≤ day → day < first + n → f day ≡ g day) → flat_map f (range_with_len first n) ≡ flat_map g (range_with_len first n)
 same_lists f g first zero same = refl
 same_lists f g first (suc n) same =
     ap₂ (λ a b. a ++ b) (same first (omega arith) (omega arith)) (same_lists f g (first + 1) n (λ day late early. same day (omega (arith, late)) (omega (arith, early))))
 
--- what their lines stand for
+-- stamps that give the rows of all stamps on each day of a period
 pub same_lines : (p : Profile) (scopes : List Scope) (some all : List HeadingStamp) (today first count last : ℕ) → all ≡ sources_of 0 scopes → last + 1 ≡ first + count → ((day : ℕ) → first ≤ day → day ≤ last → day_rows p some today day ≡ day_rows p all today day) →
     (agenda : AgendaView) → agenda ≡ record { profile = p; sources = some; today = today; first = first; count = count } → lines_of agenda ≡ days_shown p scopes today first count
 same_lines p scopes some all today first count last are end same agenda is =
@@ -61,21 +41,17 @@ same_lines p scopes some all today first count last are end same agenda is =
 
 -- an agenda over all files, in the profile and at the moment of a world
 pub days_are : (form : Form) (first count : ℕ) (world : WorldView) (p : Profile) (moment : Moment) → p ≡ world.profile → moment ≡ world.moment →
-    in_form form None (λ scopes. days_over p scopes moment.day first count) (λ scopes. days_shown p scopes moment.day first count) world ≡ agenda_in form first count world
-days_are Text first count world p moment same is =
-    ap (λ scopes. days_over p scopes moment.day first count) (all_named (scopes_of world))
-    ∙ (λ i. days_over (same i) (scopes_of world) (is i).day first count)
-    ∙ agenda_is false (scopes_of world) _
-days_are Places first count world p moment same is =
-    ap₂ (λ files scopes. line_places files (days_shown p scopes moment.day first count)) (all_files world.files) (all_named (scopes_of world))
-    ∙ (λ i. line_places world.files (days_shown (same i) (scopes_of world) (is i).day first count))
+    view_over form None false (λ scopes. days_shown p scopes moment.day first count) world ≡ agenda_in form first count world
+days_are form first count world p moment same is =
+    (λ i. view_over form None false (λ scopes. days_shown (same i) scopes (is i).day first count) world)
+    ∙ ap (λ w. view_in form false (days_shown world.profile (scopes_of w) world.moment.day first count) w) (over_all world)
 
 -- the stamps that it examines
 pub near_are : (first count : ℕ) (world : WorldView) (p : Profile) (moment : Moment) → p ≡ world.profile → moment ≡ world.moment →
-    near_count p first (first + count - 1) moment.day (scopes_named None (scopes_of world)) ≡ near_in_world first count world
+    near_count p first (first + count - 1) moment.day (scopes_over None world) ≡ near_in_world first count world
 unfolding near_in_world
 near_are first count world p moment same is =
-    ap (λ scopes. near_count p first (first + count - 1) moment.day scopes) (all_named (scopes_of world))
+    ap (λ w. near_count p first (first + count - 1) moment.day (scopes_of w)) (over_all world)
     ∙ (λ i. near_count (same i) first (first + count - 1) (is i).day (scopes_of world))
 
 module _ (date : List ℕ) (days : ℕ) where

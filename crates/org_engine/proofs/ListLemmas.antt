@@ -1,16 +1,13 @@
 -- What a list over the files of a world shows.
 use Rattle.std.proofs.Common.{◌≡◌, ◌≢◌, ◌∙◌, ◌+◌, ℕ, List, [], ◌∷◌, Bool, Bor, ap, inl, inr, refl, sym}
-use Rattle.org_agenda.specs.Lists.{Listing, Matching, list_rows, todo_listing}
+use Rattle.org_agenda.specs.Lists.{Matching, todo_listing}
 use Rattle.org_base.specs.Codes.{memory_fault}
 use Rattle.org_base.specs.declared.fault.Fault.{Fault}
 use Rattle.org_inherit.specs.Scope.{Scope}
 use Rattle.org_store.specs.Outline.{scope_of}
 use Rattle.std.proofs.lemmas.Bool.{cases_Bool}
-use Rattle.org_layout.specs.Lines.{list_lines}
-use Rattle.org_engine.specs.PlaceLaws.{list_shown}
-use Rattle.org_engine.specs.Places.{in_form, line_places, list_in}
+use Rattle.org_engine.specs.Places.{list_in}
 use Rattle.org_engine.specs.declared.question.Form.{Form}
-use Rattle.org_engine.specs.declared.question.Form.TheVariants.{Places, Text}
 use Rattle.org_match.specs.Patterns.{regexp_fault}
 use Rattle.org_match.specs.Refusal.{AreReadable, IsRefusal, patterns}
 use Rattle.org_match.proofs.Refusable.{readable_or_refused}
@@ -18,16 +15,14 @@ use Rattle.std.specs.Prelude.{None, Option, Result, Ok, Err, IfErr, IfOk, Some, 
 use Rattle.org_engine.specs.Outlines.{scopes_of}
 use Rattle.std.specs.Option.{option_copied, option_map}
 use Rattle.std.specs.Str.{IsUtf8}
-use Rattle.org_cal.specs.declared.moment.Moment.{Moment}
 use Rattle.org_base.specs.declared.code.Code.TheVariants as code
 use Rattle.org_base.specs.declared.fault.Fault.TheVariants.{Plain}
 use Rattle.org_expression.specs.Grammar.{Expr, Reads}
 use Rattle.org_engine.specs.Questions.{IsMissingFault, IsUnread, TellsOf}
 use Rattle.org_engine.proofs.QuestionsWords.{IsReadAs}
-use Rattle.org_engine.proofs.RenderLemmas.{list_is}
 use Rattle.org_engine.specs.Step.{MatchList, Refused, Reply, Shown, TodoList, file_named, is_missing, over_file, place_named, render_view}
 use Rattle.org_engine.specs.declared.question.View.TheVariants.{Match, Todo}
-use Rattle.org_engine.specs.Views.{files_named, is_wanted, scopes_named, world_over}
+use Rattle.org_engine.specs.Views.{files_named, is_wanted, scopes_named, scopes_over, world_over}
 use Rattle.org_engine.specs.World.{FileView, WorldView}
 
 -- a refusal that doesn't stand for memory
@@ -45,6 +40,9 @@ pub all_files : (files : List FileView) → files_named None files ≡ files
 all_files [] = refl
 all_files (file ∷ files) = ap (λ xs. file ∷ xs) (all_files files)
 
+pub over_all : (world : WorldView) → world_over None world ≡ world
+over_all world = ap (λ files. record world { files = files }) (all_files world.files)
+
 -- what inheritance looks at in the files that a view is over
 named_there : (file : Option (List ℕ)) (inherited : List (List ℕ)) (files : List FileView) →
     scopes_named file (map (λ (f : FileView). scope_of inherited f.name f.text) files) ≡ map (λ (f : FileView). scope_of inherited f.name f.text) (files_named file files)
@@ -54,18 +52,8 @@ named_there file inherited (f ∷ fs) = elim (cases_Bool (is_wanted file f.name)
   | inr no' ↦ rw no' (named_there file inherited fs)
 ]
 
-pub scopes_there : (file : Option (List ℕ)) (world : WorldView) → scopes_named file (scopes_of world) ≡ scopes_of (world_over file world)
+pub scopes_there : (file : Option (List ℕ)) (world : WorldView) → scopes_named file (scopes_of world) ≡ scopes_over file world
 scopes_there file world = named_there file world.inherited world.files
-
-pub list_are : (form : Form) (listing : Listing) (file : Option (List ℕ)) (world : WorldView) →
-    in_form form file (λ scopes. list_lines scopes (list_rows listing scopes)) (λ scopes. list_shown listing scopes) world ≡ list_in form listing (world_over file world)
-list_are Text listing file world = ap (λ scopes. list_lines scopes (list_rows listing scopes)) (scopes_there file world) ∙ list_is false (scopes_of (world_over file world)) _
-list_are Places listing file world = ap (λ scopes. line_places (files_named file world.files) (list_shown listing scopes)) (scopes_there file world)
-
--- the same of a match list, at the moment of the world
-pub matching_are : (form : Form) (expr : Expr) (moment : Moment) (file : Option (List ℕ)) (world : WorldView) → moment ≡ world.moment →
-    in_form form file (λ scopes. list_lines scopes (list_rows (Matching expr moment) scopes)) (λ scopes. list_shown (Matching expr moment) scopes) world ≡ list_in form (Matching expr world.moment) (world_over file world)
-matching_are form expr moment file world is = list_are form (Matching expr moment) file world ∙ ap (λ m. list_in form (Matching expr m) (world_over file world)) is
 
 -- where a file is found it is there, and where none is found it isn't
 mapped : (place : Option ℕ) → is_some (option_map (λ (n : ℕ). n + 1) place) ≡ is_some place

@@ -18,10 +18,10 @@ use Rattle.org_sum.specs.Texts.{AreOfText}
 use Rattle.org_text.specs.Replace.{max_bytes}
 use Rattle.org_engine.proofs.HeadLemmas.{file_heads, first_heads}
 use Rattle.org_engine.specs.Tables.{AreShort}
-use Rattle.org_engine.specs.Views.{is_wanted, scopes_named, wanted_scope}
+use Rattle.org_engine.specs.Views.{is_wanted, scopes_named, scopes_over, wanted_scope}
 use Rattle.org_engine.specs.Examined.{RowsAreExamined, near_in_world}
 use Rattle.org_engine.specs.Outlines.{AreRead, outlines_of, scopes_of}
-use Rattle.org_engine.proofs.ListLemmas.{all_named}
+use Rattle.org_engine.proofs.ListLemmas.{all_named, over_all}
 use Rattle.org_engine.specs.World.{FileView, WorldView}
 
 -- what is left at a place
@@ -142,9 +142,9 @@ zip_files : (inherited : List (List ℕ)) (files : List FileView) → AllZip IsO
 zip_files inherited [] = tt
 zip_files inherited (f ∷ fs) = ((refl, refl), zip_files inherited fs)
 
-pub zip_all : (world : WorldView) (outlines : List OutlineView) (scopes : List Scope) → outlines ≡ outlines_of world → scopes ≡ scopes_named None (scopes_of world) → AllZip IsOf outlines scopes
+pub zip_all : (world : WorldView) (outlines : List OutlineView) (scopes : List Scope) → outlines ≡ outlines_of world → scopes ≡ scopes_over None world → AllZip IsOf outlines scopes
 zip_all world outlines scopes read are =
-    subst (λ ds. AllZip IsOf ds scopes) (sym read) (subst (AllZip IsOf (outlines_of world)) (sym (are ∙ all_named (scopes_of world))) (zip_files world.inherited world.files))
+    subst (λ ds. AllZip IsOf ds scopes) (sym read) (subst (AllZip IsOf (outlines_of world)) (sym (are ∙ ap scopes_of (over_all world))) (zip_files world.inherited world.files))
 
 -- what is asked of the files that a view is over
 pub named_read : (wanted : Option (List ℕ)) (world : WorldView) (scopes : List Scope) → AreShort world.files → length world.files ≤ MOST_FILES → scopes ≡ scopes_named wanted (scopes_of world) → AreRead scopes

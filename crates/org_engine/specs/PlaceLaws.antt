@@ -1,6 +1,5 @@
 -- Laws of places: where the lines of a view lead, and what a command does that is made from there (profile).
 use Rattle.std.specs.Prelude.{◌≡◌, ◌≢◌, ℕ, Bool, true, false, List, [], Option, None, Some, IsSome, Result, Ok, Err, map, slice_get}
-use Rattle.std.specs.List.{flat_map}
 use Rattle.org_agenda.specs.Lists.{Listing, Matching, list_rows, todo_listing}
 use Rattle.org_base.specs.declared.code.Code.TheVariants as code
 use Rattle.org_base.specs.declared.fault.Fault.{Fault}
@@ -13,14 +12,14 @@ use Rattle.org_inherit.specs.Scope.{Scope}
 use Rattle.org_store.specs.Begun.{entry_there}
 use Rattle.org_store.specs.Places.{HasLine, place_at}
 use Rattle.org_store.specs.declared.place.Place.{Place}
-use Rattle.org_layout.specs.Shown.{line_text, row_line}
+use Rattle.org_layout.specs.Shown.{lines_text, row_line}
 use Rattle.org_layout.specs.declared.shown.Line.{Line}
 use Rattle.org_layout.specs.declared.shown.Line.TheVariants as line
 use Rattle.org_engine.specs.Laws.{IsIn, after_all}
 use Rattle.org_engine.specs.Outlines.{scopes_of}
 use Rattle.org_engine.specs.Places.{days_shown, line_places, table_shown}
 use Rattle.org_engine.specs.Step.{ClockTable, Command, Complete, DayAgenda, EditFile, MatchList, Query, Refused, Serial, Shown, TodoList, Unread, edited, file_named, is_session, step, render_view, world_for}
-use Rattle.org_engine.specs.Views.{files_named, world_over}
+use Rattle.org_engine.specs.Views.{files_named, scopes_over, world_over}
 use Rattle.org_engine.specs.World.{FileView, State, WorldView}
 use Rattle.org_engine.specs.declared.question.Form.TheVariants.{Places, Text}
 
@@ -38,7 +37,7 @@ files_for question world = files_named (named_by question) world.files
 
 -- what inheritance looks at in each of the files that the rows of a question are of
 abbrev pub scopes_for : Query → WorldView → List Scope
-scopes_for question world = scopes_of (world_over (named_by question) world)
+scopes_for question world = scopes_over (named_by question) world
 
 -- whether the rows of a question show efforts
 abbrev pub has_efforts : Query → Bool
@@ -63,7 +62,7 @@ lines_for (Unread fault) world = []
 
 -- text and places are two renderings of one list of lines, and are refused alike
 pub record AreOfOneList (question : Query) (world : WorldView) : Type 0 where
-  pub text : (shown : List ℕ) → render_view Text question world ≡ Shown shown → shown ≡ flat_map (line_text (has_efforts question) (scopes_for question world)) (lines_for question world)
+  pub text : (shown : List ℕ) → render_view Text question world ≡ Shown shown → shown ≡ lines_text (has_efforts question) (scopes_for question world) (lines_for question world)
   pub places : (shown : List ℕ) → render_view Places question world ≡ Shown shown → shown ≡ line_places (files_for question world) (lines_for question world)
   pub answered : (shown : List ℕ) → render_view Text question world ≡ Shown shown → (places : List ℕ) × (render_view Places question world ≡ Shown places)
   pub refused : (fault : Fault) → render_view Text question world ≡ Refused fault → render_view Places question world ≡ Refused fault

@@ -1,5 +1,5 @@
 //! Agendas over the files of a world.
-ghost use Rattle.std.specs.Prelude.{◌≡◌, ◌+◌, ◌-◌, ◌≤◌, None, IfErr, IfOk, OnOk, OnErr, IsOkUnless};
+ghost use Rattle.std.specs.Prelude.{◌≡◌, ◌+◌, ◌-◌, ◌≤◌, false, None, IfErr, IfOk, OnOk, OnErr, IsOkUnless};
 ghost use Rattle.org_base.specs.Codes.{memory_fault};
 ghost use Rattle.org_base.specs.Results.{GivesText, IfRefused};
 ghost use Rattle.org_agenda.specs.Bound.{near_count};
@@ -11,7 +11,6 @@ ghost use Rattle.org_engine.specs.Examined.{ExaminesNear, ReadsAgenda, ReadsDays
 ghost use Rattle.org_engine.specs.Marks.{AnyStamps, ReadsNone, ReadsSome};
 ghost use Rattle.org_engine.specs.Step.{DayAgenda, Unread};
 ghost use Rattle.org_engine.specs.Places.{IsDays, agenda_in, days_shown};
-ghost use Rattle.org_engine.specs.Views.{days_over};
 
 use crate::question::Form;
 use crate::shows::{Render, render_view};
@@ -20,7 +19,7 @@ use org_agenda::{Agenda, AsOf, Stamps};
 use org_base::{Code, Fault, MOST_DAYS, Meter, Profile};
 use org_cal::{Day, LAST_DAY};
 use org_inherit::Inherits;
-use org_layout::{Line, agenda_lines, agenda_text};
+use org_layout::{Line, agenda_lines};
 use org_near::DatedStamps;
 use org_store::ParsedFile;
 use org_text::Text;
@@ -79,7 +78,7 @@ struct Days {
 impl Render for Days {
     ghost named = { λ d. None };
 
-    ghost shown = { λ d scopes. days_over d.as_of.profile scopes d.as_of.today d.first d.count };
+    ghost efforts = { λ d. false };
 
     ghost lines = { λ d scopes. days_shown d.as_of.profile scopes d.as_of.today d.first d.count };
 
@@ -95,17 +94,8 @@ impl Render for Days {
         Some(self.as_of.profile)
     }
 
-    fn text(
-        &self,
-        alloc: Global,
-        meter: &mut Meter,
-        inherits: &Inherits<'_>,
-        files: &[ParsedFile],
-    ) -> Result<String, Fault> {
-        let agenda = agenda_of(alloc, meter, inherits, files, self)?;
-        let mut text = String::new(alloc);
-        agenda_text(alloc, &mut text, inherits, &agenda)?;
-        Ok(text)
+    fn with_effort(&self) -> bool {
+        false
     }
 
     fn lines(

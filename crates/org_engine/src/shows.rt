@@ -1,5 +1,5 @@
 //! One way from the files of a world to what a view shows of them.
-ghost use Rattle.std.specs.Prelude.{◌≡◌, ℕ, List, None, Option, IfOk, OnOk, OnErr, IsOkUnless};
+ghost use Rattle.std.specs.Prelude.{◌≡◌, ℕ, Bool, List, None, Option, IfOk, OnOk, OnErr, IsOkUnless};
 ghost use Rattle.std.specs.List.{AllZip};
 ghost use Rattle.std.specs.Option.{option_copied};
 ghost use Rattle.org_base.specs.Codes.{memory_fault};
@@ -8,11 +8,11 @@ ghost use Rattle.org_stamp_index.specs.Held.{scope_in};
 ghost use Rattle.org_near.specs.Stamps.{IsOf};
 ghost use Rattle.org_index.specs.Ticks.{examined};
 ghost use Rattle.org_inherit.specs.Scope.{Scope};
-ghost use Rattle.org_engine.specs.Outlines.{AreRead, outlines_of, scopes_of};
+ghost use Rattle.org_engine.specs.Outlines.{AreRead, outlines_of};
 ghost use Rattle.org_engine.specs.Marks.{ExaminesSome, ReadsAll, ReadsSome};
 ghost use Rattle.org_layout.specs.declared.shown.Line.{Line};
-ghost use Rattle.org_engine.specs.Places.{in_form};
-ghost use Rattle.org_engine.specs.Views.{is_wanted, scopes_named, scopes_over};
+ghost use Rattle.org_engine.specs.Places.{view_over};
+ghost use Rattle.org_engine.specs.Views.{is_wanted, scopes_over};
 
 use crate::outlines::read_world;
 use crate::places::places_text;
@@ -20,7 +20,7 @@ use crate::question::Form;
 use crate::world::World;
 use org_base::{Fault, Meter, Profile, Texts};
 use org_inherit::{Inherit, Inherits};
-use org_layout::Line;
+use org_layout::{Line, lines_text};
 use org_store::ParsedFile;
 use org_text::Text;
 use std::alloc::Global;
@@ -30,13 +30,13 @@ pub(crate) trait Render {
     // The name of the one file that it is over; none where it is over all.
     ghost named: { Self → Option (List ℕ) };
 
-    // The text, by what inheritance looks at in each of these files.
-    ghost shown: { Self → List Scope → List ℕ };
+    // Whether its rows show efforts.
+    ghost efforts: { Self → Bool };
 
-    // What the lines of that text stand for.
+    // Its lines, by what inheritance looks at in each of these files.
     ghost lines: { Self → List Scope → List Line };
 
-    // How many stamps it examines for either.
+    // How many stamps it examines for them.
     ghost examines: { Self → List Scope → ℕ };
 
     // What holds where it may examine stamps at all.
@@ -49,24 +49,12 @@ pub(crate) trait Render {
     // The profile in which it asks for stamps by their days; None where it goes over all headings.
     fn profile(&self) -> Option<Profile>;
 
-    // The text over these files; of a view over all of them it is given too what they say. The meter counts the stamps that are
-    // examined. Out of memory is the only refusal, and then some may have been counted.
-    fn text(
-        &self,
-        alloc: Global,
-        meter: &mut Meter,
-        inherits: &Inherits<'_>,
-        files: &[ParsedFile],
-    ) -> Result<String, Fault>
-        requires read { AreRead inherits.now }
-        requires same { named self.now ≡ None → AllZip IsOf files.now inherits.now }
-        ensures value { GivesText result (shown self.now inherits.now) }
-        ensures counts { OnOk result (meter.new ≡ examined (examines self.now inherits.now) meter.old) }
-        ensures partial { OnErr result (ExaminesSome (may self.now) meter.old meter.new) }
-        ensures memory { IsOkUnless result memory_fault };
+    // Whether its rows show efforts.
+    fn with_effort(&self) -> bool
+        ensures value { result ≡ efforts self.now };
 
-    // What the lines of that text stand for, over the same files. It counts and is refused as the text; some stamps may have
-    // been examined either way.
+    // Its lines over these files; of a view over all of them it is given too what they say. The meter counts the stamps that are
+    // examined. Out of memory is the only refusal; some stamps may have been examined either way.
     fn lines(
         &self,
         alloc: Global,
@@ -91,7 +79,7 @@ pub(crate) fn render_view<T: Text, V: Render>(
     view: &V,
     form: Form,
 ) -> Result<String, Fault>
-    ensures value { GivesText result (in_form form (V.named view.now) (V.shown view.now) (V.lines view.now) world.old.world) }
+    ensures value { GivesText result (view_over form (V.named view.now) (V.efforts view.now) (V.lines view.now) world.old.world) }
     ensures read { OnOk result (ReadsAll (V.examines view.now (scopes_over (V.named view.now) world.old.world)) world.old world.new meter.old meter.new) }
     ensures partial { OnErr result (ReadsSome (V.may view.now) world.old world.new meter.old meter.new) }
     ensures memory { IsOkUnless result memory_fault }
@@ -110,19 +98,17 @@ fn render_over<T: Text, V: Render>(
     form: Form,
 ) -> Result<String, Fault>
     requires read { outlines.now ≡ outlines_of world.now.world }
-    ensures value { GivesText result (in_form form (V.named view.now) (V.shown view.now) (V.lines view.now) world.now.world) }
+    ensures value { GivesText result (view_over form (V.named view.now) (V.efforts view.now) (V.lines view.now) world.now.world) }
     ensures counts { OnOk result (meter.new ≡ examined (V.examines view.now (scopes_over (V.named view.now) world.now.world)) meter.old) }
     ensures partial { OnErr result (ExaminesSome (V.may view.now) meter.old meter.new) }
     ensures memory { IsOkUnless result memory_fault }
 {
     let by_days = view.profile().is_some();
     let inherits = inherits_named(alloc, world, outlines, view.file(), by_days)?;
+    let lines = view.lines(alloc, meter, &inherits, outlines)?;
     match form {
-        Form::Text => view.text(alloc, meter, &inherits, outlines),
-        Form::Places => {
-            let lines = view.lines(alloc, meter, &inherits, outlines)?;
-            Ok(places_text(alloc, world, view.file(), lines.as_slice())?)
-        }
+        Form::Text => lines_text(alloc, &inherits, view.with_effort(), lines.as_slice()),
+        Form::Places => Ok(places_text(alloc, world, view.file(), lines.as_slice())?),
     }
 }
 
@@ -135,7 +121,7 @@ fn inherits_named<'a, T: Text>(
     by_ancestors: bool,
 ) -> Result<Inherits<'a>, Fault>
     requires read { outlines.now ≡ outlines_of world.now.world }
-    ensures value { Gives result (scopes_named (option_copied file.entry) (scopes_of world.now.world)) }
+    ensures value { Gives result (scopes_over (option_copied file.entry) world.now.world) }
     ensures read { IfOk result AreRead }
     ensures memory { IsOkUnless result memory_fault }
 {

@@ -6,10 +6,10 @@ ghost use Rattle.org_client.specs.Files.{AreRead};
 ghost use Rattle.org_overview.specs.Tables.{GivesSums, row_minutes, sums_minutes, wish_rows};
 
 use crate::rows::{Linked, page_row};
-use crate::words::{month_name, short_name};
-use org_agenda::{Row, RowKind};
+use crate::words::short_name;
+use org_agenda::Row;
 use org_base::Fault;
-use org_client::hundredths;
+use org_client::{hundredths, month_name};
 use org_clocktable::{Of, TableRow, counted_files, step_rows};
 use org_page::{Sum, SumOf, Sums};
 use org_text::Text;
@@ -95,7 +95,7 @@ fn shown_of<T: Text>(alloc: Global, seen: &Linked<'_, '_, T>, of: Of) -> Result<
         Of::All => Ok(SumOf::All),
         Of::File(file) => Ok(SumOf::File(file_name(alloc, seen, file)?)),
         Of::Heading(file, heading, level) => {
-            let row = page_row(alloc, seen, &heading_row(file, heading))?;
+            let row = page_row(alloc, seen, &Row::of_heading(file, heading))?;
             Ok(SumOf::Heading(row.words, row.link, level))
         }
     }
@@ -110,18 +110,4 @@ fn file_name<T: Text>(
         return Ok(String::new(alloc));
     }
     short_name(alloc, seen.files.file(file).name())
-}
-
-// A list's row of a heading.
-fn heading_row(file: usize, heading: usize) -> Row {
-    Row {
-        kind: RowKind::Listed,
-        start: None,
-        end: None,
-        number: 0,
-        of: 0,
-        file,
-        heading,
-        stamp_at: 0,
-    }
 }

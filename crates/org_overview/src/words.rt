@@ -1,48 +1,8 @@
 //! What a page calls days, weeks, months and files.
 
 use org_cal::{Day, Period, day_name, push_date};
+use org_client::{full_day_name, month_name, short_month};
 use std::alloc::{AllocError, Global};
-
-const MONTHS: [&str; 12] = [
-    "January",
-    "February",
-    "March",
-    "April",
-    "May",
-    "June",
-    "July",
-    "August",
-    "September",
-    "October",
-    "November",
-    "December",
-];
-
-/// The English name of a month, 1 to 12.
-pub(crate) fn month_name(month: u8) -> &'static str {
-    match MONTHS.get(usize::from(month).saturating_sub(1)) {
-        Some(name) => name,
-        None => "",
-    }
-}
-
-// The first three letters of a month's name.
-fn short_month(month: u8) -> &'static str {
-    month_name(month).get(..3).unwrap_or("")
-}
-
-// The whole English name of a day.
-fn full_day_name(day: Day) -> &'static str {
-    match (day.number() + 6) % 7 {
-        0 => "Monday",
-        1 => "Tuesday",
-        2 => "Wednesday",
-        3 => "Thursday",
-        4 => "Friday",
-        5 => "Saturday",
-        _ => "Sunday",
-    }
-}
 
 /// A date, `YYYY-MM-DD`.
 pub(crate) fn date_of(alloc: Global, day: Day) -> Result<String, AllocError> {

@@ -10,7 +10,7 @@ use crate::words::print_words;
 use clap::ArgMatches;
 use org_answer::{
     Form, Picture, PrintOptions, Query, Question, WordKind, answer, answer_bytes, calendar_picture,
-    check, day_picture, has_row, has_stamp, ical_of, lines_within, picture_bytes,
+    check, clock_picture, day_picture, has_row, has_stamp, ical_of, lines_within, picture_bytes,
 };
 use org_base::Fault;
 use org_cal::Moment;
@@ -255,7 +255,7 @@ fn printed_of(
     let properties = property_names(alloc, look.properties)?;
     let has_stamps = look.tells_stamps() && lines.iter().any(has_stamp);
     let files = LoadReport::new(alloc, file_set, inherits, properties, has_stamps)?;
-    let text = answer_bytes(alloc, &files, answer.text.as_str(), lines, look)?;
+    let text = answer_bytes(alloc, &files, &answer, look)?;
     let has_row = answer.has_row();
     give_back(answer, look.is_last);
     Ok((has_row, text))
@@ -277,6 +277,10 @@ fn picture_of(
         }
         Query::Hours(days, canvas) => {
             let picture = day_picture(alloc, inherits, &chosen, *days, canvas)?;
+            Ok(Some(picture))
+        }
+        Query::Clock(table) if table.is_chart => {
+            let picture = clock_picture(alloc, inherits, table, question.moment)?;
             Ok(Some(picture))
         }
         _ => Ok(None),

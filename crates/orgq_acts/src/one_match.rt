@@ -125,6 +125,5 @@ fn candidate_lines(
         limit: None,
         is_last: true,
     };
-    let (view, lines) = (answer.text.as_str(), answer.lines.as_slice());
-    answer_bytes(alloc, files, view, lines, &look)
+    answer_bytes(alloc, files, answer, &look)
 }

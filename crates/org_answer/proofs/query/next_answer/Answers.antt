@@ -5,5 +5,5 @@ use Rattle.org_answer.proofs.query.next_answer.Goals as goal
 
 pub returns : goal.returns
 returns c = record {
-  value = subst (λ (agenda : AgendaView). ShowsNext c.rows_ahead.result c.args.inherits.now agenda c.args.chosen.now.moment c.args.within) c.in_ok-agenda.ensures.value c.rows_ahead.ensures.value;
+  value = subst (λ (agenda : AgendaView). ShowsNext c.rows_ahead.result agenda c.args.chosen.now.moment c.args.within) c.in_ok-agenda.ensures.value c.rows_ahead.ensures.value;
 }

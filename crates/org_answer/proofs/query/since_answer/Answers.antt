@@ -6,5 +6,5 @@ use Rattle.org_answer.proofs.query.since_answer.Goals as goal
 
 pub returns : goal.returns
 returns c = record {
-  value = subst (λ (agenda : AgendaView). ShowsRows c.rows_since.result c.args.inherits.now agenda (rows_between c.args.window.now agenda)) c.in_ok-agenda.ensures.value c.rows_since.ensures.value;
+  value = subst (λ (agenda : AgendaView). ShowsRows c.rows_since.result agenda (rows_between c.args.window.now agenda)) c.in_ok-agenda.ensures.value c.rows_since.ensures.value;
 }

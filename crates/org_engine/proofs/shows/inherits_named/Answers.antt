@@ -4,6 +4,7 @@ use Rattle.org_store.specs.Outline.{outline_of, scope_in, scope_of}
 use Rattle.org_text.specs.Replace.{max_bytes}
 use Rattle.org_engine.specs.Views.{is_wanted}
 use Rattle.org_engine.specs.World.{FileView}
+use Rattle.org_engine.proofs.ListLemmas.{scopes_there}
 use Rattle.org_engine.proofs.OutlineLemmas.{made_of, there_is}
 use Rattle.org_engine.proofs.ShownLemmas.{named_all, named_more, named_read, short_more, there_within, unwanted, wanted_one}
 use Rattle.org_engine.proofs.shows.inherits_named.Goals as goal
@@ -50,6 +51,7 @@ returns-clause-value g c =
     let world = c.args.world.now.world in
     let all : length world.files ≤ c.loop-place.place = omega (arith, c.loop-place-test.false, c.count-place-end.ensures.value) in
     named_all (option_map (λ name. name.now) c.args.file) (λ (f : FileView). scope_of world.inherited f.name f.text) world.files c.loop-place.place _ _ all c.loop-place.invariant.named
+    ∙ scopes_there (option_map (λ name. name.now) c.args.file) world
 
 pub returns-clause-read : goal.returns-clause-read
 returns-clause-read g c =
@@ -59,4 +61,4 @@ returns-clause-read g c =
     named_read (option_map (λ name. name.now) c.args.file) world c.loop-place.inherits
     (λ i file there. c.loop-place.invariant.short i file (omega (arith, there_within files i file there, all)) there)
     (omega (arith, c.count-place-end.ensures.at_most, c.count-place-end.ensures.value))
-    (returns-clause-value g c)
+    (named_all (option_map (λ name. name.now) c.args.file) (λ (f : FileView). scope_of world.inherited f.name f.text) files c.loop-place.place _ _ all c.loop-place.invariant.named)

@@ -1,6 +1,5 @@
 use Rattle.std.proofs.Common.{◌∙◌, ap}
-use Rattle.org_engine.specs.Outlines.{scopes_of}
-use Rattle.org_engine.specs.Views.{scopes_named}
+use Rattle.org_engine.specs.Views.{scopes_over}
 use Rattle.org_engine.specs.World.{KeptWorld}
 use Rattle.org_engine.proofs.MarkLemmas.{on_err, read_examined, some_examined, some_read, where_err, where_ok}
 use Rattle.org_engine.proofs.shows.render_view.Goals as goal
@@ -13,7 +12,7 @@ returns-clause-value g c = rw (ap (λ (w : KeptWorld). w.world) c.in_ok-outlines
 
 pub returns-clause-read : goal.returns-clause-read
 returns-clause-read g c =
-    where_ok c.render_over.result (λ more. read_examined (g.V.Render.examines c.args.view.now (scopes_named (g.V.Render.named c.args.view.now) (scopes_of c.args.world.now.world))) c.args.world.now c.read_world.new.world c.args.meter.now c.read_world.new.meter c.render_over.new.meter c.in_ok-outlines.ensures.read more)
+    where_ok c.render_over.result (λ more. read_examined (g.V.Render.examines c.args.view.now (scopes_over (g.V.Render.named c.args.view.now) c.args.world.now.world)) c.args.world.now c.read_world.new.world c.args.meter.now c.read_world.new.meter c.render_over.new.meter c.in_ok-outlines.ensures.read more)
     (rw (ap (λ (w : KeptWorld). w.world) c.in_ok-outlines.ensures.read.0) at c.render_over.ensures.counts)
 
 pub returns-clause-partial : goal.returns-clause-partial
