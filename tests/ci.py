@@ -1,18 +1,17 @@
 #!/usr/bin/env python3
 # SPDX-License-Identifier: Apache-2.0 OR MIT
-"""`rt ci` by its own code, at less cost: the same crates are proved from nothing, and the same verdicts are asked.
+"""`rt ci` by its own code, at less cost: the same crates are proved, and the same verdicts are asked.
 
-    tests/ci.py                     at the top of the repository; prints what `rt ci` prints, and its last line is 'N passed, M failed'
+    tests/ci.py [--anew]            at the top of the repository; prints what `rt ci` prints, and its last line is 'N passed, M failed'
     tests/ci.py must-fail [NAME..]  the must-fail edits of these crates alone, as `rt must-fail`, over what `rt check` kept of them
 
-Two things are done otherwise. The sum of a crate's texts is made once: `rt` makes it anew for each way that leads from a crate to
-one below, some millions of files in all. At the end the sums are made again, and a text that changed meanwhile fails the run.
+One thing is done otherwise. A must-fail edit with lines 'only: PATH' (a function, as `rt check --only` takes it) is tried on what
+they name and what that calls, where `rt` proves the whole crate once more. What the lines name is first checked without any edit,
+and all of it has to be proved there, before the edits and behind them. An edit then counts as refused only where less of it is
+proved, and the prover says of which clause: of what a function ensures or requires, or of the invariant of a type or a loop. An
+edit without such a line, or one that isn't refused so, is tried as `rt` does, on its whole crate, which has the last word.
 
-And a must-fail edit with lines 'only: PATH' (a function, as `rt check --only` takes it) is tried on what they name and what that
-calls, where `rt` proves the whole crate once more. What the lines name is first checked without any edit, and all of it has to be
-proved there. An edit then counts as refused only where less of it is proved, and the prover says of which clause: of what a
-function ensures or requires, or of the invariant of a type or a loop. An edit without such a line, or one that isn't refused
-so, is tried as `rt` does, which has the last word.
+And a text that changed while it was proved fails the run.
 
 All this rests on how `rt` is written inside. Each thing that is used is looked at first: what isn't there as it is expected is
 left to `rt` itself, which costs time and changes no verdict, and a line that begins with 'ci:' says so.
@@ -30,13 +29,19 @@ sys.dont_write_bytecode = True
 # What is used of `rt`, by the names of the parameters that it is called with.
 RUNS = {"main": "words", "rtlib.guarded": ""}
 EDITS = {
-    "must_fail_all": "crate edits flags",
+    "add_edits": "tasks crate edits first waits is_well kept start in_ci",
     "must_fail": "crate edit flags kept",
     "checked": "crate texts flags kept",
     "read_edit": "edit folder",
     "unread": "line changed",
+    "need": "crate",
+    "Kept.key": "self crate",
+    "Kept.of_edit": "self edit sum",
+    "Kept.tried": "self name",
+    "Kept.keep_tried": "self name kind text",
+    "Kept.is_untouched": "self crate",
 }
-SUMS = {"rtlib.Crate.stamp": "self", "rtlib.crates_below": "top"}
+SUMS = {"stamp_of": "crate seen", "rtlib.crates_below": "top"}
 # The last line of a check of some functions alone: how many were asked for, and how many of them are proved.
 LAST = re.compile(r"only=(\d+) proved=(\d+)")
 # What the prover says where a clause or an invariant isn't met: at the source, or in the answer to a goal that one makes; but not
@@ -103,7 +108,28 @@ class Edits:
 
     def __init__(self, rt, kept_of=lambda crate: ""):
         # (kept_of gives the folder of a crate's kept work, of which a copy is taken, or nothing)
-        self.rt, self.own, self.kept_of = rt, rt.must_fail_all, kept_of
+        self.rt, self.kept_of = rt, kept_of
+
+    def add(self, tasks, crate, edits, first, waits, is_well, kept, start=None, in_ci=True):
+        """Adds the task that tries a crate's edits: what `rt` asks of its `add_edits`. Returns what gives their results, in the edits' order,
+        and what gives those of earlier runs."""
+        key, earlier = (crate.name, "edits", 0), {}
+
+        def try_all(given, jobs):
+            names = [kept.of_edit(it, kept.key(crate)) for it in edits] if in_ci else []
+            earlier.update((at, it) for at, it in enumerate(map(kept.tried, names)) if it)
+            if not is_well(given, len(edits) - len(earlier)):
+                return []
+            left = [it for at, it in enumerate(edits) if at not in earlier]
+            told = self.all(crate, left, ["--jobs", "1"], start or self.kept_of(crate))
+            for at, name in enumerate(names):
+                if at not in earlier and told[edits[at]][0] == self.rt.REFUSED and kept.is_untouched(crate):
+                    kept.keep_tried(name, *told[edits[at]])
+            return [earlier.get(at) or told[it] for at, it in enumerate(edits)]
+
+        if edits:
+            tasks[key] = (waits, crate.count(rb"\n"), self.rt.need(crate), try_all)
+        return lambda given: given.get(key, []), lambda: earlier
 
     def count(self, crate, texts, flags, kept, paths):
         """Checks what the paths name, with these texts in place of the crate's. Returns how many functions were asked for, how many of them
@@ -132,7 +158,7 @@ class Edits:
             said = refusal(lines)
             if left < found and said and self.is_read(lines, texts):
                 label = f"must-fail {crate.name}/{os.path.basename(edit)}"
-                told[edit] = True, f"{label}: refused, as it must be (of {' '.join(named[edit])} {left} of {found} proved): {said[:200]}"
+                told[edit] = self.rt.REFUSED, f"{label}: refused, as it must be (of {' '.join(named[edit])} {left} of {found} proved): {said[:200]}"
             else:
                 print(f"ci: {crate.name}/{os.path.basename(edit)} isn't refused in a clause of {' '.join(named[edit])}, so it is tried on the whole crate", flush=True)
         return told if told and self.is_proved(crate, flags, kept, paths) else {}
@@ -145,63 +171,62 @@ class Edits:
             print(f"ci: {crate.name}: {' '.join(paths)} can't be proved alone: {lines[-1][:200]}", flush=True)
         return is_so
 
-    def all(self, crate, edits, flags):
-        """Tries the edits of a crate: what `rt` asks of its `must_fail_all`."""
+    def all(self, crate, edits, flags, was):
+        """Tries the edits of a crate, over a copy of what was kept, where a folder is named. Returns what each comes to, and what to say."""
         told = {}
-        with tempfile.TemporaryDirectory(prefix="rt-edits-") as room:
+        with tempfile.TemporaryDirectory(prefix=f"rt-edits-{os.getpid()}-") as room:
             try:
-                kept, was = f"{room}/kept", self.kept_of(crate)
+                kept = f"{room}/kept"
                 if was and os.path.isdir(was):
                     shutil.copytree(was, kept)
                 told = self.alone(crate, edits, flags, kept)
             except (Exception, SystemExit) as error:
                 print(f"ci: {crate.name}: edits can't be tried alone ({type(error).__name__}: {error}), so they are tried on the whole crate", flush=True)
-        rest = [it for it in edits if it not in told]
-        told.update(zip(rest, self.own(crate, rest, flags) if rest else []))
-        return [told[it] for it in edits]
+        return {it: told.get(it) or self.rt.must_fail(crate, it, flags) for it in edits}
 
 
 class Sums:
-    """The sums of crates' texts, each made once: those of the crates that `crates.txt` lists before anything else is done."""
+    """The sums of crates' texts, as they are when this is made: of all that `crates.txt` lists."""
 
     def __init__(self, rt):
-        self.made, self.own, self.crates = {}, rt.rtlib.Crate.stamp, {}
-        rt.rtlib.Crate.stamp = lambda crate: self.of(crate)
+        self.rt, self.made, self.crates = rt, {}, []
         try:
-            for crate in rt.rtlib.crates_below(os.getcwd()):
-                self.of(crate)
+            self.crates = rt.rtlib.crates_below(os.getcwd())
+            self.made = self.now()
         except (Exception, SystemExit):
             # (`rt` says itself what is wrong)
             pass
 
+    def now(self):
+        seen = {}
+        return {it.name: self.rt.stamp_of(it, seen) for it in self.crates}
+
     def of(self, crate):
-        """Returns a crate's sum: what `rt` asks of its `Crate.stamp`."""
-        if crate.folder not in self.made:
-            self.made[crate.folder], self.crates[crate.folder] = self.own(crate), crate
-        return self.made[crate.folder]
+        """Returns a crate's sum."""
+        return self.made.get(crate.name)
 
     def changed(self):
-        """Returns the crates whose texts aren't as they were when their sums were made."""
-        before, self.made = self.made, {}
-        return sorted(os.path.basename(it) for it, crate in [*self.crates.items()] if before[it] != self.of(crate))
+        """Returns the crates whose texts, or those of a crate below, aren't as they were when their sums were made."""
+        now = self.now() if self.made else {}
+        return sorted(it for it, sum in self.made.items() if sum != now[it])
 
 
-def main(words):
-    """Runs `rt ci`, or `rt must-fail`, at less cost where this `rt` lets it."""
+def main(words, look=lambda rt: None):
+    """Runs `rt ci`, or `rt must-fail`, at less cost where this `rt` lets it. What `look` does with that `rt` is done first."""
     rt = toolchain()
     if rt is None or not has(rt, RUNS, f"all is left to `rt {words[0]}`"):
         sys.stdout.flush()
         os.execvp("rt", ["rt", *words])
     sums = None
-    if words == ["ci"] and has(rt, SUMS, "sums are made as often as it makes them"):
+    look(rt)
+    if words[0] == "ci" and has(rt, SUMS, "nothing looks whether texts change while they are proved"):
         sums = Sums(rt)
     if has(rt, EDITS, "each edit is tried on its whole crate"):
-        kept_of = (lambda crate: f"{crate.folder}/out/incremental") if words[0] == "must-fail" else (lambda crate: "")
-        rt.must_fail_all = Edits(rt, kept_of).all
+        rt.add_edits = Edits(rt).add
     try:
         status = rt.main(words)
     except Exception as error:
-        print(f"ci: {type(error).__name__}: {error}; so all is begun again, by `rt {words[0]}`", flush=True)
+        print(f"ci: {type(error).__name__}: {error}; so all is begun again, by `rt {' '.join(words)}`", flush=True)
         os.execvp("rt", ["rt", *words])
     changed = sums.changed() if sums else []
     if changed:
@@ -211,6 +236,6 @@ def main(words):
 
 
 if __name__ == "__main__":
-    if sys.argv[1:] and sys.argv[1] != "must-fail":
+    if sys.argv[1:] not in ([], ["--anew"]) and sys.argv[1:2] != ["must-fail"]:
         sys.exit(__doc__)
-    sys.exit(main(sys.argv[1:] or ["ci"]))
+    sys.exit(main(sys.argv[1:] if sys.argv[1:2] == ["must-fail"] else ["ci", *sys.argv[1:]]))

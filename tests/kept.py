@@ -13,6 +13,9 @@ taken only where nobody else can write to it; each file has a sum, and a crate o
 Where nothing is kept, `gate` is tests/ci.py: everything is proved from nothing. So it is with WHOLE=1, and wherever something
 isn't as it is expected, as the folder, its room or how `rt` is written inside. Else there are two stages.
 
+What `rt ci` itself proved from nothing on this machine, of the same files over libraries of the same files, it keeps beside the
+toolchain and takes again; so it does here, but with WHOLE=1, where this run proves everything.
+
 First all that `rt ci` does, but a function that the prover finds kept and up to date isn't proved again; a verdict's last line then
 has incremental=trusted. Then, until MINUTES after the start (150), crates are proved from nothing: first those that FIRST names,
 then those that were left out for want of time a week ago, then those whose texts, or those of a crate below, never were, then
@@ -44,7 +47,7 @@ import ci
 START = time.monotonic()
 # What of `rt` is used beside what tests/ci.py uses, by the names of the parameters.
 PARTS = {
-    "ci_from_nothing": "aside",
+    "ci_over": "aside anew names origin",
     "processors": "",
     "free": "",
     "say": "text out",
@@ -52,6 +55,10 @@ PARTS = {
     "Crate.ci": "self flags tests",
     "Crate.link": "self made program",
     "Crate.compile_by": "self backend words to",
+    "Kept.key": "self crate",
+    "Kept.place": "self crate tests key",
+    "Kept.give": "self crate tests key",
+    "Kept.keep": "self crate tests key",
     "rtlib.Crate.words": "self flags tests keeps as_source",
     "rtlib.Crate.build_rlib": "self flags anew",
     "rtlib.Crate.has_tests": "self",
@@ -59,8 +66,11 @@ PARTS = {
     "rtlib.crates_below": "top",
 }
 # These are done otherwise over kept work, so their text has to be what it was when that was written: its sum.
-TEXTS = ("ci_from_nothing", "crates_of", "Crate.prove", "Crate.ci", "Crate.link", "Crate.compile_by", "rtlib.Crate.prove", "rtlib.Crate.build_rlib", "rtlib.Crate.words")
-KNOWN_TEXTS = {"0193229fde74e16b4a6076ca7c2ad698dcaea0e4ce9659fa63899eaeb599e99e"}
+TEXTS = (
+    *("ci_over", "crates_of", "Kept.key", "Kept.give", "Kept.keep", "Kept.place", "Crate.prove", "Crate.ci", "Crate.link", "Crate.compile_by"),
+    *("rtlib.Crate.prove", "rtlib.Crate.build_rlib", "rtlib.Crate.words"),
+)
+KNOWN_TEXTS = {"c1f9a822f86029586593c4b2085a1f112a43583551b1e3466faeeab798095ce4"}
 # What the kept work of all crates takes at most, and what has to be free beside what is there already.
 MOST_KEPT, LEAST_FREE = 15_000_000_000, 4_000_000_000
 WEEK = 7 * 86_400
@@ -187,10 +197,10 @@ class Store:
                 print(f"kept: what was kept of {key} isn't as the last check left it, and is thrown away", flush=True)
                 self.drop(key)
 
-    def note(self, key, stamp, seconds, commit):
-        """Writes down that a crate was proved from nothing by this run."""
+    def note(self, key, stamp, seconds, commit, at=None):
+        """Writes down that a crate was proved from nothing: by this run, or at the time that is given."""
         with self.guard:
-            self.proved[key] = {"stamp": stamp, "at": time.time(), "seconds": seconds, "commit": commit}
+            self.proved[key] = {"stamp": stamp, "at": at or time.time(), "seconds": seconds, "commit": commit}
             write(self.proved, f"{self.path}/proved.json")
 
     def note_left(self, key):
@@ -297,6 +307,25 @@ def class_over(rt, store, anew):
     return Kept
 
 
+def noting(rt, taken, is_from_nothing=lambda key: True):
+    """Returns a class of what `rt` keeps itself of crates that it proved from nothing. What it gives is noted in `taken`, with the time of
+    that proof; what wasn't proved from nothing it doesn't get."""
+    plain = rt.Kept
+
+    class Own(plain):
+        def give(self, crate, tests, key):
+            is_given = super().give(crate, tests, key)
+            if is_given:
+                taken[key_of(crate.name, tests)] = os.path.getmtime(f"{self.place(crate, tests, key)}/made.json")
+            return is_given
+
+        def keep(self, crate, tests, key):
+            if is_from_nothing(key_of(crate.name, tests)):
+                super().keep(crate, tests, key)
+
+    return Own
+
+
 def parts_of(path):
     """Returns the front of a kept file, which says of which texts it is, and the file's sum."""
     with open(path, "rb") as it:
@@ -320,8 +349,8 @@ def differing(kept, fresh):
 class Turns:
     """The second stage: which crates are proved from nothing, in which order, while the time lasts."""
 
-    def __init__(self, rt, store, sums, anew):
-        self.rt, self.store, self.sums, self.anew = rt, store, sums, anew
+    def __init__(self, rt, store, sums, anew, taken):
+        self.rt, self.store, self.sums, self.anew, self.taken = rt, store, sums, anew, taken
         self.minutes = number("MINUTES", 150)
         self.first = (os.environ.get("FIRST") or "").split()
         self.guard, self.failed = threading.Lock(), []
@@ -350,7 +379,7 @@ class Turns:
         """Proves crates from nothing while the time lasts. Returns what failed."""
         self.crates = crates
         waiting = [(it, key_of(it.name, tests)) for it in crates for tests in (False, True) if not tests or it.has_tests()]
-        waiting = sorted((it for it in waiting if it[1] not in self.anew), key=lambda it: self.rank(*it))
+        waiting = sorted((it for it in waiting if it[1] not in self.anew and it[1] not in self.taken), key=lambda it: self.rank(*it))
         lanes = number("RT_JOBS", self.rt.processors())
         with ThreadPoolExecutor(lanes) as pool:
             for it in [pool.submit(self.lane, waiting) for _ in range(lanes)]:
@@ -394,21 +423,39 @@ class Turns:
                 print(f"kept: {told(key)} proved from nothing", flush=True)
 
 
-def say_at_end(lines, path):
+def say_at_end(lines, path, is_shown=True):
     """Prints lines, and writes them into a file, where one is named, for the end of the gate."""
-    print("\n".join(lines), flush=True)
+    if is_shown:
+        print("\n".join(lines), flush=True)
     if path:
         with open(path, "w", encoding="utf-8") as it:
             it.write("".join(f"{line}\n" for line in lines))
 
 
-def report(crates, store, sums, anew):
+def keys_of(crates):
+    """Returns what is to be proved: crates, and those that have tests with them too."""
+    return [(it, key_of(it.name, tests)) for it in crates for tests in (False, True) if not tests or it.has_tests()]
+
+
+def say_ours(keys, is_ours):
+    """Returns the line that says what this run proved from nothing."""
+    ours = [told(key) for _, key in keys if is_ours(key)]
+    return f"kept: {len(ours)} of {len(keys)} proofs were made from nothing by this run: {', '.join(ours) or 'none'}"
+
+
+def say_taken(key, at):
+    """Returns the line of what an earlier run proved from nothing."""
+    return f"kept: {told(key)} was proved from nothing by an earlier run, of the same files: {time.strftime('%Y-%m-%d %H:%M', time.gmtime(at))}"
+
+
+def report(crates, store, sums, anew, taken):
     """Returns lines that say which crates were proved from nothing by this run, and of each other one when it last was."""
-    keys = [(it, key_of(it.name, tests)) for it in crates for tests in (False, True) if not tests or it.has_tests()]
-    ours = [told(key) for _, key in keys if key in anew]
-    lines = [f"kept: {len(ours)} of {len(keys)} proofs were made from nothing by this run: {', '.join(ours) or 'none'}"]
+    keys = keys_of(crates)
+    lines = [say_ours(keys, lambda key: key in anew)]
     for crate, key in keys:
-        if key not in anew:
+        if key in taken and key not in anew:
+            lines.append(say_taken(key, taken[key]))
+        elif key not in anew:
             row = store.proved.get(key, {})
             when = f"{time.strftime('%Y-%m-%d %H:%M', time.gmtime(row['at']))} at {row['commit']}" if "at" in row else "never"
             other = ", of other texts" if "at" in row and row.get("stamp") != sums.of(crate) else ""
@@ -432,52 +479,58 @@ def why_whole(rt):
 
 def in_two_stages(rt, store, path):
     """Runs both stages, within `rt ci`: behind its end crates/*/out has again what the session's own checks had left there."""
-    anew, sums, stage_one = {}, ci.Sums(rt), rt.ci_from_nothing
-    rt.must_fail_all = ci.Edits(rt, lambda crate: store.of(crate.name)).all
+    anew, taken, sums, stage_one = {}, {}, ci.Sums(rt), rt.ci_over
+    rt.add_edits = ci.Edits(rt, lambda crate: store.of(crate.name)).add
     rt.Crate = class_over(rt, store, anew)
+    rt.Kept = noting(rt, taken, lambda key: key in anew)
     # A verdict's last line may have this one word more.
     rt.rtlib.VERDICT = re.compile(rt.rtlib.VERDICT.pattern.replace(r"\n\Z", r"( incremental=trusted)?\n\Z"), re.M)
 
-    def both(aside):
-        status = stage_one(aside)
+    def both(*given):
+        status = stage_one(*given)
         crates = rt.rtlib.crates_below(os.getcwd())
         by_key = {key_of(it.name, tests): it for it in crates for tests in (False, True)}
         for key, seconds in anew.items():
             store.note(key, sums.of(by_key[key]), seconds, commit())
         if status:
             return status
-        failed = Turns(rt, store, sums, anew).run(crates)
+        failed = Turns(rt, store, sums, anew, taken).run(crates)
         changed = sums.changed()
         failed += [f"{it} (its texts changed meanwhile)" for it in changed]
-        say_at_end([*report(crates, store, sums, anew), *([f"kept: FAILED: {', '.join(failed)}"] if failed else [])], path)
+        say_at_end([*report(crates, store, sums, anew, taken), *([f"kept: FAILED: {', '.join(failed)}"] if failed else [])], path)
         if failed:
             print(f"0 passed, {len(failed)} failed", flush=True)
         return 1 if failed else 0
 
-    rt.ci_from_nothing = both
+    rt.ci_over = both
     # (each check may need more memory than one from nothing does)
     os.environ["RT_JOBS"] = str(max(1, min(number("RT_JOBS", rt.processors()), int(0.85 * rt.free() / MOST_MEMORY))))
     return rt.main(["ci"])
 
 
-def say_whole(path):
-    """Writes for the end of the gate that everything was proved from nothing."""
-    if path:
-        with open(path, "w", encoding="utf-8") as it:
-            it.write("kept: everything was proved from nothing\n")
+def whole(path, is_asked=False):
+    """Proves everything from nothing, but what an earlier run of `rt ci` proved so, where WHOLE doesn't ask for all. Where that is done, and
+    there is a store, it has that every crate was."""
+    taken, made, says = {}, [], ["kept: everything was proved from nothing"]
+    # (it stays so where `rt` can't be looked into)
+    say_at_end(says if is_asked else [f"{says[0]}, by this run or by an earlier one"], path, is_shown=False)
 
+    def look(rt):
+        if not ci.lacking(rt, {it: PARTS[it] for it in ("Kept.place", "Kept.give", "Kept.keep")}):
+            rt.Kept = noting(rt, taken)
+        made.append(rt)
 
-def whole(path):
-    """Proves everything from nothing. Where that is done, and there is a store, it has that every crate was."""
-    say_whole(path)
-    status = ci.main(["ci"])
-    rt = ci.toolchain() if not status else None
+    status = ci.main(["ci", "--anew"] if is_asked else ["ci"], look)
+    rt = made[0] if made and not status else None
+    keys = keys_of(rt.rtlib.crates_below(os.getcwd())) if rt else []
+    if taken:
+        says = [say_ours(keys, lambda key: key not in taken), *(say_taken(key, at) for key, at in sorted(taken.items()))]
+    say_at_end(says, path)
     store, lock, why = opened(rt, makes=False) if rt and not why_whole(rt) else (None, None, "")
     if store:
         sums = ci.Sums(rt)
-        for crate in sums.crates.values():
-            for key in (key_of(crate.name, tests) for tests in (False, True) if not tests or crate.has_tests()):
-                store.note(key, sums.of(crate), store.proved.get(key, {}).get("seconds"), commit())
+        for crate, key in keys:
+            store.note(key, sums.of(crate), store.proved.get(key, {}).get("seconds"), commit(), taken.get(key))
     return status
 
 
@@ -494,15 +547,15 @@ def gate(path=None):
         why = "" if store.keys() else "nothing is kept"
     if why:
         print(f"kept: everything is proved from nothing: {why}", flush=True)
-        return whole(path)
+        return whole(path, why == "WHOLE is set")
     print(f"kept: over what {store.path} has of {len(store.keys())} proofs", flush=True)
     try:
         return in_two_stages(rt, store, path)
     except Exception as error:
         # (by a process of its own: nothing of what was put into this `rt` is to stay)
         print(f"kept: {type(error).__name__}: {error}; so all is begun again, from nothing", flush=True)
-        say_whole(path)
-        os.execvp("python3", ["python3", os.path.realpath(ci.__file__)])
+        os.environ["WHOLE"] = "1"
+        os.execvp("python3", ["python3", os.path.realpath(__file__), "gate", *([path] if path else [])])
 
 
 def keep(was, store, key):

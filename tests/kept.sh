@@ -26,6 +26,7 @@ chmod 755 "$work/kit/bin"/*
 PATH=$work/kit/bin:$PATH XDG_CACHE_HOME=$work/cache
 export PATH XDG_CACHE_HOME
 unset WHOLE MINUTES FIRST RT_JOBS
+again=""
 
 # Three crates, one above the other; the lowest has a test and edits, the topmost is a program.
 mkdir -p "$work/tree/tests"
@@ -46,6 +47,8 @@ gate() {
     name=$1
     wanted=$2
     shift 2
+    # (what `rt ci` keeps itself is beside the kit; it is taken where a case wants that)
+    [ -n "$again" ] || rm -rf "$work/rattle-kept"
     python3 tests/kept.py gate "$work/end" > "$work/said" 2>&1
     status=$?
     is_so=yes
@@ -105,8 +108,20 @@ sed -i 's/x + 1/wrong/' crates/low/src/lib.rt
 gate "a wrong body" 1 "low NOT PROVED" "that was over kept work; WHOLE=1" "!from nothing by this run"
 git checkout -q crates
 WHOLE=1 && export WHOLE
-gate "WHOLE=1" 0 "from nothing: WHOLE is set" "low: modules loaded=0 checked=3" "!incremental=trusted"
+gate "WHOLE=1" 0 "from nothing: WHOLE is set" "low: modules loaded=0 checked=3" "!incremental=trusted" "^kept: everything was proved from nothing$"
+again=yes
+gate "WHOLE=1, where rt itself keeps all" 0 "low: modules loaded=0 checked=3" "^kept: everything was proved from nothing$"
 unset WHOLE
+gate "kept work, where rt itself keeps all" 0 "rt: low is kept: an earlier run" "^kept: 0 of 4 proofs were made from nothing by this run: none$" \
+    "^kept: low was proved from nothing by an earlier run, of the same files: 20" "2 of its 2 must-fail edits were tried by an earlier run" "!modules loaded"
+sed -i '1i // more' crates/mid/src/lib.rt
+gate "kept work of one, where rt keeps another" 0 "rt: low is kept: an earlier run" "mid: modules loaded=1 checked=0" "^kept: mid rests on kept work"
+gate "what was proved over kept work rt itself doesn't keep" 0 "mid: modules loaded=1 checked=0" "!rt: mid is kept"
+git checkout -q crates
+mv "$work/cache/orgviews/kept" "$work/cache/orgviews/away"
+gate "nothing is kept but what rt itself keeps" 0 "from nothing: nothing is kept" "^kept: 0 of 4 proofs were made from nothing by this run: none$" "^kept: top was proved from nothing by an earlier run"
+mv "$work/cache/orgviews/away" "$work/cache/orgviews/kept"
+again=""
 chmod 777 "$work/cache/orgviews/kept"
 gate "others can write to the folder" 0 "from nothing: others can write to" "!incremental=trusted"
 chmod 700 "$work/cache/orgviews/kept"
@@ -117,7 +132,9 @@ gate "another run holds the folder" 0 "from nothing: .* Resource temporarily una
 kill "$holder"
 sed -i 's/^def checked(crate, texts, flags, kept)/def checked(crate, texts, flags, kept, more=None)/' "$work/kit/bin/rt"
 gate "an rt with another inside" 0 "this rt has no checked as it is expected, so each edit is tried on its whole crate" "^5 passed, 0 failed$" "!incremental=trusted"
-printf '#!/bin/sh\nexec "%s" "$@"\n' "$real/bin/rt" > "$work/kit/bin/rt"
-gate "an rt that is no Python" 1 "can't be read as a module" "!incremental=trusted"
+mv "$work/kit/bin/rt" "$work/kit/bin/rt.own"
+printf '#!/bin/sh\nexec "%s.own" "$@"\n' "$work/kit/bin/rt" > "$work/kit/bin/rt"
+chmod 755 "$work/kit/bin/rt"
+gate "an rt that is no Python" 0 "can't be read as a module" "^5 passed, 0 failed$" "!incremental=trusted"
 echo "kept: $passed passed, $failed failed"
 [ "$failed" -eq 0 ]
