@@ -104,9 +104,10 @@ counted access crates/orgq/out/orgq
 times > "$work/times"
 processor=$(tail -n 1 "$work/times" | tr 'ms' '  ' | awk '{ printf "%.0f", $1 + $3 + ($2 + $4) / 60 }')
 proofs=$(grep -c '^rt: [a-z_0-9]* proved$' "$work/log")
+earlier=$(grep -c '^rt: [a-z_0-9]* is kept: ' "$work/log")
 tests=$(grep -c ': its tests are proved$' "$work/log")
 edits=$(grep -c '^rt: must-fail ' "$work/log")
-echo "gate: $processor processor minutes in $((($(date +%s) - start) / 60)) minutes: $proofs crates proved, $tests with tests, $edits must-fail edits"
+echo "gate: $processor processor minutes in $((($(date +%s) - start) / 60)) minutes: $proofs crates proved and $earlier by earlier runs, $tests with tests, $edits must-fail edits"
 [ ! -s "$work/spent" ] || python3 tests/spent.py tell "$work/spent" "$processor" 2> /dev/null
 
 [ -z "$left_out" ] || echo "gate: not tried, for want of tools: $left_out"
