@@ -2,11 +2,14 @@
 use Rattle.std.specs.Prelude.{◌≡◌, ℕ, ◌++◌, List, [], ◌∷◌, Result, IfOk, OnOk, Vec, chars}
 use Rattle.std.specs.List.{flat_map}
 use Rattle.org_page.specs.Characters.{part_text}
-use Rattle.org_page.specs.Pieces.{attributes_text, page_text, titles_of}
+use Rattle.org_page.specs.Pieces.{attributes_text, page_text, piece_text, title_of, titles_of}
 use Rattle.org_page.specs.declared.character.Part.TheVariants.{Name, Words}
 use Rattle.org_page.specs.declared.draft.Draft.{Draft}
 use Rattle.org_page.specs.declared.draft.Given.{Given}
+use Rattle.org_page.specs.declared.draft.Lent.{Lent}
+use Rattle.org_page.specs.declared.draft.Lent.TheVariants.{Tag, With, Text}
 use Rattle.org_page.specs.declared.piece.Attribute.{Attribute}
+use Rattle.org_page.specs.declared.piece.Piece.{Piece}
 
 -- these characters after those of a page, unless memory is refused
 abbrev pub Puts : {T E : Type 0} → Result T E → Draft → Draft → List ℕ → Type 0
@@ -31,6 +34,19 @@ givens_text givens = flat_map given_text givens
 -- a tag with attributes that are given
 abbrev pub given_tag_text : List ℕ → List Given → List ℕ
 given_tag_text name givens = 60 ∷ (part_text Name (chars name) ++ (givens_text givens ++ 62 ∷ []))
+
+-- a piece that is lent, as it stands in a page
+abbrev pub lent_text : Lent → List ℕ
+lent_text (Tag name) = given_tag_text name.now []
+lent_text (With name given value) = given_tag_text name.now (record { name = given; value = value } ∷ [])
+lent_text (Text words) = part_text Words (chars words.now)
+
+abbrev pub lents_text : List Lent → List ℕ
+lents_text lents = flat_map lent_text lents
+
+-- a piece that stands so in a page and has no title, unless memory is refused
+abbrev pub GivesUntitled : {E : Type 0} → Result Piece E → List ℕ → Type 0
+GivesUntitled result text = IfOk result (λ piece. (piece_text piece ≡ text) × (title_of piece ≡ []))
 
 -- attributes that stand in a page as those that are given, unless memory is refused
 abbrev pub GivesAttributes : {A E : Type 0} → Result (Vec Attribute A) E → List Given → Type 0

@@ -5,8 +5,9 @@ ghost use Rattle.org_page.specs.Rows.{row_title, rows_titles};
 
 use crate::coming::put_day_of;
 use crate::day::MonthDay;
+use crate::draft::Lent::{Tag, Text, With};
 use crate::draft::{Draft, with};
-use crate::heading::{put_span, put_title};
+use crate::heading::put_title;
 use crate::row::{Row, StampPlace, Stand, color_class};
 use org_look::{Span, lanes_of};
 use std::alloc::{AllocError, Global};
@@ -131,10 +132,9 @@ pub(crate) fn put_ranges(
     if rows.is_empty() {
         return Ok(());
     }
-    draft.open("ul", &[with("class", "bars")])?;
+    draft.put(&[With("ul", "class", "bars")])?;
     put_range_rows(draft, rows, bars, column)?;
-    draft.tag("/ul")?;
-    Ok(())
+    draft.put(&[Tag("/ul")])
 }
 
 fn put_range_rows(
@@ -168,12 +168,10 @@ fn put_range(draft: &mut Draft, row: &Row, bars: &Bars, column: usize) -> Result
 fn put_range_row(draft: &mut Draft, row: &Row, day: u32, of: u32) -> Result<(), AllocError>
     ensures titles { AddsTitles result draft.old draft.new (row_title row.now ∷ []) }
 {
-    draft.open("li", &[with("class", color_class(row.color))])?;
+    draft.put(&[With("li", "class", color_class(row.color))])?;
     put_day_of(draft, day, of)?;
-    draft.words(" ")?;
     put_title(draft, row)?;
-    draft.tag("/li")?;
-    Ok(())
+    draft.put(&[Tag("/li")])
 }
 
 // A day of a bar: its lane, and over how many days its title is seen, where the bar begins on it.
@@ -206,9 +204,7 @@ fn put_bar(draft: &mut Draft, row: &Row, piece: &Piece) -> Result<(), AllocError
 {
     put_bar_begin(draft, row, piece)?;
     put_bar_title(draft, row, piece.seen.is_some())?;
-    put_bar_day(draft, row.stand)?;
-    draft.tag("/li")?;
-    Ok(())
+    put_bar_end(draft, row.stand)
 }
 
 fn put_bar_begin(draft: &mut Draft, row: &Row, piece: &Piece) -> Result<(), AllocError>
@@ -229,8 +225,7 @@ fn put_bar_begin(draft: &mut Draft, row: &Row, piece: &Piece) -> Result<(), Allo
     draft.open(
         "li",
         &[with("class", class.as_str()), with("style", style.as_str())],
-    )?;
-    Ok(())
+    )
 }
 
 fn put_bar_title(draft: &mut Draft, row: &Row, is_seen: bool) -> Result<(), AllocError>
@@ -239,19 +234,28 @@ fn put_bar_title(draft: &mut Draft, row: &Row, is_seen: bool) -> Result<(), Allo
     if is_seen {
         return put_title(draft, row);
     }
-    draft.open("span", &[with("class", "hidden")])?;
+    draft.put(&[With("span", "class", "hidden")])?;
     put_title(draft, row)?;
-    draft.tag("/span")?;
-    draft.words("\u{a0}")?;
-    Ok(())
+    draft.put(&[Tag("/span"), Text("\u{a0}")])
 }
 
-fn put_bar_day(draft: &mut Draft, stand: Stand) -> Result<(), AllocError>
+fn put_bar_end(draft: &mut Draft, stand: Stand) -> Result<(), AllocError>
     ensures titles { KeepsTitles result draft.old draft.new }
 {
-    if let Stand::Range(day, of) = stand {
-        let text = format!(in draft.alloc(); ", day {day} of {of}")?;
-        put_span(draft, "hidden", text.as_str())?;
-    }
-    Ok(())
+    let Stand::Range(day, of) = stand else {
+        return draft.put(&[Tag("/li")]);
+    };
+    let text = format!(in draft.alloc(); ", day {day} of {of}")?;
+    put_hidden_end(draft, text.as_str())
+}
+
+fn put_hidden_end(draft: &mut Draft, words: &str) -> Result<(), AllocError>
+    ensures titles { KeepsTitles result draft.old draft.new }
+{
+    draft.put(&[
+        With("span", "class", "hidden"),
+        Text(words),
+        Tag("/span"),
+        Tag("/li"),
+    ])
 }

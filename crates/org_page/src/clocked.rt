@@ -4,9 +4,10 @@ ghost use Rattle.org_page.specs.Clocked.{of_titles, one_title, sum_titles, sums_
 ghost use Rattle.org_page.specs.Drafts.{AddsTitles, KeepsTitles};
 
 use crate::chart::{Chart, ChartFile, ChartWeek, days_sum, file_sum, file_total, total};
+use crate::draft::Lent::{Tag, Text, With};
 use crate::draft::{Draft, with};
 use crate::heading::duration_text;
-use crate::list::{put_body, put_head, put_number, put_number_head};
+use crate::list::{NUMBER_HEAD, put_number, put_number_head};
 use crate::plot::put_plot;
 use crate::row::color_class;
 use std::alloc::AllocError;
@@ -16,41 +17,39 @@ pub(crate) fn put_clocked(draft: &mut Draft, chart: &Chart) -> Result<(), AllocE
     ensures titles { KeepsTitles result draft.old draft.new }
 {
     put_chart_head(draft, chart)?;
-    draft.tag("figure")?;
     put_plot(draft, chart)?;
-    draft.tag("figcaption")?;
     put_legend(draft, chart)?;
-    draft.tag("/figcaption")?;
-    draft.tag("/figure")?;
-    put_numbers(draft, chart)?;
-    draft.tag("/div")?;
-    Ok(())
+    put_numbers(draft, chart)
 }
 
 fn put_chart_head(draft: &mut Draft, chart: &Chart) -> Result<(), AllocError>
     ensures titles { KeepsTitles result draft.old draft.new }
 {
-    draft.open("h2", &[with("id", "clock")])?;
-    draft.words("Clocked")?;
-    draft.tag("/h2")?;
-    draft.open("div", &[with("class", "clock")])?;
-    draft.tag("h3")?;
+    draft.put(&[
+        With("h2", "id", "clock"),
+        Text("Clocked"),
+        Tag("/h2"),
+        With("div", "class", "clock"),
+        Tag("h3"),
+        Text(chart.span.as_str()),
+        Text(": "),
+    ])?;
     let sum = duration_text(draft.alloc(), total(chart.weeks.as_slice()))?;
-    draft.words(chart.span.as_str())?;
-    draft.words(": ")?;
-    draft.words(sum.as_str())?;
-    draft.words(" hours")?;
-    draft.tag("/h3")?;
-    Ok(())
+    put_total(draft, sum.as_str())
+}
+
+fn put_total(draft: &mut Draft, sum: &str) -> Result<(), AllocError>
+    ensures titles { KeepsTitles result draft.old draft.new }
+{
+    draft.put(&[Text(sum), Text(" hours"), Tag("/h3"), Tag("figure")])
 }
 
 fn put_legend(draft: &mut Draft, chart: &Chart) -> Result<(), AllocError>
     ensures titles { KeepsTitles result draft.old draft.new }
 {
-    draft.open("ul", &[with("class", "legend")])?;
+    draft.put(&[Tag("figcaption"), With("ul", "class", "legend")])?;
     put_legend_items(draft, chart)?;
-    draft.tag("/ul")?;
-    Ok(())
+    draft.put(&[Tag("/ul"), Tag("/figcaption"), Tag("/figure")])
 }
 
 fn put_legend_items(draft: &mut Draft, chart: &Chart) -> Result<(), AllocError>
@@ -66,42 +65,48 @@ fn put_legend_items(draft: &mut Draft, chart: &Chart) -> Result<(), AllocError>
 fn put_legend_item(draft: &mut Draft, file: &ChartFile, minutes: u64) -> Result<(), AllocError>
     ensures titles { KeepsTitles result draft.old draft.new }
 {
-    draft.open("li", &[with("class", color_class(file.color))])?;
+    draft.put(&[
+        With("li", "class", color_class(file.color)),
+        Text(file.name.as_str()),
+        Text(" "),
+    ])?;
     let sum = duration_text(draft.alloc(), minutes)?;
-    draft.words(file.name.as_str())?;
-    draft.words(" ")?;
-    draft.words(sum.as_str())?;
-    draft.tag("/li")?;
-    Ok(())
+    draft.close(sum.as_str(), "/li")
 }
 
 // Puts the numbers of a chart by weeks.
 fn put_numbers(draft: &mut Draft, chart: &Chart) -> Result<(), AllocError>
     ensures titles { KeepsTitles result draft.old draft.new }
 {
-    draft.tag("details")?;
-    draft.tag("summary")?;
-    draft.words("The numbers by week")?;
-    draft.tag("/summary")?;
     put_numbers_head(draft, chart.files.as_slice())?;
     put_weeks(draft, chart)?;
-    draft.tag("/tbody")?;
-    draft.tag("/table")?;
-    draft.tag("/details")?;
-    Ok(())
+    draft.put(&[Tag("/tbody"), Tag("/table"), Tag("/details"), Tag("/div")])
 }
 
 fn put_numbers_head(draft: &mut Draft, files: &[ChartFile]) -> Result<(), AllocError>
     ensures titles { KeepsTitles result draft.old draft.new }
 {
-    draft.open("table", &[with("class", "list")])?;
-    draft.tag("thead")?;
-    draft.tag("tr")?;
-    put_head(draft, "Week")?;
+    draft.put(&[
+        Tag("details"),
+        Tag("summary"),
+        Text("The numbers by week"),
+        Tag("/summary"),
+        With("table", "class", "list"),
+        Tag("thead"),
+        Tag("tr"),
+        With("th", "scope", "col"),
+        Text("Week"),
+        Tag("/th"),
+    ])?;
     put_file_heads(draft, files)?;
-    put_number_head(draft, "All")?;
-    put_body(draft)?;
-    Ok(())
+    draft.open("th", &NUMBER_HEAD)?;
+    draft.put(&[
+        Text("All"),
+        Tag("/th"),
+        Tag("/tr"),
+        Tag("/thead"),
+        Tag("tbody"),
+    ])
 }
 
 fn put_file_heads(draft: &mut Draft, files: &[ChartFile]) -> Result<(), AllocError>
@@ -125,14 +130,15 @@ fn put_weeks(draft: &mut Draft, chart: &Chart) -> Result<(), AllocError>
 fn put_week(draft: &mut Draft, week: &ChartWeek, files: usize) -> Result<(), AllocError>
     ensures titles { KeepsTitles result draft.old draft.new }
 {
-    draft.tag("tr")?;
-    draft.open("th", &[with("scope", "row")])?;
-    draft.words(week.name.as_str())?;
-    draft.tag("/th")?;
+    draft.put(&[
+        Tag("tr"),
+        With("th", "scope", "row"),
+        Text(week.name.as_str()),
+        Tag("/th"),
+    ])?;
     put_week_sums(draft, week, files)?;
     put_sum(draft, days_sum(week.days.as_slice()))?;
-    draft.tag("/tr")?;
-    Ok(())
+    draft.put(&[Tag("/tr")])
 }
 
 fn put_week_sums(draft: &mut Draft, week: &ChartWeek, files: usize) -> Result<(), AllocError>
@@ -148,8 +154,7 @@ fn put_sum(draft: &mut Draft, minutes: u64) -> Result<(), AllocError>
     ensures titles { KeepsTitles result draft.old draft.new }
 {
     let sum = duration_text(draft.alloc(), minutes)?;
-    put_number(draft, sum.as_str())?;
-    Ok(())
+    put_number(draft, sum.as_str())
 }
 
 /// What a sum is of: all files, a file by its name, or a heading by its title, its link and its level.
@@ -180,28 +185,38 @@ pub struct Sums {
 pub(crate) fn put_sums(draft: &mut Draft, sums: &Sums) -> Result<(), AllocError>
     ensures titles { AddsTitles result draft.old draft.new (sums_titles sums.now.rows.items) }
 {
-    draft.open("h3", &[with("class", "sums")])?;
-    draft.words(sums.title.as_str())?;
-    draft.tag("/h3")?;
-    put_sums_head(draft)?;
+    put_sums_head(draft, sums.title.as_str())?;
     put_sum_rows(draft, sums.rows.as_slice())?;
-    draft.tag("/tbody")?;
-    draft.tag("/table")?;
-    Ok(())
+    draft.put(&[Tag("/tbody"), Tag("/table")])
 }
 
-fn put_sums_head(draft: &mut Draft) -> Result<(), AllocError>
+fn put_sums_head(draft: &mut Draft, title: &str) -> Result<(), AllocError>
     ensures titles { KeepsTitles result draft.old draft.new }
 {
-    draft.open("table", &[with("class", "list sums")])?;
-    draft.tag("thead")?;
-    draft.tag("tr")?;
-    put_number_head(draft, "Hours")?;
-    put_number_head(draft, "Part")?;
-    put_head(draft, "Heading")?;
-    put_head(draft, "Bar")?;
-    put_body(draft)?;
-    Ok(())
+    draft.put(&[
+        With("h3", "class", "sums"),
+        Text(title),
+        Tag("/h3"),
+        With("table", "class", "list sums"),
+        Tag("thead"),
+        Tag("tr"),
+    ])?;
+    draft.open("th", &NUMBER_HEAD)?;
+    draft.put(&[Text("Hours"), Tag("/th")])?;
+    draft.open("th", &NUMBER_HEAD)?;
+    draft.put(&[
+        Text("Part"),
+        Tag("/th"),
+        With("th", "scope", "col"),
+        Text("Heading"),
+        Tag("/th"),
+        With("th", "scope", "col"),
+        Text("Bar"),
+        Tag("/th"),
+        Tag("/tr"),
+        Tag("/thead"),
+        Tag("tbody"),
+    ])
 }
 
 fn put_sum_rows(draft: &mut Draft, rows: &[Sum]) -> Result<(), AllocError>
@@ -219,12 +234,8 @@ fn put_sum_row(draft: &mut Draft, row: &Sum) -> Result<(), AllocError>
     put_sum_begin(draft, row)?;
     put_sum(draft, row.minutes)?;
     put_part(draft, row.part)?;
-    draft.open("td", &[with("class", "name")])?;
     put_sum_name(draft, &row.of)?;
-    draft.tag("/td")?;
-    put_part_bar(draft, row)?;
-    draft.tag("/tr")?;
-    Ok(())
+    put_part_bar(draft, row)
 }
 
 fn put_sum_begin(draft: &mut Draft, row: &Sum) -> Result<(), AllocError>
@@ -236,16 +247,16 @@ fn put_sum_begin(draft: &mut Draft, row: &Sum) -> Result<(), AllocError>
         SumOf::File(_) => format!(in draft.alloc(); "file {color}")?,
         SumOf::Heading(..) => format!(in draft.alloc(); "heading {color}")?,
     };
-    draft.open("tr", &[with("class", class.as_str())])?;
-    Ok(())
+    draft.open("tr", &[with("class", class.as_str())])
 }
 
+// Puts a part of the total in hundredths, and begins the name of a sum.
 fn put_part(draft: &mut Draft, part: u32) -> Result<(), AllocError>
     ensures titles { KeepsTitles result draft.old draft.new }
 {
     let text = format!(in draft.alloc(); "{part} %")?;
     put_number(draft, text.as_str())?;
-    Ok(())
+    draft.put(&[With("td", "class", "name")])
 }
 
 fn put_sum_name(draft: &mut Draft, of: &SumOf) -> Result<(), AllocError>
@@ -261,8 +272,7 @@ fn put_sum_name(draft: &mut Draft, of: &SumOf) -> Result<(), AllocError>
 fn put_plain_name(draft: &mut Draft, name: &str) -> Result<(), AllocError>
     ensures titles { AddsTitles result draft.old draft.new [] }
 {
-    draft.words(name)?;
-    Ok(())
+    draft.put(&[Text(name)])
 }
 
 // Puts the title of a heading, a wide space before it for each level.
@@ -275,8 +285,7 @@ fn put_sum_title(
     ensures titles { AddsTitles result draft.old draft.new (one_title words.now link.now) }
 {
     put_spaces(draft, level)?;
-    draft.title(words.as_str(), link.as_str(), false)?;
-    Ok(())
+    draft.title(words.as_str(), link.as_str(), false)
 }
 
 fn put_spaces(draft: &mut Draft, level: u32) -> Result<(), AllocError>
@@ -286,22 +295,19 @@ fn put_spaces(draft: &mut Draft, level: u32) -> Result<(), AllocError>
     for _level in 0..level.min(99) {
         spaces.push('\u{2003}')?;
     }
-    draft.words(spaces.as_str())?;
-    Ok(())
+    draft.words(spaces.as_str())
 }
 
-// Puts the bar of a part of the total.
+// Ends the name of a sum, and puts the bar of its part of the total.
 fn put_part_bar(draft: &mut Draft, row: &Sum) -> Result<(), AllocError>
     ensures titles { KeepsTitles result draft.old draft.new }
 {
     let style = format!(in draft.alloc(); "--part:{}", row.part)?;
     let class = if row.minutes > 0 { "some" } else { "none" };
-    draft.open("td", &[with("class", "bar")])?;
+    draft.put(&[Tag("/td"), With("td", "class", "bar")])?;
     draft.open(
         "span",
         &[with("class", class), with("style", style.as_str())],
     )?;
-    draft.tag("/span")?;
-    draft.tag("/td")?;
-    Ok(())
+    draft.put(&[Tag("/span"), Tag("/td"), Tag("/tr")])
 }

@@ -6,8 +6,9 @@ ghost use Rattle.org_page.specs.Drafts.{AddsTitles, KeepsTitles};
 ghost use Rattle.org_page.specs.Rows.{row_title, rows_titles};
 
 use crate::day::Day;
-use crate::draft::{Draft, with};
-use crate::heading::{put_heading, put_sign, put_span, put_start, put_time};
+use crate::draft::Draft;
+use crate::draft::Lent::{Tag, Text, With};
+use crate::heading::{put_heading, put_sign, put_start};
 use crate::row::{Row, Stand, color_class};
 use std::alloc::AllocError;
 
@@ -17,25 +18,30 @@ pub(crate) fn put_coming(draft: &mut Draft, days: &[Day]) -> Result<(), AllocErr
 {
     put_coming_head(draft, days.len())?;
     put_days(draft, days)?;
-    draft.tag("/div")?;
-    draft.tag("/section")?;
-    Ok(())
+    draft.put(&[Tag("/div"), Tag("/section")])
 }
 
 fn put_coming_head(draft: &mut Draft, count: usize) -> Result<(), AllocError>
     ensures titles { KeepsTitles result draft.old draft.new }
 {
-    draft.tag("section")?;
-    draft.open("h2", &[with("id", "coming")])?;
     let text = if count == 1 {
         String::from_str(draft.alloc(), "The next day")?
     } else {
         format!(in draft.alloc(); "The next {count} days")?
     };
-    draft.words(text.as_str())?;
-    draft.tag("/h2")?;
-    draft.open("div", &[with("class", "days")])?;
-    Ok(())
+    put_coming_begin(draft, text.as_str())
+}
+
+fn put_coming_begin(draft: &mut Draft, words: &str) -> Result<(), AllocError>
+    ensures titles { KeepsTitles result draft.old draft.new }
+{
+    draft.put(&[
+        Tag("section"),
+        With("h2", "id", "coming"),
+        Text(words),
+        Tag("/h2"),
+        With("div", "class", "days"),
+    ])
 }
 
 fn put_days(draft: &mut Draft, days: &[Day]) -> Result<(), AllocError>
@@ -50,35 +56,27 @@ fn put_days(draft: &mut Draft, days: &[Day]) -> Result<(), AllocError>
 fn put_day(draft: &mut Draft, day: &Day) -> Result<(), AllocError>
     ensures titles { AddsTitles result draft.old draft.new (day_titles day.now) }
 {
-    draft.tag("section")?;
-    draft.tag("h3")?;
-    put_time(draft, day.date.as_str(), day.name.as_str())?;
-    draft.tag("/h3")?;
+    draft.put(&[
+        Tag("section"),
+        Tag("h3"),
+        With("time", "datetime", day.date.as_str()),
+        Text(day.name.as_str()),
+        Tag("/time"),
+        Tag("/h3"),
+    ])?;
     put_day_rows(draft, day.rows.as_slice())?;
-    draft.tag("/section")?;
-    Ok(())
+    draft.put(&[Tag("/section")])
 }
 
 fn put_day_rows(draft: &mut Draft, rows: &[Row]) -> Result<(), AllocError>
     ensures titles { AddsTitles result draft.old draft.new (rows_titles rows.now) }
 {
     if rows.is_empty() {
-        put_nothing(draft)?;
-        return Ok(());
+        return draft.put(&[Tag("p"), Text("nothing"), Tag("/p")]);
     }
-    draft.tag("ul")?;
+    draft.put(&[Tag("ul")])?;
     put_rows(draft, rows)?;
-    draft.tag("/ul")?;
-    Ok(())
-}
-
-fn put_nothing(draft: &mut Draft) -> Result<(), AllocError>
-    ensures titles { KeepsTitles result draft.old draft.new }
-{
-    draft.tag("p")?;
-    draft.words("nothing")?;
-    draft.tag("/p")?;
-    Ok(())
+    draft.put(&[Tag("/ul")])
 }
 
 fn put_rows(draft: &mut Draft, rows: &[Row]) -> Result<(), AllocError>
@@ -93,42 +91,46 @@ fn put_rows(draft: &mut Draft, rows: &[Row]) -> Result<(), AllocError>
 fn put_row(draft: &mut Draft, row: &Row) -> Result<(), AllocError>
     ensures titles { AddsTitles result draft.old draft.new (row_title row.now ∷ []) }
 {
-    draft.open("li", &[with("class", color_class(row.color))])?;
+    draft.put(&[With("li", "class", color_class(row.color))])?;
     put_front(draft, row)?;
-    draft.words(" ")?;
-    draft.tag("span")?;
+    draft.put(&[Tag("span")])?;
     put_heading(draft, row)?;
-    draft.tag("/span")?;
-    draft.tag("/li")?;
-    Ok(())
+    draft.put(&[Tag("/span"), Tag("/li")])
 }
 
-// Puts what stands in front of a row: its day of a range, its time, or its sign.
+// Puts what stands in front of a row, with a space behind it: its day of a range, its time, or its sign.
 fn put_front(draft: &mut Draft, row: &Row) -> Result<(), AllocError>
     ensures titles { KeepsTitles result draft.old draft.new }
 {
     if let Stand::Range(day, of) = row.stand {
-        put_day_of(draft, day, of)?;
-        return Ok(());
+        return put_day_of(draft, day, of);
     }
     if row.time.is_some() {
-        put_start(draft, row)?;
-        return Ok(());
+        return put_start(draft, row);
     }
-    draft.tag("span")?;
+    draft.put(&[Tag("span")])?;
     put_sign(draft, row)?;
-    draft.tag("/span")?;
-    Ok(())
+    draft.put(&[Tag("/span"), Text(" ")])
 }
 
-/// Puts which day of a range it is, and of how many.
+/// Puts which day of a range it is, and of how many, with a space behind it.
 pub(crate) fn put_day_of(draft: &mut Draft, day: u32, of: u32) -> Result<(), AllocError>
     ensures titles { KeepsTitles result draft.old draft.new }
 {
-    draft.open("span", &[with("class", "sign")])?;
-    put_span(draft, "hidden", "day ")?;
     let text = format!(in draft.alloc(); "{day}/{of}")?;
-    draft.words(text.as_str())?;
-    draft.tag("/span")?;
-    Ok(())
+    put_day_sign(draft, text.as_str())
+}
+
+fn put_day_sign(draft: &mut Draft, words: &str) -> Result<(), AllocError>
+    ensures titles { KeepsTitles result draft.old draft.new }
+{
+    draft.put(&[
+        With("span", "class", "sign"),
+        With("span", "class", "hidden"),
+        Text("day "),
+        Tag("/span"),
+        Text(words),
+        Tag("/span"),
+        Text(" "),
+    ])
 }

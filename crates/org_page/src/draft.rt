@@ -1,8 +1,8 @@
 //! A page that is being put together.
 ghost use Rattle.std.specs.Prelude.{◌≡◌, ◌∷◌, [], IfOk, chars, string_bytes};
 ghost use Rattle.org_page.specs.Characters.{part_text};
-ghost use Rattle.org_page.specs.Drafts.{AddsTitles, GivesAttributes, KeepsTitles, Puts, given_tag_text};
-ghost use Rattle.org_page.specs.Pieces.{tag_text, title_text};
+ghost use Rattle.org_page.specs.Drafts.{AddsTitles, GivesAttributes, GivesUntitled, KeepsTitles, Puts, given_tag_text, lent_text, lents_text};
+ghost use Rattle.org_page.specs.Pieces.{title_text};
 ghost use Rattle.org_page.specs.declared.character.Part.TheVariants.{Words};
 
 use crate::piece::{Attribute, Piece, Title};
@@ -18,8 +18,8 @@ pub(crate) struct Draft {
 /// An attribute that is given: its name and its value.
 #[derive(Clone, Copy, Debug)]
 pub(crate) struct Given<'a> {
-    name: &'static str,
-    value: &'a str,
+    pub(crate) name: &'static str,
+    pub(crate) value: &'a str,
 }
 
 /// An attribute of a name, with a value.
@@ -28,6 +28,14 @@ pub(crate) fn with<'a>(name: &'static str, value: &'a str) -> Given<'a>
     ensures value { result.value ≡ value.entry }
 {
     Given { name, value }
+}
+
+/// A piece that is lent to a page: a tag, as `li` or `/li`, one with the name and the value of an attribute, or words.
+#[derive(Clone, Copy, Debug)]
+pub(crate) enum Lent<'a> {
+    Tag(&'static str),
+    With(&'static str, &'static str, &'a str),
+    Text(&'a str),
 }
 
 impl Draft {
@@ -46,33 +54,51 @@ impl Draft {
         self.alloc
     }
 
-    /// Puts a tag without attributes, as `li` or `/li`.
-    pub(crate) fn tag(&mut self, name: &'static str) -> Result<(), AllocError>
-        ensures text { Puts result self.old self.new (tag_text name.now []) }
-        ensures titles { KeepsTitles result self.old self.new }
-    {
-        let attributes = Vec::new(self.alloc);
-        self.pieces.push(Piece::Tag(name, attributes))?;
-        Ok(())
-    }
-
     /// Puts a tag with attributes.
-    pub(crate) fn open(&mut self, name: &'static str, given: &[Given<'_>]) -> Result<(), AllocError>
-        ensures text { Puts result self.old self.new (given_tag_text name.now given.now) }
+    pub(crate) fn open(
+        &mut self,
+        name: &'static str,
+        givens: &[Given<'_>],
+    ) -> Result<(), AllocError>
+        ensures text { Puts result self.old self.new (given_tag_text name.now givens.now) }
         ensures titles { KeepsTitles result self.old self.new }
     {
-        let attributes = attributes_of(self.alloc, given)?;
-        self.pieces.push(Piece::Tag(name, attributes))?;
+        let piece = tag_of(self.alloc, name, givens)?;
+        self.pieces.push(piece)?;
         Ok(())
     }
 
     /// Puts words.
-    pub(crate) fn words(&mut self, text: &str) -> Result<(), AllocError>
-        ensures text { Puts result self.old self.new (part_text Words (chars text.now)) }
+    pub(crate) fn words(&mut self, words: &str) -> Result<(), AllocError>
         ensures titles { KeepsTitles result self.old self.new }
     {
-        let words = String::from_str(self.alloc, text)?;
-        self.pieces.push(Piece::Content(words))?;
+        self.put(&[Lent::Text(words)])
+    }
+
+    /// Puts words and the tag that closes their element.
+    pub(crate) fn close(&mut self, words: &str, end: &'static str) -> Result<(), AllocError>
+        ensures titles { KeepsTitles result self.old self.new }
+    {
+        self.put(&[Lent::Text(words), Lent::Tag(end)])
+    }
+
+    /// Puts pieces, one after the other.
+    pub(crate) fn put(&mut self, lents: &[Lent<'_>]) -> Result<(), AllocError>
+        ensures text { Puts result self.old self.new (lents_text lents.now) }
+        ensures titles { KeepsTitles result self.old self.new }
+    {
+        for lent in lents {
+            self.put_one(lent)?;
+        }
+        Ok(())
+    }
+
+    fn put_one(&mut self, lent: &Lent<'_>) -> Result<(), AllocError>
+        ensures text { Puts result self.old self.new (lent_text lent.now) }
+        ensures titles { KeepsTitles result self.old self.new }
+    {
+        let piece = piece_of(self.alloc, lent)?;
+        self.pieces.push(piece)?;
         Ok(())
     }
 
@@ -85,6 +111,31 @@ impl Draft {
         self.pieces.push(Piece::Titled(title))?;
         Ok(())
     }
+}
+
+// The piece that a lent one is.
+fn piece_of(alloc: Global, lent: &Lent<'_>) -> Result<Piece, AllocError>
+    ensures { GivesUntitled result (lent_text lent.now) }
+{
+    match lent {
+        Lent::Tag(name) => Ok(Piece::Tag(name, Vec::new(alloc))),
+        Lent::With(name, given, value) => { tag_of(alloc, name, &[with(given, value)]) }
+        Lent::Text(words) => words_of(alloc, words),
+    }
+}
+
+fn tag_of(alloc: Global, name: &'static str, givens: &[Given<'_>]) -> Result<Piece, AllocError>
+    ensures { GivesUntitled result (given_tag_text name.now givens.now) }
+{
+    let attributes = attributes_of(alloc, givens)?;
+    Ok(Piece::Tag(name, attributes))
+}
+
+fn words_of(alloc: Global, words: &str) -> Result<Piece, AllocError>
+    ensures { GivesUntitled result (part_text Words (chars words.now)) }
+{
+    let words = String::from_str(alloc, words)?;
+    Ok(Piece::Content(words))
 }
 
 fn title_of(alloc: Global, words: &str, link: &str, is_done: bool) -> Result<Title, AllocError>

@@ -1,6 +1,7 @@
 //! The head of a page, and its end.
 ghost use Rattle.org_page.specs.Drafts.{KeepsTitles};
 
+use crate::draft::Lent::{Tag, Text, With};
 use crate::draft::{Draft, with};
 use crate::heading::time_text;
 use crate::page::Page;
@@ -20,22 +21,11 @@ pub fn is_page(text: &[u8]) -> bool {
 pub(crate) fn put_head(draft: &mut Draft, page: &Page) -> Result<(), AllocError>
     ensures titles { KeepsTitles result draft.old draft.new }
 {
-    draft.tag("!DOCTYPE html")?;
-    draft.words("\n")?;
-    draft.open("html", &[with("lang", "en")])?;
-    draft.words("\n")?;
     put_metas(draft, page.title.as_str())?;
-    draft.words("\n")?;
-    draft.tag("body")?;
-    draft.words("\n")?;
+    draft.put(&[Text("\n"), Tag("body"), Text("\n")])?;
     draft.open("a", &[with("class", "skip"), with("href", "#today")])?;
-    draft.words("To today")?;
-    draft.tag("/a")?;
-    draft.words("\n")?;
-    put_header(draft, page)?;
-    draft.words("\n")?;
-    draft.tag("main")?;
-    Ok(())
+    draft.put(&[Text("To today"), Tag("/a"), Text("\n")])?;
+    put_header(draft, page)
 }
 
 // What a page may fetch and run: nothing but its own style.
@@ -44,15 +34,21 @@ const POLICY: &str = "default-src 'none'; style-src 'unsafe-inline'";
 fn put_metas(draft: &mut Draft, title: &str) -> Result<(), AllocError>
     ensures titles { KeepsTitles result draft.old draft.new }
 {
-    draft.tag("head")?;
-    draft.words("\n")?;
-    draft.open("meta", &[with("charset", "utf-8")])?;
-    draft.words("\n")?;
+    draft.put(&[
+        Tag("!DOCTYPE html"),
+        Text("\n"),
+        With("html", "lang", "en"),
+        Text("\n"),
+        Tag("head"),
+        Text("\n"),
+        With("meta", "charset", "utf-8"),
+        Text("\n"),
+    ])?;
     draft.open(
         "meta",
         &[with("name", "generator"), with("content", "orgq page")],
     )?;
-    draft.words("\n")?;
+    draft.put(&[Text("\n")])?;
     draft.open(
         "meta",
         &[
@@ -60,7 +56,7 @@ fn put_metas(draft: &mut Draft, title: &str) -> Result<(), AllocError>
             with("content", "width=device-width, initial-scale=1"),
         ],
     )?;
-    draft.words("\n")?;
+    draft.put(&[Text("\n")])?;
     draft.open(
         "meta",
         &[
@@ -68,59 +64,49 @@ fn put_metas(draft: &mut Draft, title: &str) -> Result<(), AllocError>
             with("content", POLICY),
         ],
     )?;
-    draft.words("\n")?;
-    put_style(draft, title)?;
-    draft.tag("/head")?;
-    Ok(())
-}
-
-fn put_style(draft: &mut Draft, title: &str) -> Result<(), AllocError>
-    ensures titles { KeepsTitles result draft.old draft.new }
-{
-    draft.tag("title")?;
-    draft.words(title)?;
-    draft.tag("/title")?;
-    draft.words("\n")?;
-    draft.tag("style")?;
-    draft.words("\n")?;
-    draft.words(STYLE)?;
-    draft.tag("/style")?;
-    draft.words("\n")?;
-    Ok(())
+    draft.put(&[
+        Text("\n"),
+        Tag("title"),
+        Text(title),
+        Tag("/title"),
+        Text("\n"),
+        Tag("style"),
+        Text("\n"),
+        Text(STYLE),
+        Tag("/style"),
+        Text("\n"),
+        Tag("/head"),
+    ])
 }
 
 fn put_header(draft: &mut Draft, page: &Page) -> Result<(), AllocError>
     ensures titles { KeepsTitles result draft.old draft.new }
 {
-    draft.tag("header")?;
-    draft.tag("h1")?;
-    draft.words(page.title.as_str())?;
-    draft.words(" ")?;
-    draft.tag("small")?;
+    draft.put(&[
+        Tag("header"),
+        Tag("h1"),
+        Text(page.title.as_str()),
+        Text(" "),
+        Tag("small"),
+    ])?;
     put_week(draft, page.week, page.today.minute)?;
-    draft.tag("/small")?;
-    draft.tag("/h1")?;
-    put_parts(draft, !page.late.is_empty())?;
-    draft.tag("/header")?;
-    Ok(())
+    put_parts(draft, !page.late.is_empty())
 }
 
 fn put_week(draft: &mut Draft, week: u32, minute: u16) -> Result<(), AllocError>
     ensures titles { KeepsTitles result draft.old draft.new }
 {
-    let text = format!(in draft.alloc(); "Week {week}, ")?;
-    draft.words(text.as_str())?;
     let time = time_text(draft.alloc(), minute)?;
-    draft.words(time.as_str())?;
-    Ok(())
+    let text = format!(in draft.alloc(); "Week {week}, {}", time.as_str())?;
+    draft.close(text.as_str(), "/small")?;
+    draft.put(&[Tag("/h1")])
 }
 
-// Puts links to the parts of the page.
+// Puts links to the parts of the page, and begins these.
 fn put_parts(draft: &mut Draft, has_late: bool) -> Result<(), AllocError>
     ensures titles { KeepsTitles result draft.old draft.new }
 {
-    draft.open("nav", &[with("aria-label", "Parts")])?;
-    draft.tag("ul")?;
+    draft.put(&[With("nav", "aria-label", "Parts"), Tag("ul")])?;
     put_part(draft, "#today", "Today")?;
     if has_late {
         put_part(draft, "#late", "Late")?;
@@ -129,35 +115,41 @@ fn put_parts(draft: &mut Draft, has_late: bool) -> Result<(), AllocError>
     put_part(draft, "#month", "Month")?;
     put_part(draft, "#clock", "Clocked")?;
     put_part(draft, "#open", "Open")?;
-    draft.tag("/ul")?;
-    draft.tag("/nav")?;
-    Ok(())
+    draft.put(&[
+        Tag("/ul"),
+        Tag("/nav"),
+        Tag("/header"),
+        Text("\n"),
+        Tag("main"),
+    ])
 }
 
-fn put_part(draft: &mut Draft, link: &str, words: &str) -> Result<(), AllocError>
+fn put_part(draft: &mut Draft, link: &'static str, words: &'static str) -> Result<(), AllocError>
     ensures titles { KeepsTitles result draft.old draft.new }
 {
-    draft.tag("li")?;
-    draft.open("a", &[with("href", link)])?;
-    draft.words(words)?;
-    draft.tag("/a")?;
-    draft.tag("/li")?;
-    Ok(())
+    draft.put(&[
+        Tag("li"),
+        With("a", "href", link),
+        Text(words),
+        Tag("/a"),
+        Tag("/li"),
+    ])
 }
 
 /// Ends a page.
 pub(crate) fn put_end(draft: &mut Draft, footer: &str) -> Result<(), AllocError>
     ensures titles { KeepsTitles result draft.old draft.new }
 {
-    draft.tag("/main")?;
-    draft.words("\n")?;
-    draft.tag("footer")?;
-    draft.words(footer)?;
-    draft.tag("/footer")?;
-    draft.words("\n")?;
-    draft.tag("/body")?;
-    draft.words("\n")?;
-    draft.tag("/html")?;
-    draft.words("\n")?;
-    Ok(())
+    draft.put(&[
+        Tag("/main"),
+        Text("\n"),
+        Tag("footer"),
+        Text(footer),
+        Tag("/footer"),
+        Text("\n"),
+        Tag("/body"),
+        Text("\n"),
+        Tag("/html"),
+        Text("\n"),
+    ])
 }

@@ -3,6 +3,7 @@ ghost use Rattle.std.specs.Prelude.{◌∷◌, []};
 ghost use Rattle.org_page.specs.Drafts.{AddsTitles, KeepsTitles};
 ghost use Rattle.org_page.specs.Rows.{row_title};
 
+use crate::draft::Lent::{Tag, Text, With};
 use crate::draft::{Draft, with};
 use crate::row::{Row, Stand};
 use std::alloc::{AllocError, Global};
@@ -13,16 +14,14 @@ pub(crate) fn put_heading(draft: &mut Draft, row: &Row) -> Result<(), AllocError
 {
     put_keyword(draft, row.keyword.as_str())?;
     put_priority(draft, row.priority.as_str())?;
-    put_title(draft, row)?;
-    Ok(())
+    put_title(draft, row)
 }
 
 /// Puts a row's title.
 pub(crate) fn put_title(draft: &mut Draft, row: &Row) -> Result<(), AllocError>
     ensures titles { AddsTitles result draft.old draft.new (row_title row.now ∷ []) }
 {
-    draft.title(row.words.as_str(), row.link.as_str(), row.is_done)?;
-    Ok(())
+    draft.title(row.words.as_str(), row.link.as_str(), row.is_done)
 }
 
 fn put_keyword(draft: &mut Draft, keyword: &str) -> Result<(), AllocError>
@@ -31,9 +30,12 @@ fn put_keyword(draft: &mut Draft, keyword: &str) -> Result<(), AllocError>
     if keyword.is_empty() {
         return Ok(());
     }
-    put_span(draft, "word", keyword)?;
-    draft.words(" ")?;
-    Ok(())
+    draft.put(&[
+        With("span", "class", "word"),
+        Text(keyword),
+        Tag("/span"),
+        Text(" "),
+    ])
 }
 
 fn put_priority(draft: &mut Draft, priority: &str) -> Result<(), AllocError>
@@ -42,22 +44,15 @@ fn put_priority(draft: &mut Draft, priority: &str) -> Result<(), AllocError>
     if priority.is_empty() {
         return Ok(());
     }
-    draft.open("span", &[with("class", "cookie")])?;
-    put_span(draft, "hidden", "priority ")?;
-    draft.words(priority)?;
-    draft.tag("/span")?;
-    draft.words(" ")?;
-    Ok(())
-}
-
-/// Puts words in an element of a class.
-pub(crate) fn put_span(draft: &mut Draft, class: &str, words: &str) -> Result<(), AllocError>
-    ensures titles { KeepsTitles result draft.old draft.new }
-{
-    draft.open("span", &[with("class", class)])?;
-    draft.words(words)?;
-    draft.tag("/span")?;
-    Ok(())
+    draft.put(&[
+        With("span", "class", "cookie"),
+        With("span", "class", "hidden"),
+        Text("priority "),
+        Tag("/span"),
+        Text(priority),
+        Tag("/span"),
+        Text(" "),
+    ])
 }
 
 /// Puts the tags of a row's heading, behind a space.
@@ -67,19 +62,12 @@ pub(crate) fn put_tags(draft: &mut Draft, row: &Row) -> Result<(), AllocError>
     if row.tags.as_str().is_empty() {
         return Ok(());
     }
-    draft.words(" ")?;
-    put_span(draft, "tags", row.tags.as_str())?;
-    Ok(())
-}
-
-/// Puts the file and the line of a row's heading, which lead there too.
-pub(crate) fn put_place(draft: &mut Draft, row: &Row) -> Result<(), AllocError>
-    ensures titles { KeepsTitles result draft.old draft.new }
-{
-    draft.open("a", &[with("href", row.link.as_str())])?;
-    draft.words(row.place.as_str())?;
-    draft.tag("/a")?;
-    Ok(())
+    draft.put(&[
+        Text(" "),
+        With("span", "class", "tags"),
+        Text(row.tags.as_str()),
+        Tag("/span"),
+    ])
 }
 
 /// Puts the sign of what is due or planned, for the eye, and its word, for the ear; each with a space behind it.
@@ -97,14 +85,17 @@ pub(crate) fn put_sign(draft: &mut Draft, row: &Row) -> Result<(), AllocError>
         "span",
         &[with("class", "sign"), with("aria-hidden", "true")],
     )?;
-    draft.words(sign)?;
-    draft.tag("/span")?;
-    draft.words(" ")?;
-    put_span(draft, "hidden", word)?;
-    Ok(())
+    draft.put(&[
+        Text(sign),
+        Tag("/span"),
+        Text(" "),
+        With("span", "class", "hidden"),
+        Text(word),
+        Tag("/span"),
+    ])
 }
 
-/// Puts the time at which a row begins, if it has one.
+/// Puts the time at which a row begins, if it has one, with a space behind it.
 pub(crate) fn put_start(draft: &mut Draft, row: &Row) -> Result<(), AllocError>
     ensures titles { KeepsTitles result draft.old draft.new }
 {
@@ -112,18 +103,19 @@ pub(crate) fn put_start(draft: &mut Draft, row: &Row) -> Result<(), AllocError>
         return Ok(());
     };
     let start = time_text(draft.alloc(), hours.start)?;
-    put_time(draft, start.as_str(), start.as_str())?;
-    Ok(())
+    put_time(draft, start.as_str())
 }
 
-/// Puts words that say a time or a date.
-pub(crate) fn put_time(draft: &mut Draft, time: &str, words: &str) -> Result<(), AllocError>
+/// Puts a time of the day with a space behind it.
+pub(crate) fn put_time(draft: &mut Draft, time: &str) -> Result<(), AllocError>
     ensures titles { KeepsTitles result draft.old draft.new }
 {
-    draft.open("time", &[with("datetime", time)])?;
-    draft.words(words)?;
-    draft.tag("/time")?;
-    Ok(())
+    draft.put(&[
+        With("time", "datetime", time),
+        Text(time),
+        Tag("/time"),
+        Text(" "),
+    ])
 }
 
 /// Hours and minutes of a day.

@@ -3,8 +3,9 @@ ghost use Rattle.org_page.specs.Drafts.{AddsTitles, KeepsTitles};
 ghost use Rattle.org_page.specs.Rows.{row_title, rows_titles};
 ghost use Rattle.std.specs.Prelude.{◌∷◌, []};
 
-use crate::draft::{Draft, with};
-use crate::heading::{put_heading, put_place, put_tags};
+use crate::draft::Lent::{Tag, Text, With};
+use crate::draft::{Draft, Given};
+use crate::heading::{put_heading, put_tags};
 use crate::row::{Row, Stand};
 use std::alloc::AllocError;
 
@@ -34,65 +35,56 @@ pub(crate) fn put_list(draft: &mut Draft, rows: &[Row], list: List) -> Result<()
     }
     put_list_head(draft, list)?;
     put_list_rows(draft, rows)?;
-    put_list_end(draft)?;
-    Ok(())
+    draft.put(&[Tag("/tbody"), Tag("/table"), Tag("/section")])
 }
 
 fn put_list_head(draft: &mut Draft, list: List) -> Result<(), AllocError>
     ensures titles { KeepsTitles result draft.old draft.new }
 {
     let (id, name, head) = list.names();
-    draft.open("section", &[with("class", id)])?;
-    draft.open("h2", &[with("id", id)])?;
-    draft.words(name)?;
-    draft.tag("/h2")?;
-    draft.open("table", &[with("class", "list")])?;
-    draft.tag("thead")?;
-    draft.tag("tr")?;
-    put_number_head(draft, head)?;
-    put_head(draft, "Heading")?;
-    put_head(draft, "Where")?;
-    put_body(draft)?;
-    Ok(())
+    draft.put(&[
+        With("section", "class", id),
+        With("h2", "id", id),
+        Text(name),
+        Tag("/h2"),
+        With("table", "class", "list"),
+        Tag("thead"),
+        Tag("tr"),
+    ])?;
+    draft.open("th", &NUMBER_HEAD)?;
+    draft.put(&[
+        Text(head),
+        Tag("/th"),
+        With("th", "scope", "col"),
+        Text("Heading"),
+        Tag("/th"),
+        With("th", "scope", "col"),
+        Text("Where"),
+        Tag("/th"),
+        Tag("/tr"),
+        Tag("/thead"),
+        Tag("tbody"),
+    ])
 }
 
-/// Puts the head of a column.
-pub(crate) fn put_head(draft: &mut Draft, words: &str) -> Result<(), AllocError>
-    ensures titles { KeepsTitles result draft.old draft.new }
-{
-    draft.open("th", &[with("scope", "col")])?;
-    draft.words(words)?;
-    draft.tag("/th")?;
-    Ok(())
-}
+/// The attributes of the head of a column of numbers.
+pub(crate) const NUMBER_HEAD: [Given<'static>; 2] = [
+    Given {
+        name: "scope",
+        value: "col",
+    },
+    Given {
+        name: "class",
+        value: "number",
+    },
+];
 
 /// Puts the head of a column of numbers.
 pub(crate) fn put_number_head(draft: &mut Draft, words: &str) -> Result<(), AllocError>
     ensures titles { KeepsTitles result draft.old draft.new }
 {
-    draft.open("th", &[with("scope", "col"), with("class", "number")])?;
-    draft.words(words)?;
-    draft.tag("/th")?;
-    Ok(())
-}
-
-/// Ends the heads of a table, and begins its rows.
-pub(crate) fn put_body(draft: &mut Draft) -> Result<(), AllocError>
-    ensures titles { KeepsTitles result draft.old draft.new }
-{
-    draft.tag("/tr")?;
-    draft.tag("/thead")?;
-    draft.tag("tbody")?;
-    Ok(())
-}
-
-fn put_list_end(draft: &mut Draft) -> Result<(), AllocError>
-    ensures titles { KeepsTitles result draft.old draft.new }
-{
-    draft.tag("/tbody")?;
-    draft.tag("/table")?;
-    draft.tag("/section")?;
-    Ok(())
+    draft.open("th", &NUMBER_HEAD)?;
+    draft.put(&[Text(words), Tag("/th")])
 }
 
 fn put_list_rows(draft: &mut Draft, rows: &[Row]) -> Result<(), AllocError>
@@ -107,17 +99,13 @@ fn put_list_rows(draft: &mut Draft, rows: &[Row]) -> Result<(), AllocError>
 fn put_list_row(draft: &mut Draft, row: &Row) -> Result<(), AllocError>
     ensures titles { AddsTitles result draft.old draft.new (row_title row.now ∷ []) }
 {
-    draft.tag("tr")?;
     put_days(draft, row.stand)?;
-    draft.tag("td")?;
     put_heading(draft, row)?;
     put_tags(draft, row)?;
-    draft.tag("/td")?;
-    put_place_cell(draft, row)?;
-    draft.tag("/tr")?;
-    Ok(())
+    put_row_end(draft, row)
 }
 
+// Begins a row with its days, and the cell of its heading.
 fn put_days(draft: &mut Draft, stand: Stand) -> Result<(), AllocError>
     ensures titles { KeepsTitles result draft.old draft.new }
 {
@@ -126,26 +114,39 @@ fn put_days(draft: &mut Draft, stand: Stand) -> Result<(), AllocError>
         Stand::Own | Stand::Due | Stand::Planned | Stand::Range(..) => 0,
     };
     let text = format!(in draft.alloc(); "{days} d.")?;
-    put_number(draft, text.as_str())?;
-    Ok(())
+    put_row_begin(draft, text.as_str())
+}
+
+fn put_row_begin(draft: &mut Draft, days: &str) -> Result<(), AllocError>
+    ensures titles { KeepsTitles result draft.old draft.new }
+{
+    draft.put(&[
+        Tag("tr"),
+        With("td", "class", "number"),
+        Text(days),
+        Tag("/td"),
+        Tag("td"),
+    ])
 }
 
 /// Puts a cell of a column of numbers.
 pub(crate) fn put_number(draft: &mut Draft, words: &str) -> Result<(), AllocError>
     ensures titles { KeepsTitles result draft.old draft.new }
 {
-    draft.open("td", &[with("class", "number")])?;
-    draft.words(words)?;
-    draft.tag("/td")?;
-    Ok(())
+    draft.put(&[With("td", "class", "number"), Text(words), Tag("/td")])
 }
 
-/// Puts the cell that says where a row's heading stands.
-pub(crate) fn put_place_cell(draft: &mut Draft, row: &Row) -> Result<(), AllocError>
+/// Ends a cell, puts one that says where a row's heading stands and leads there, and ends the row.
+pub(crate) fn put_row_end(draft: &mut Draft, row: &Row) -> Result<(), AllocError>
     ensures titles { KeepsTitles result draft.old draft.new }
 {
-    draft.open("td", &[with("class", "where")])?;
-    put_place(draft, row)?;
-    draft.tag("/td")?;
-    Ok(())
+    draft.put(&[
+        Tag("/td"),
+        With("td", "class", "where"),
+        With("a", "href", row.link.as_str()),
+        Text(row.place.as_str()),
+        Tag("/a"),
+        Tag("/td"),
+        Tag("/tr"),
+    ])
 }

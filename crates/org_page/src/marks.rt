@@ -1,8 +1,9 @@
 //! The full hours of a day, and the minute that is now.
 ghost use Rattle.org_page.specs.Drafts.{KeepsTitles};
 
+use crate::draft::Lent::{Tag, Text, With};
 use crate::draft::{Draft, with};
-use crate::heading::{put_span, time_text};
+use crate::heading::time_text;
 use std::alloc::{AllocError, Global};
 
 /// A mark beside the boxes of a day: of a full hour, or of the minute that is now.
@@ -76,6 +77,7 @@ fn put_hour(draft: &mut Draft, minute: u16) -> Result<(), AllocError>
     ensures titles { KeepsTitles result draft.old draft.new }
 {
     let style = format!(in draft.alloc(); "--from:{minute}")?;
+    let text = time_text(draft.alloc(), minute % MOST)?;
     draft.open(
         "li",
         &[
@@ -84,22 +86,28 @@ fn put_hour(draft: &mut Draft, minute: u16) -> Result<(), AllocError>
             with("aria-hidden", "true"),
         ],
     )?;
-    let text = time_text(draft.alloc(), minute % MOST)?;
-    draft.words(text.as_str())?;
-    draft.tag("/li")?;
-    Ok(())
+    draft.close(text.as_str(), "/li")
 }
 
 fn put_now(draft: &mut Draft, minute: u16) -> Result<(), AllocError>
     ensures titles { KeepsTitles result draft.old draft.new }
 {
     let style = format!(in draft.alloc(); "--from:{minute}")?;
-    draft.open("li", &[with("class", "now"), with("style", style.as_str())])?;
-    draft.tag("span")?;
     let text = time_text(draft.alloc(), minute)?;
-    draft.words(text.as_str())?;
-    put_span(draft, "hidden", " now")?;
-    draft.tag("/span")?;
-    draft.tag("/li")?;
-    Ok(())
+    draft.open("li", &[with("class", "now"), with("style", style.as_str())])?;
+    put_now_end(draft, text.as_str())
+}
+
+fn put_now_end(draft: &mut Draft, time: &str) -> Result<(), AllocError>
+    ensures titles { KeepsTitles result draft.old draft.new }
+{
+    draft.put(&[
+        Tag("span"),
+        Text(time),
+        With("span", "class", "hidden"),
+        Text(" now"),
+        Tag("/span"),
+        Tag("/span"),
+        Tag("/li"),
+    ])
 }

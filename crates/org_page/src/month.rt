@@ -6,8 +6,9 @@ ghost use Rattle.org_page.specs.Rows.{row_title, rows_titles};
 
 use crate::bars::{Bars, LAST_COLUMN, bars_of, put_ranges};
 use crate::day::{Month, MonthDay, Week};
+use crate::draft::Lent::{Tag, Text, With};
 use crate::draft::{Draft, with};
-use crate::heading::{put_sign, put_span, put_start, put_time, put_title};
+use crate::heading::{put_sign, put_start, put_title};
 use crate::row::{Row, color_class};
 use std::alloc::AllocError;
 
@@ -16,19 +17,20 @@ pub(crate) fn put_month(draft: &mut Draft, month: &Month) -> Result<(), AllocErr
     ensures titles { AddsTitles result draft.old draft.new (weeks_titles month.now.weeks.items) }
 {
     put_month_begin(draft, month.title.as_str())?;
-    put_names(draft)?;
+    put_day_names(draft)?;
     put_weeks(draft, month.weeks.as_slice())?;
-    put_month_end(draft)?;
-    Ok(())
+    draft.put(&[Tag("/tbody"), Tag("/table"), Tag("/div"), Tag("/section")])
 }
 
 fn put_month_begin(draft: &mut Draft, title: &str) -> Result<(), AllocError>
     ensures titles { KeepsTitles result draft.old draft.new }
 {
-    draft.tag("section")?;
-    draft.open("h2", &[with("id", "month")])?;
-    draft.words(title)?;
-    draft.tag("/h2")?;
+    draft.put(&[
+        Tag("section"),
+        With("h2", "id", "month"),
+        Text(title),
+        Tag("/h2"),
+    ])?;
     draft.open(
         "div",
         &[
@@ -38,31 +40,24 @@ fn put_month_begin(draft: &mut Draft, title: &str) -> Result<(), AllocError>
             with("tabindex", "0"),
         ],
     )?;
-    draft.open("table", &[with("class", "month")])?;
-    draft.open("caption", &[with("class", "hidden")])?;
-    draft.words(title)?;
-    draft.words(", a row for each week")?;
-    draft.tag("/caption")?;
-    Ok(())
-}
-
-fn put_names(draft: &mut Draft) -> Result<(), AllocError>
-    ensures titles { KeepsTitles result draft.old draft.new }
-{
-    draft.tag("colgroup")?;
-    draft.open("col", &[with("class", "week")])?;
-    draft.open("col", &[with("span", "7")])?;
-    draft.tag("/colgroup")?;
-    draft.tag("thead")?;
-    draft.tag("tr")?;
-    draft.open("th", &[with("scope", "col")])?;
-    put_span(draft, "hidden", "Week")?;
-    draft.tag("/th")?;
-    put_day_names(draft)?;
-    draft.tag("/tr")?;
-    draft.tag("/thead")?;
-    draft.tag("tbody")?;
-    Ok(())
+    draft.put(&[
+        With("table", "class", "month"),
+        With("caption", "class", "hidden"),
+        Text(title),
+        Text(", a row for each week"),
+        Tag("/caption"),
+        Tag("colgroup"),
+        With("col", "class", "week"),
+        With("col", "span", "7"),
+        Tag("/colgroup"),
+        Tag("thead"),
+        Tag("tr"),
+        With("th", "scope", "col"),
+        With("span", "class", "hidden"),
+        Text("Week"),
+        Tag("/span"),
+        Tag("/th"),
+    ])
 }
 
 const NAMES: [&str; 7] = [
@@ -81,28 +76,19 @@ fn put_day_names(draft: &mut Draft) -> Result<(), AllocError>
     for name in &NAMES {
         put_day_name(draft, name)?;
     }
-    Ok(())
+    draft.put(&[Tag("/tr"), Tag("/thead"), Tag("tbody")])
 }
 
 fn put_day_name(draft: &mut Draft, name: &str) -> Result<(), AllocError>
     ensures titles { KeepsTitles result draft.old draft.new }
 {
-    draft.open("th", &[with("scope", "col")])?;
-    draft.open("abbr", &[with("title", name)])?;
-    draft.words(name.get(..3).unwrap_or(name))?;
-    draft.tag("/abbr")?;
-    draft.tag("/th")?;
-    Ok(())
-}
-
-fn put_month_end(draft: &mut Draft) -> Result<(), AllocError>
-    ensures titles { KeepsTitles result draft.old draft.new }
-{
-    draft.tag("/tbody")?;
-    draft.tag("/table")?;
-    draft.tag("/div")?;
-    draft.tag("/section")?;
-    Ok(())
+    draft.put(&[
+        With("th", "scope", "col"),
+        With("abbr", "title", name),
+        Text(name.get(..3).unwrap_or(name)),
+        Tag("/abbr"),
+        Tag("/th"),
+    ])
 }
 
 fn put_weeks(draft: &mut Draft, weeks: &[Week]) -> Result<(), AllocError>
@@ -120,20 +106,22 @@ fn put_week(draft: &mut Draft, week: &Week) -> Result<(), AllocError>
     put_week_number(draft, week.number)?;
     let bars = bars_of(draft.alloc(), week.days.as_slice())?;
     put_cells(draft, week.days.as_slice(), &bars)?;
-    draft.tag("/tr")?;
-    Ok(())
+    draft.put(&[Tag("/tr")])
 }
 
 fn put_week_number(draft: &mut Draft, number: u32) -> Result<(), AllocError>
     ensures titles { KeepsTitles result draft.old draft.new }
 {
-    draft.tag("tr")?;
-    draft.open("th", &[with("scope", "row")])?;
-    put_span(draft, "hidden", "Week ")?;
     let text = format!(in draft.alloc(); "{number}")?;
-    draft.words(text.as_str())?;
-    draft.tag("/th")?;
-    Ok(())
+    draft.put(&[
+        Tag("tr"),
+        With("th", "scope", "row"),
+        With("span", "class", "hidden"),
+        Text("Week "),
+        Tag("/span"),
+        Text(text.as_str()),
+        Tag("/th"),
+    ])
 }
 
 fn put_cells(draft: &mut Draft, days: &[MonthDay], bars: &Bars) -> Result<(), AllocError>
@@ -151,11 +139,14 @@ fn put_cell(draft: &mut Draft, day: &MonthDay, bars: &Bars, column: usize) -> Re
     ensures titles { AddsTitles result draft.old draft.new (cell_titles day.now) }
 {
     put_cell_begin(draft, day)?;
-    put_time(draft, day.date.as_str(), day.number.as_str())?;
+    draft.put(&[
+        With("time", "datetime", day.date.as_str()),
+        Text(day.number.as_str()),
+        Tag("/time"),
+    ])?;
     put_ranges(draft, day.ranges.as_slice(), bars, column)?;
     put_list(draft, day.rows.as_slice())?;
-    draft.tag("/td")?;
-    Ok(())
+    draft.put(&[Tag("/td")])
 }
 
 fn put_cell_begin(draft: &mut Draft, day: &MonthDay) -> Result<(), AllocError>
@@ -165,15 +156,13 @@ fn put_cell_begin(draft: &mut Draft, day: &MonthDay) -> Result<(), AllocError>
     let other = if day.is_other { "other " } else { "" };
     if day.is_today {
         let class = format!(in draft.alloc(); "{weekend}{other}today")?;
-        draft.open(
+        return draft.open(
             "td",
             &[with("class", class.as_str()), with("aria-current", "date")],
-        )?;
-        return Ok(());
+        );
     }
     let class = format!(in draft.alloc(); "{weekend}{other}day")?;
-    draft.open("td", &[with("class", class.as_str())])?;
-    Ok(())
+    draft.open("td", &[with("class", class.as_str())])
 }
 
 fn put_list(draft: &mut Draft, rows: &[Row]) -> Result<(), AllocError>
@@ -182,10 +171,9 @@ fn put_list(draft: &mut Draft, rows: &[Row]) -> Result<(), AllocError>
     if rows.is_empty() {
         return Ok(());
     }
-    draft.tag("ul")?;
+    draft.put(&[Tag("ul")])?;
     put_rows(draft, rows)?;
-    draft.tag("/ul")?;
-    Ok(())
+    draft.put(&[Tag("/ul")])
 }
 
 fn put_rows(draft: &mut Draft, rows: &[Row]) -> Result<(), AllocError>
@@ -200,13 +188,9 @@ fn put_rows(draft: &mut Draft, rows: &[Row]) -> Result<(), AllocError>
 fn put_row(draft: &mut Draft, row: &Row) -> Result<(), AllocError>
     ensures titles { AddsTitles result draft.old draft.new (row_title row.now ∷ []) }
 {
-    draft.open("li", &[with("class", color_class(row.color))])?;
-    if row.time.is_some() {
-        put_start(draft, row)?;
-        draft.words(" ")?;
-    }
+    draft.put(&[With("li", "class", color_class(row.color))])?;
+    put_start(draft, row)?;
     put_sign(draft, row)?;
     put_title(draft, row)?;
-    draft.tag("/li")?;
-    Ok(())
+    draft.put(&[Tag("/li")])
 }

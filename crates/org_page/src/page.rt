@@ -8,7 +8,8 @@ use crate::chart::Chart;
 use crate::clocked::{Sums, put_clocked, put_sums};
 use crate::coming::put_coming;
 use crate::day::{Day, Month, Today};
-use crate::draft::{Draft, with};
+use crate::draft::Draft;
+use crate::draft::Lent::{Tag, Text, With};
 use crate::head::{put_end, put_head};
 use crate::heading::duration_text;
 use crate::list::{List, put_list};
@@ -57,39 +58,35 @@ fn put_page(draft: &mut Draft, page: &Page) -> Result<(), AllocError>
     put_month(draft, &page.month)?;
     put_clocks(draft, page)?;
     put_tasks(draft, page.groups.as_slice())?;
-    put_end(draft, page.footer.as_str())?;
-    Ok(())
+    put_end(draft, page.footer.as_str())
 }
 
 // Puts today with what is late and due soon beside it.
 fn put_day(draft: &mut Draft, page: &Page) -> Result<(), AllocError>
     ensures titles { AddsTitles result draft.old draft.new (here_titles page.now) }
 {
-    draft.open("div", &[with("class", "columns")])?;
+    draft.put(&[With("div", "class", "columns")])?;
     put_today(draft, &page.today)?;
-    draft.tag("div")?;
+    draft.put(&[Tag("div")])?;
     put_list(draft, page.late.as_slice(), List::Late)?;
     put_list(draft, page.soon.as_slice(), List::Soon)?;
-    draft.tag("/div")?;
-    draft.tag("/div")?;
-    Ok(())
+    draft.put(&[Tag("/div"), Tag("/div")])
 }
 
 fn put_clocks(draft: &mut Draft, page: &Page) -> Result<(), AllocError>
     ensures titles { AddsTitles result draft.old draft.new (sums_titles page.now.sums.rows.items) }
 {
-    draft.tag("section")?;
+    draft.put(&[Tag("section")])?;
     put_clocked(draft, &page.chart)?;
     put_sums(draft, &page.sums)?;
-    draft.tag("/section")?;
-    Ok(())
+    draft.put(&[Tag("/section")])
 }
 
 // Puts what stands on the page, in numbers.
 fn put_counts(draft: &mut Draft, page: &Page) -> Result<(), AllocError>
     ensures titles { KeepsTitles result draft.old draft.new }
 {
-    draft.open("ul", &[with("class", "counts")])?;
+    draft.put(&[With("ul", "class", "counts")])?;
     put_number(draft, "day", today_count(&page.today), "today")?;
     put_number(draft, "late", page.late.len(), "late")?;
     put_number(draft, "soon", page.soon.len(), "due soon")?;
@@ -101,8 +98,7 @@ fn put_counts(draft: &mut Draft, page: &Page) -> Result<(), AllocError>
     )?;
     let sum = duration_text(draft.alloc(), page.clocked)?;
     put_count(draft, "clocked", sum.as_str(), "clocked today")?;
-    draft.tag("/ul")?;
-    Ok(())
+    draft.put(&[Tag("/ul")])
 }
 
 fn today_count(today: &Today) -> usize {
@@ -120,23 +116,33 @@ fn task_count(groups: &[TaskGroup]) -> usize {
     count
 }
 
-fn put_number(draft: &mut Draft, class: &str, number: usize, words: &str) -> Result<(), AllocError>
+fn put_number(
+    draft: &mut Draft,
+    class: &'static str,
+    number: usize,
+    words: &'static str,
+) -> Result<(), AllocError>
     ensures titles { KeepsTitles result draft.old draft.new }
 {
     let text = format!(in draft.alloc(); "{number}")?;
-    put_count(draft, class, text.as_str(), words)?;
-    Ok(())
+    put_count(draft, class, text.as_str(), words)
 }
 
-fn put_count(draft: &mut Draft, class: &str, number: &str, words: &str) -> Result<(), AllocError>
+fn put_count(
+    draft: &mut Draft,
+    class: &'static str,
+    number: &str,
+    words: &'static str,
+) -> Result<(), AllocError>
     ensures titles { KeepsTitles result draft.old draft.new }
 {
-    draft.open("li", &[with("class", class)])?;
-    draft.tag("b")?;
-    draft.words(number)?;
-    draft.tag("/b")?;
-    draft.words(" ")?;
-    draft.words(words)?;
-    draft.tag("/li")?;
-    Ok(())
+    draft.put(&[
+        With("li", "class", class),
+        Tag("b"),
+        Text(number),
+        Tag("/b"),
+        Text(" "),
+        Text(words),
+        Tag("/li"),
+    ])
 }

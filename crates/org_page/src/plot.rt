@@ -2,6 +2,7 @@
 ghost use Rattle.org_page.specs.Drafts.{KeepsTitles};
 
 use crate::chart::{Block, Chart, ChartDay, ChartFile, ChartWeek, blocks_of, most_of_day, sum_of};
+use crate::draft::Lent::{Tag, Text};
 use crate::draft::{Draft, with};
 use crate::heading::duration_text;
 use crate::row::COLORS;
@@ -63,9 +64,7 @@ pub(crate) fn put_plot(draft: &mut Draft, chart: &Chart) -> Result<(), AllocErro
     put_labels(draft, chart.weeks.as_slice())?;
     put_bars_begin(draft, &scale)?;
     put_weeks(draft, chart, &scale)?;
-    draft.tag("/svg")?;
-    draft.tag("/svg")?;
-    Ok(())
+    draft.put(&[Tag("/svg"), Tag("/svg")])
 }
 
 fn put_plot_begin(draft: &mut Draft, span: &str, scale: &Scale) -> Result<(), AllocError>
@@ -84,8 +83,7 @@ fn put_plot_begin(draft: &mut Draft, span: &str, scale: &Scale) -> Result<(), Al
             with("role", "img"),
             with("aria-label", said.as_str()),
         ],
-    )?;
-    Ok(())
+    )
 }
 
 fn put_lines(draft: &mut Draft, scale: &Scale) -> Result<(), AllocError>
@@ -117,8 +115,7 @@ fn put_line(draft: &mut Draft, scale: &Scale, hour: u64) -> Result<(), AllocErro
         },
     )?;
     let text = format!(in draft.alloc(); "{hour} h")?;
-    put_text(draft, LEFT - 6, y.saturating_add(4), "end", text.as_str())?;
-    Ok(())
+    put_text(draft, LEFT - 6, y.saturating_add(4), "end", text.as_str())
 }
 
 // A straight line.
@@ -148,11 +145,17 @@ fn put_rule(draft: &mut Draft, class: &str, rule: Rule) -> Result<(), AllocError
             with("y2", y2.as_str()),
         ],
     )?;
-    draft.tag("/line")?;
-    Ok(())
+    draft.put(&[Tag("/line")])
 }
 
 fn put_text(draft: &mut Draft, x: u64, y: u64, anchor: &str, words: &str) -> Result<(), AllocError>
+    ensures titles { KeepsTitles result draft.old draft.new }
+{
+    put_text_begin(draft, x, y, anchor)?;
+    draft.put(&[Text(words), Tag("/text")])
+}
+
+fn put_text_begin(draft: &mut Draft, x: u64, y: u64, anchor: &str) -> Result<(), AllocError>
     ensures titles { KeepsTitles result draft.old draft.new }
 {
     let anchor = String::from_str(draft.alloc(), anchor)?;
@@ -165,10 +168,7 @@ fn put_text(draft: &mut Draft, x: u64, y: u64, anchor: &str, words: &str) -> Res
             with("y", y.as_str()),
             with("text-anchor", anchor.as_str()),
         ],
-    )?;
-    draft.words(words)?;
-    draft.tag("/text")?;
-    Ok(())
+    )
 }
 
 fn put_labels(draft: &mut Draft, weeks: &[ChartWeek]) -> Result<(), AllocError>
@@ -201,8 +201,7 @@ fn put_label(draft: &mut Draft, label: &str, x: u64) -> Result<(), AllocError>
         TOP + HEIGHT + 14,
         "start",
         label,
-    )?;
-    Ok(())
+    )
 }
 
 // Begins the bars, whose unit is a minute.
@@ -221,8 +220,7 @@ fn put_bars_begin(draft: &mut Draft, scale: &Scale) -> Result<(), AllocError>
             with("viewBox", room.as_str()),
             with("preserveAspectRatio", "none"),
         ],
-    )?;
-    Ok(())
+    )
 }
 
 fn put_weeks(draft: &mut Draft, chart: &Chart, scale: &Scale) -> Result<(), AllocError>
@@ -271,8 +269,7 @@ fn put_day(
         top: scale.minutes(),
         day: day.name.as_str(),
     };
-    put_blocks(draft, blocks.as_slice(), files, &spot)?;
-    Ok(())
+    put_blocks(draft, blocks.as_slice(), files, &spot)
 }
 
 // Where the parts of a bar stand: its left edge, the minute of its lowest line, and the name of its day.
@@ -310,16 +307,12 @@ fn put_block(
     ensures titles { KeepsTitles result draft.old draft.new }
 {
     put_rect(draft, block, file.color, spot)?;
-    draft.tag("title")?;
-    let sum = duration_text(draft.alloc(), block.minutes)?;
+    draft.put(&[Tag("title")])?;
     draft.words(spot.day)?;
-    draft.words(": ")?;
-    draft.words(file.name.as_str())?;
-    draft.words(" ")?;
-    draft.words(sum.as_str())?;
-    draft.tag("/title")?;
-    draft.tag("/rect")?;
-    Ok(())
+    draft.put(&[Text(": "), Text(file.name.as_str()), Text(" ")])?;
+    let sum = duration_text(draft.alloc(), block.minutes)?;
+    draft.close(sum.as_str(), "/title")?;
+    draft.put(&[Tag("/rect")])
 }
 
 fn put_rect(
@@ -343,8 +336,7 @@ fn put_rect(
             with("width", "10"),
             with("height", height.as_str()),
         ],
-    )?;
-    Ok(())
+    )
 }
 
 // The classes of the files' colors as fillings.

@@ -4,9 +4,10 @@ ghost use Rattle.org_page.specs.Drafts.{AddsTitles, KeepsTitles};
 ghost use Rattle.org_page.specs.Rows.{row_title};
 ghost use Rattle.org_page.specs.Tasks.{groups_titles, tasks_titles};
 
-use crate::draft::{Draft, with};
-use crate::heading::{put_tags, put_time, put_title};
-use crate::list::{put_body, put_head, put_place_cell};
+use crate::draft::Draft;
+use crate::draft::Lent::{Tag, Text, With};
+use crate::heading::{put_tags, put_title};
+use crate::list::put_row_end;
 use crate::row::Row;
 use std::alloc::AllocError;
 
@@ -36,13 +37,14 @@ pub struct TaskGroup {
 pub(crate) fn put_tasks(draft: &mut Draft, groups: &[TaskGroup]) -> Result<(), AllocError>
     ensures titles { AddsTitles result draft.old draft.new (groups_titles groups.now) }
 {
-    draft.tag("section")?;
-    draft.open("h2", &[with("id", "open")])?;
-    draft.words("Open tasks")?;
-    draft.tag("/h2")?;
+    draft.put(&[
+        Tag("section"),
+        With("h2", "id", "open"),
+        Text("Open tasks"),
+        Tag("/h2"),
+    ])?;
     put_groups(draft, groups)?;
-    draft.tag("/section")?;
-    Ok(())
+    draft.put(&[Tag("/section")])
 }
 
 fn put_groups(draft: &mut Draft, groups: &[TaskGroup]) -> Result<(), AllocError>
@@ -59,37 +61,48 @@ fn put_group(draft: &mut Draft, group: &TaskGroup) -> Result<(), AllocError>
 {
     put_group_begin(draft, group.keyword.as_str(), group.tasks.len())?;
     put_rows(draft, group.tasks.as_slice())?;
-    draft.tag("/tbody")?;
-    draft.tag("/table")?;
-    Ok(())
+    draft.put(&[Tag("/tbody"), Tag("/table")])
 }
 
 fn put_group_begin(draft: &mut Draft, keyword: &str, count: usize) -> Result<(), AllocError>
     ensures titles { KeepsTitles result draft.old draft.new }
 {
-    draft.open("table", &[with("class", "list")])?;
-    draft.tag("caption")?;
-    draft.tag("b")?;
-    draft.words(keyword)?;
-    draft.tag("/b")?;
+    draft.put(&[
+        With("table", "class", "list"),
+        Tag("caption"),
+        Tag("b"),
+        Text(keyword),
+        Tag("/b"),
+    ])?;
     let text = format!(in draft.alloc(); ", {count}")?;
-    draft.words(text.as_str())?;
-    draft.tag("/caption")?;
-    draft.tag("thead")?;
-    draft.tag("tr")?;
-    put_heads(draft)?;
-    Ok(())
+    put_heads(draft, text.as_str())
 }
 
-fn put_heads(draft: &mut Draft) -> Result<(), AllocError>
+// Ends the name of a group, and puts the heads of its columns.
+fn put_heads(draft: &mut Draft, count: &str) -> Result<(), AllocError>
     ensures titles { KeepsTitles result draft.old draft.new }
 {
-    put_head(draft, "Priority")?;
-    put_head(draft, "Task")?;
-    put_head(draft, "Due")?;
-    put_head(draft, "Where")?;
-    put_body(draft)?;
-    Ok(())
+    draft.put(&[
+        Text(count),
+        Tag("/caption"),
+        Tag("thead"),
+        Tag("tr"),
+        With("th", "scope", "col"),
+        Text("Priority"),
+        Tag("/th"),
+        With("th", "scope", "col"),
+        Text("Task"),
+        Tag("/th"),
+        With("th", "scope", "col"),
+        Text("Due"),
+        Tag("/th"),
+        With("th", "scope", "col"),
+        Text("Where"),
+        Tag("/th"),
+        Tag("/tr"),
+        Tag("/thead"),
+        Tag("tbody"),
+    ])
 }
 
 fn put_rows(draft: &mut Draft, tasks: &[Task]) -> Result<(), AllocError>
@@ -104,50 +117,44 @@ fn put_rows(draft: &mut Draft, tasks: &[Task]) -> Result<(), AllocError>
 fn put_task(draft: &mut Draft, task: &Task) -> Result<(), AllocError>
     ensures titles { AddsTitles result draft.old draft.new (row_title task.now.row ∷ []) }
 {
-    draft.tag("tr")?;
-    draft.tag("td")?;
-    draft.words(task.row.priority.as_str())?;
-    draft.tag("/td")?;
     put_task_title(draft, &task.row)?;
     put_due(draft, &task.due)?;
-    put_place_cell(draft, &task.row)?;
-    draft.tag("/tr")?;
-    Ok(())
+    put_row_end(draft, &task.row)
 }
 
 fn put_task_title(draft: &mut Draft, row: &Row) -> Result<(), AllocError>
     ensures titles { AddsTitles result draft.old draft.new (row_title row.now ∷ []) }
 {
-    draft.tag("td")?;
+    draft.put(&[
+        Tag("tr"),
+        Tag("td"),
+        Text(row.priority.as_str()),
+        Tag("/td"),
+        Tag("td"),
+    ])?;
     put_title(draft, row)?;
-    put_tags(draft, row)?;
-    draft.tag("/td")?;
-    Ok(())
+    put_tags(draft, row)
 }
 
+// Ends the cell of a title, and begins that of its date with it.
 fn put_due(draft: &mut Draft, due: &Option<Due>) -> Result<(), AllocError>
     ensures titles { KeepsTitles result draft.old draft.new }
 {
     match due {
         Some(due) => put_due_date(draft, due),
-        None => put_no_date(draft),
+        None => draft.put(&[Tag("/td"), Tag("td")]),
     }
-}
-
-fn put_no_date(draft: &mut Draft) -> Result<(), AllocError>
-    ensures titles { KeepsTitles result draft.old draft.new }
-{
-    draft.tag("td")?;
-    draft.tag("/td")?;
-    Ok(())
 }
 
 fn put_due_date(draft: &mut Draft, due: &Due) -> Result<(), AllocError>
     ensures titles { KeepsTitles result draft.old draft.new }
 {
     let class = if due.is_late { "where late" } else { "where" };
-    draft.open("td", &[with("class", class)])?;
-    put_time(draft, due.date.as_str(), due.name.as_str())?;
-    draft.tag("/td")?;
-    Ok(())
+    draft.put(&[
+        Tag("/td"),
+        With("td", "class", class),
+        With("time", "datetime", due.date.as_str()),
+        Text(due.name.as_str()),
+        Tag("/time"),
+    ])
 }

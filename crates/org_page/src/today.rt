@@ -6,6 +6,7 @@ ghost use Rattle.org_page.specs.Rows.{row_title, rows_titles};
 
 use crate::coming::put_day_of;
 use crate::day::{Boxed, Today};
+use crate::draft::Lent::{Tag, Text, With};
 use crate::draft::{Draft, with};
 use crate::heading::{put_heading, put_sign, put_start, put_time, time_text};
 use crate::marks::{Mark, marks_of, put_marks};
@@ -16,15 +17,16 @@ use std::alloc::AllocError;
 pub(crate) fn put_today(draft: &mut Draft, today: &Today) -> Result<(), AllocError>
     ensures titles { AddsTitles result draft.old draft.new (today_titles today.now) }
 {
-    draft.tag("section")?;
-    draft.open("h2", &[with("id", "today")])?;
-    draft.words("Today")?;
-    draft.tag("/h2")?;
+    draft.put(&[
+        Tag("section"),
+        With("h2", "id", "today"),
+        Text("Today"),
+        Tag("/h2"),
+    ])?;
     put_list(draft, today.whole.as_slice(), "All day")?;
     put_day(draft, today)?;
     put_list(draft, today.beside.as_slice(), "Beside these")?;
-    draft.tag("/section")?;
-    Ok(())
+    draft.put(&[Tag("/section")])
 }
 
 // Puts rows one below the other, if there are any.
@@ -36,8 +38,7 @@ fn put_list(draft: &mut Draft, rows: &[Row], name: &str) -> Result<(), AllocErro
     }
     draft.open("ul", &[with("class", "whole"), with("aria-label", name)])?;
     put_rows(draft, rows)?;
-    draft.tag("/ul")?;
-    Ok(())
+    draft.put(&[Tag("/ul")])
 }
 
 fn put_rows(draft: &mut Draft, rows: &[Row]) -> Result<(), AllocError>
@@ -52,11 +53,10 @@ fn put_rows(draft: &mut Draft, rows: &[Row]) -> Result<(), AllocError>
 fn put_row(draft: &mut Draft, row: &Row) -> Result<(), AllocError>
     ensures titles { AddsTitles result draft.old draft.new (row_title row.now ∷ []) }
 {
-    draft.open("li", &[with("class", color_class(row.color))])?;
+    draft.put(&[With("li", "class", color_class(row.color))])?;
     put_front(draft, row)?;
     put_heading(draft, row)?;
-    draft.tag("/li")?;
-    Ok(())
+    draft.put(&[Tag("/li")])
 }
 
 // Puts a row's day of a range, or its time, and its sign.
@@ -64,16 +64,10 @@ fn put_front(draft: &mut Draft, row: &Row) -> Result<(), AllocError>
     ensures titles { KeepsTitles result draft.old draft.new }
 {
     if let Stand::Range(day, of) = row.stand {
-        put_day_of(draft, day, of)?;
-        draft.words(" ")?;
-        return Ok(());
+        return put_day_of(draft, day, of);
     }
-    if row.time.is_some() {
-        put_start(draft, row)?;
-        draft.words(" ")?;
-    }
-    put_sign(draft, row)?;
-    Ok(())
+    put_start(draft, row)?;
+    put_sign(draft, row)
 }
 
 // Puts boxes and the marks of hours in the order of time.
@@ -86,14 +80,13 @@ fn put_day(draft: &mut Draft, today: &Today) -> Result<(), AllocError>
     put_day_begin(draft, first, last, most_lanes(boxes))?;
     let marks = marks_of(draft.alloc(), first, last, today.minute)?;
     put_boxes(draft, boxes, marks.as_slice())?;
-    draft.tag("/ol")?;
-    draft.tag("/div")?;
-    Ok(())
+    draft.put(&[Tag("/ol"), Tag("/div")])
 }
 
 fn put_day_begin(draft: &mut Draft, first: u16, last: u16, lanes: usize) -> Result<(), AllocError>
     ensures titles { KeepsTitles result draft.old draft.new }
 {
+    let style = format!(in draft.alloc(); "--first:{first};--last:{last};--most:{lanes}")?;
     draft.open(
         "div",
         &[
@@ -103,12 +96,10 @@ fn put_day_begin(draft: &mut Draft, first: u16, last: u16, lanes: usize) -> Resu
             with("tabindex", "0"),
         ],
     )?;
-    let style = format!(in draft.alloc(); "--first:{first};--last:{last};--most:{lanes}")?;
     draft.open(
         "ol",
         &[with("class", "hours"), with("style", style.as_str())],
-    )?;
-    Ok(())
+    )
 }
 
 // The minute of the full hour at which the hours begin: at 8 o'clock, or where the first box does.
@@ -162,8 +153,7 @@ fn put_box(draft: &mut Draft, boxed: &Boxed) -> Result<(), AllocError>
     put_hours(draft, &boxed.row)?;
     put_sign(draft, &boxed.row)?;
     put_heading(draft, &boxed.row)?;
-    draft.tag("/li")?;
-    Ok(())
+    draft.put(&[Tag("/li")])
 }
 
 fn put_box_begin(draft: &mut Draft, boxed: &Boxed) -> Result<(), AllocError>
@@ -176,8 +166,7 @@ fn put_box_begin(draft: &mut Draft, boxed: &Boxed) -> Result<(), AllocError>
     draft.open(
         "li",
         &[with("class", class.as_str()), with("style", style.as_str())],
-    )?;
-    Ok(())
+    )
 }
 
 // Puts from when to when a row goes, with a space behind it.
@@ -187,21 +176,19 @@ fn put_hours(draft: &mut Draft, row: &Row) -> Result<(), AllocError>
     let Some(hours) = row.time else {
         return Ok(());
     };
-    put_span_of_time(draft, hours)?;
-    draft.words(" ")?;
-    Ok(())
+    let start = time_text(draft.alloc(), hours.start)?;
+    match hours.end {
+        Some(end) => put_span(draft, start.as_str(), end),
+        None => put_time(draft, start.as_str()),
+    }
 }
 
-fn put_span_of_time(draft: &mut Draft, hours: Hours) -> Result<(), AllocError>
+fn put_span(draft: &mut Draft, start: &str, end: u16) -> Result<(), AllocError>
     ensures titles { KeepsTitles result draft.old draft.new }
 {
-    let start = time_text(draft.alloc(), hours.start)?;
-    let Some(end) = hours.end else {
-        put_time(draft, start.as_str(), start.as_str())?;
-        return Ok(());
-    };
     let end = time_text(draft.alloc(), end)?;
-    let words = format!(in draft.alloc(); "{}–{}", start.as_str(), end.as_str())?;
-    put_time(draft, start.as_str(), words.as_str())?;
-    Ok(())
+    let words = format!(in draft.alloc(); "{start}–{}", end.as_str())?;
+    draft.put(&[With("time", "datetime", start)])?;
+    draft.close(words.as_str(), "/time")?;
+    draft.put(&[Text(" ")])
 }
