@@ -23,7 +23,7 @@ laws='specs/(Laws|Limits|Examples|Reasons|Refusals|Rest|Framing|Spelled|Rules)\.
 
 code() {
     find crates -name out -prune -o -type f \( -path '*/src/*.rt' -o -path '*/specs/*.antt' \) -print |
-        grep -v -E "^crates/(org_tests|org_sequence_tests|org_measure)/|$laws" | sort
+        grep -v -E "^crates/(org_tests|org_measure)/|$laws" | sort
 }
 
 code > /dev/null || exit 2

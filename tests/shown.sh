@@ -126,7 +126,7 @@ look() {
             law) grep -q "^pub fn ${name##*::}()" "crates/${name%%::*}"/src/*.rt 2>/dev/null ;;
             example) examples_of "crates/${name%%::*}/specs/Examples.antt" 2>/dev/null | grep -q -x -F "${name##*::}" ;;
             edit) [ -f "crates/${name%%/*}/must-fail/${name#*/}.edit" ] ;;
-            test) grep -h -A1 '^#\[test\]' "crates/org_tests/src/${name%%::*}.rt" "crates/org_sequence_tests/src/${name%%::*}.rt" 2>/dev/null | grep -q "^fn ${name##*::}(" ;;
+            test) grep -h -A1 '^#\[test\]' "crates/org_tests/src/${name%%::*}.rt" 2>/dev/null | grep -q "^fn ${name##*::}(" ;;
             stream) [ -f "tests/rows/$name.stdout" ] ;;
             bare) bare=$((bare + 1)) && continue ;;
             nothing) nothing=$((nothing + 1)) ;;

@@ -13,7 +13,7 @@
 //! Ok(shown)
 //! ```
 //!
-//! Lines of `org_tests/src/texts.rt`. Tests: `org_tests/src/texts.rt`, `org_sequence_tests/src/pieces.rt`.
+//! Lines of `org_tests/src/texts.rt`. Tests: `org_tests/src/texts.rt`.
 #![tactic(auto)]
 
 mod lines;

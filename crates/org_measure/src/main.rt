@@ -1,5 +1,5 @@
-//! Parts of the engine at work on their own, so that `make bench` can time them, and single calls for
-//! `make faults`. Its words say which:
+//! Parts of the engine at work on their own, so that `make bench` can time them, single calls for `make faults`, and an example
+//! of the engine as a library. Its words say which:
 //!
 //!     org_measure stamps < TEXT             how many timestamps stand in the text, taken as one line
 //!     org_measure occurrences UNIT near     of a million questions whether a stamp of 0001-01-01 that repeats by one
@@ -11,6 +11,7 @@
 //!                                           `typed`, one byte after the other from the middle on
 //!     org_measure sequence ITEMS COUNT      the size of a sequence of so many items, of which so many were replaced
 //!     org_measure stream DATE TIME          the replies to the commands of standard input, over texts in one string each
+//!     org_measure example                   what the engine as a library does with a file: `example.rt`, to copy from
 //!     org_measure append PATH LINE          puts the line at the end of the file by one replacement, as it is tried in
 //!                                           `tests/save`: the exit status is 0 where it stands there, 4 without memory, and 5
 //!                                           where nothing was changed
@@ -23,6 +24,7 @@ mod append;
 mod calls;
 mod day_calls;
 mod engine_calls;
+mod example;
 mod outline_calls;
 mod sequences;
 mod streams;
@@ -35,6 +37,7 @@ ghost use Rattle.org_stamp.specs.Line.{stamps_of};
 
 use crate::append::append;
 use crate::calls::try_calls;
+use crate::example::show_example;
 use crate::sequences::size_after;
 use crate::streams::answer;
 use crate::texts::{Place, Work, lines_after};
@@ -67,6 +70,7 @@ enum Part<'a> {
     Edits { is_whole: bool, work: Work },
     Sequence { items: u32, count: u64 },
     Stream { date: &'a str, time: &'a str },
+    Example,
 }
 
 fn main(rt: HostRuntime) -> ExitCode {
@@ -115,6 +119,7 @@ fn measure<R: AllocGlobal + Input + Print>(rt: &R, part: Part<'_>) -> Option<()>
         }
         Part::Sequence { items, count } => size_after(rt.alloc(), items, count).ok()?,
         Part::Stream { date, time } => return answer(rt, date, time),
+        Part::Example => return show_example(rt).ok(),
     };
     let _ = println!(rt; "{count}");
     Some(())
@@ -130,8 +135,8 @@ fn read_all<R: AllocGlobal + Input>(rt: &R) -> Option<Vec<u8>> {
 
 // What the program's words say.
 fn parse_part(words: &[String]) -> Option<Part<'_>> {
-    if words.len() == 2 && words[1].as_str() == "stamps" {
-        return Some(Part::Stamps);
+    if words.len() == 2 {
+        return part_alone(words[1].as_str());
     }
     if words.len() == 5 {
         return edits_asked(words);
@@ -153,6 +158,15 @@ fn parse_part(words: &[String]) -> Option<Part<'_>> {
             date: second,
             time: third,
         }),
+        _ => None,
+    }
+}
+
+// A part that needs no other word.
+fn part_alone(word: &str) -> Option<Part<'static>> {
+    match word {
+        "stamps" => Some(Part::Stamps),
+        "example" => Some(Part::Example),
         _ => None,
     }
 }

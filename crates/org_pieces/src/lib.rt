@@ -9,16 +9,13 @@
 //! what a text holds is bounded by what it says. A text of up to 64 KiB that is added is kept as it came.
 //!
 //! ```
-//! let end = (FRONT.len() + typed.len()) as u64;
-//! if let Some(key) = key {
-//!     text.edit(end, 0, key)?;
-//!     typed.push_str(key)?;
+//! let mut text = Pieces::of(alloc, FRONT)?;
 //! // ..
-//! let mut text = Pieces::of(alloc, "* one\n* two\n")?;
-//! types_and_deletes(alloc, &mut text, 20_000)
+//! text.edit(FRONT.len() as u64, 64_990, "")?;
+//! Ok((text.block_bytes(), text.count()))
 //! ```
 //!
-//! Lines of `org_sequence_tests/src/pieces.rt`. Tests: `org_sequence_tests/src/pieces.rt`.
+//! Lines of `org_tests/src/pieces.rt`. Tests: `org_tests/src/pieces.rt`.
 #![tactic(auto)]
 
 mod change;

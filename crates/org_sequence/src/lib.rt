@@ -21,7 +21,7 @@
 //!     if rest.next() != Some(&item.0) {
 //! ```
 //!
-//! Lines of `org_sequence_tests/src/sequence.rt`. Tests: `org_sequence_tests/src/sequence.rt`.
+//! Lines of `org_tests/src/sequence.rt`. Tests: `org_tests/src/sequence.rt`.
 #![tactic(auto)]
 
 mod items;

@@ -1,19 +1,16 @@
-// SPDX-License-Identifier: Apache-2.0 OR MIT
 //! The engine as a library: what a plug-in of an editor does with a file, in the order in which it does it.
 //!
 //! Copy from here. A file is added, its agenda is asked for, a key is typed, a change that comes too late is refused, a
 //! task is completed. Texts are kept in pieces (`Pieces`), so that a key costs the way down to its place, and not the
 //! text.
 //!
-//! Tests: `org_example/stdout`, which is what it prints.
-#![tactic(auto)]
+//! Tests: `org_measure/stdout`, which is what it prints.
 
 use org_base::Fault;
 use org_cal::Moment;
 use org_engine::{Engine, Form, View};
 use org_pieces::Pieces;
 use std::alloc::Global;
-use std::process::ExitCode;
 
 // Who changes files: any number from 1 to 64. Two editors take two numbers.
 const SESSION: u64 = 1;
@@ -25,17 +22,8 @@ SCHEDULED: <2024-02-28 Wed +1w>
 * Dentist <2024-02-28 Wed 08:15>
 ";
 
-fn main(rt: HostRuntime) -> ExitCode {
-    match begin(&rt) {
-        Ok(()) => ExitCode::from(0),
-        Err(fault) => {
-            let _ = println!(rt; "refused: {fault}");
-            ExitCode::from(1)
-        }
-    }
-}
-
-fn begin<R: AllocGlobal + Print>(rt: &R) -> Result<(), Fault> {
+/// Does it, and prints what comes of it. Any refusal but that of the change that comes too late ends it.
+pub fn show_example<R: AllocGlobal + Print>(rt: &R) -> Result<(), Fault> {
     let mut engine = new_engine(rt.alloc())?;
     let opened = engine.add(NAME, TEXT.as_bytes())?;
     show_agenda(rt, &mut engine, Form::Text)?;
