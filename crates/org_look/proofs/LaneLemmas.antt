@@ -1,7 +1,9 @@
 -- One more bar in a lane.
-use Rattle.std.proofs.Common.{◌≡◌, ℕ, ◌+◌, ◌<◌, ◌≤◌, List, [], ◌∷◌, ◌++◌, get_or, length, sym, ap, ◌∙◌, ⊎_elim, arith, below_more}
+use Rattle.std.proofs.Common.{◌≡◌, ℕ, ◌+◌, ◌<◌, ◌≤◌, List, [], ◌∷◌, ◌++◌, get_or, length, sym, ap, ◌∙◌, ⊎_elim, append_assoc, arith, below_more}
 use Rattle.std.proofs.lemmas.Bool.{cases_eq}
 use Rattle.std.proofs.lemmas.List.{get_or_append_left, get_or_push}
+use Rattle.org_look.specs.FreeLanes.{free_after, lane_of, lanes_from}
+use Rattle.org_look.specs.declared.span.Span.{Span}
 
 abbrev pub Apart : ℕ → List ℕ → List ℕ → List ℕ → ℕ → Type 0
 Apart n lanes firsts lasts most =
@@ -47,3 +49,13 @@ placed_more n lane most first last lanes firsts lasts free taken len is_first is
   apart_more n lane most lanes firsts lasts free len (λ h. let b = begins h in omega (arith, b, is_first)) apart held,
   held_more n lane most lanes lasts free taken len (λ h. let b = ends h in omega (arith, b, is_last)) grows held,
 )
+
+-- a bar's lane, and those of the bars that are left once it has it, stand behind the lanes so far
+pub lanes_step : (most lane : ℕ) (lanes new free next all : List ℕ) (span : Span) (left rest : List Span) → new ≡ lanes ++ lane ∷ [] → lane ≡ lane_of most free span →
+    next ≡ free_after most free span → lanes_from most free left ≡ lanes_from most free (span ∷ rest) → lanes ++ lanes_from most free left ≡ all → new ++ lanes_from most next rest ≡ all
+lanes_step most lane lanes new free next all span left rest pushed is_lane is_next cut so_far =
+    ap (λ s. s ++ lanes_from most next rest) pushed
+    ∙ (append_assoc lanes (lane ∷ []) (lanes_from most next rest)
+    ∙ (ap (λ l. lanes ++ l ∷ lanes_from most next rest) is_lane
+    ∙ (ap (λ f. lanes ++ lane_of most free span ∷ lanes_from most f rest) is_next
+    ∙ (ap (λ r. lanes ++ r) (sym cut) ∙ so_far))))

@@ -4,6 +4,7 @@ use Rattle.org_look.specs.Bars.{bar_text}
 use Rattle.org_look.specs.Cells.{content_of}
 use Rattle.org_look.specs.Cuts.{cut_text, filled_text}
 use Rattle.org_look.specs.Entries.{left_count, shown_count}
+use Rattle.org_look.specs.FreeLanes.{free_lane}
 use Rattle.org_look.specs.Hours.{last_half}
 use Rattle.org_look.specs.Ranges.{bar_if, range_bar}
 use Rattle.org_look.specs.declared.cell.Content.TheVariants.{Blank, Note, Others, Row}
@@ -40,3 +41,6 @@ pub record ExamplesHold : Type 0 where
   pub half_an_hour : last_half 540 (Some 570) ≡ 18
   pub no_end : last_half 555 None ≡ 18
   pub earlier_end : last_half 1215 (Some 1140) ≡ 40
+  -- of lanes that are free from the third, the first and the second day on, the second is the first one free on the second day
+  pub first_free : free_lane (2 ∷ 0 ∷ 1 ∷ []) 1 ≡ 1
+  pub none_free : free_lane (2 ∷ 3 ∷ []) 1 ≡ 2

@@ -14,3 +14,5 @@ pub mod Examples
 pub mod Gives
 pub mod Drawn
 pub mod Hours
+pub mod CellLines
+pub mod FreeLanes

@@ -3,6 +3,7 @@ use Rattle.std.specs.Prelude.{◌≡◌, ℕ, ◌+◌, ◌-◌, max, List, [], O
 use Rattle.std.specs.List.{range_with_len}
 use Rattle.std.specs.String.{string_bytes}
 use Rattle.org_look.specs.Entries.{left_count, own_labels, shown_count}
+use Rattle.org_look.specs.FreeLanes.{lanes_of}
 use Rattle.org_look.specs.Lanes.{AreApart}
 use Rattle.org_look.specs.declared.span.Bar.{Bar}
 use Rattle.org_look.specs.declared.cell.Cell.{Cell}
@@ -20,6 +21,10 @@ spans_of bars = map (λ bar. bar.span) bars
 -- the bars of a week lie apart in so many lanes, unless memory is refused
 abbrev pub LiesApart : {E : Type 0} → Result Week E → ℕ → Type 0
 LiesApart result most = IfOk result (λ week. AreApart (spans_of week.bars.items) week.lanes.items most)
+
+-- each bar of the week lies in the first of so many lanes that is free on its days, or in none, unless memory is refused
+abbrev pub LiesFirst : {E : Type 0} → Result Week E → ℕ → Type 0
+LiesFirst result most = IfOk result (λ week. week.lanes.items ≡ lanes_of most (spans_of week.bars.items))
 
 -- what a cell is filled with has the labels of a day's own rows, unless they are broken into lines or memory is refused
 abbrev pub HoldsLabels : {E : Type 0} → Result Labels E → Option ℕ → List Entry → Type 0

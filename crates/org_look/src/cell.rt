@@ -1,7 +1,8 @@
 //! Cells of days.
 ghost use Rattle.std.specs.Prelude.{◌≡◌, ◌≤◌, []};
+ghost use Rattle.org_look.specs.CellLines.{label_at, line_of_cell, note_at, others_text};
 ghost use Rattle.org_look.specs.Cells.{content_of, foot_of};
-ghost use Rattle.org_look.specs.Cuts.{row_text};
+ghost use Rattle.org_look.specs.Cuts.{filled_text, row_text};
 ghost use Rattle.org_look.specs.Gives.{GivesStrip, GivesWide};
 
 use crate::fill::{cut, fill_text};
@@ -124,6 +125,7 @@ impl Cell {
         signs: Signs,
     ) -> Result<Strip, AllocError>
         requires room { 2 ≤ columns }
+        ensures text { GivesStrip result (line_of_cell signs columns self.now place) }
         ensures wide { GivesWide result columns }
     {
         match self.shape.content(place) {
@@ -142,6 +144,7 @@ impl Cell {
         signs: Signs,
     ) -> Result<Strip, AllocError>
         requires room { 2 ≤ columns }
+        ensures text { GivesStrip result (row_text signs columns (label_at self.now place)) }
         ensures wide { GivesWide result columns }
     {
         let label = match self.labels.get(place) {
@@ -160,6 +163,7 @@ impl Cell {
         signs: Signs,
     ) -> Result<Strip, AllocError>
         requires room { 2 ≤ columns }
+        ensures text { GivesStrip result (filled_text signs columns (note_at self.now place)) }
         ensures wide { GivesWide result columns }
     {
         match self.notes.get(place) {
@@ -186,6 +190,7 @@ fn others_strip(
     signs: Signs,
 ) -> Result<Strip, AllocError>
     requires room { 2 ≤ columns }
+    ensures text { GivesStrip result (filled_text signs columns (others_text left)) }
     ensures wide { GivesWide result columns }
 {
     let text = format!(in alloc; "+{left} more")?;

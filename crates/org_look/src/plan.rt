@@ -1,7 +1,7 @@
 //! Weeks of rows: which bars lie in which lanes, and what each cell shows.
 ghost use Rattle.std.specs.Prelude.{◌≡◌, ◌<◌, ◌-◌, IfOk, map, slice_get, vec_len};
 ghost use Rattle.org_look.specs.Ranges.{AddsBars, bar_of, bars_for, bars_from, bars_of_lengths, day_bars, entry_bars};
-ghost use Rattle.org_look.specs.Weeks.{AreCells, HoldsDay, HoldsLabels, HoldsRows, LiesApart, SharesRows, cell_labels, spans_of};
+ghost use Rattle.org_look.specs.Weeks.{AreCells, HoldsDay, HoldsLabels, HoldsRows, LiesApart, LiesFirst, SharesRows, cell_labels, spans_of};
 
 use crate::cell::{Cell, Note, Shape};
 use crate::day::GridDay;
@@ -29,6 +29,8 @@ impl Week {
         days: &[GridDay],
         plan: &Plan,
     ) -> Result<Week, AllocError>
+        ensures bars { IfOk result (λ week. map bar_of week.bars.items ≡ bars_from 0 days.now) }
+        ensures lanes { LiesFirst result (plan.now.lines - 1) }
         ensures apart { LiesApart result (plan.now.lines - 1) }
         ensures cells { IfOk result (λ week. AreCells plan.now.breaks week.cells.items days.now) }
     {

@@ -27,4 +27,6 @@ returns c = record {
   half_an_hour = refl;
   no_end = refl;
   earlier_end = refl;
+  first_free = refl;
+  none_free = refl;
 }
