@@ -14,3 +14,4 @@ pub mod Links
 pub mod Reader
 pub mod Laws
 pub mod Examples
+pub mod Fronts

@@ -1,5 +1,7 @@
 //! The head of a page, and its end.
+ghost use Rattle.std.specs.Prelude.{◌≡◌};
 ghost use Rattle.org_page.specs.Drafts.{KeepsTitles};
+ghost use Rattle.org_page.specs.Fronts.{is_page};
 
 use crate::draft::Lent::{Tag, Text, With};
 use crate::draft::{Draft, with};
@@ -13,7 +15,9 @@ const BEGIN: &str =
     "<!DOCTYPE html>\n<html lang=\"en\">\n<head>\n<meta charset=\"utf-8\">\n<meta name=\"generator\" content=\"orgq page\">\n";
 
 /// Whether a text begins as a page does.
-pub fn is_page(text: &[u8]) -> bool {
+pub fn is_page(text: &[u8]) -> bool
+    ensures value { result ≡ is_page text.now }
+{
     text.starts_with(BEGIN.as_bytes())
 }
 
