@@ -7,6 +7,7 @@ use Rattle.std.proofs.lemmas.List.{drop-drop, take-append-drop}
 use Rattle.org_act.specs.Adding.{added_at, added_in, added_text, at_level, break_of, end_below, gap_behind, last_spot, spot_at, spot_below, spot_of, with_entry}
 use Rattle.org_act.specs.AddingLaws.{HeadingsAreAdded, IsAdded}
 use Rattle.org_act.specs.Lines.{first_line, has_feed, heading_at, subtree_end}
+use Rattle.org_act.specs.PlanningLaws.{IsGap}
 use Rattle.org_act.specs.declared.addition.Addition.{Addition}
 use Rattle.org_act.specs.declared.addition.Spot.{Spot}
 use Rattle.org_act.proofs.LineLemmas.{parts}
@@ -174,6 +175,20 @@ gap_case (b ∷ bs) = elim (cases_Bool (has_feed (b ∷ bs))) [
   | inr other ↦ inr (let one : gap_behind (b ∷ bs) ≡ 10 ∷ [] = without_feed b bs other in ap (λ g. ends_line ((b ∷ bs) ++ g)) one ∙ ends_line-append (b ∷ bs) [] 10)
 ]
 
+gap_line : (front : List ℕ) → IsGap (gap_behind front)
+unfolding gap_behind
+gap_line [] = inl refl
+gap_line (b ∷ bs) = elim (cases_Bool (has_feed (b ∷ bs))) [
+  | inl feed ↦ inl (with_feed b bs feed)
+  | inr other ↦ inr (without_feed b bs other)
+]
+
+-- a heading that is below none stands behind all
+behind_all : (text : List ℕ) (under : Option ℕ) (spot : Spot) → spot_of text under ≡ Some spot → under ≡ None → drop spot.at text ≡ []
+unfolding spot_of
+behind_all text None spot e none = (let same : last_spot text ≡ spot = cc in subst (λ (s : Spot). drop s.at text ≡ []) same (all_dropped text))
+behind_all text (Some line) spot e none = absurd cc
+
 cut_before : (front own back : List ℕ) → begins_heading own ≡ true → has_feed own ≡ true → is_cut (front ++ gap_behind front) (own ++ back) ≡ true
 cut_before front [] back begins ends = absurd (let wrong : false ≡ true = begins in cc)
 cut_before front (x ∷ own) back begins ends =
@@ -223,7 +238,9 @@ added_is a text new own spot s d place written is =
       back = back;
       level = spot.level;
       place = place ∙ ap (λ k. Some (record { at = k; level = spot.level })) (sym size);
+      last = behind_all text a.under spot place;
       text_is = text_is;
+      gap_is = gap_line front;
       new_is = new_is;
       read = read;
       sections_are =

@@ -7,7 +7,7 @@ use Rattle.std.proofs.lemmas.Bool.{cases_Bool}
 use Rattle.std.proofs.lemmas.List.{drop-drop, take-append-drop}
 use Rattle.org_act.specs.Lines.{first_line, has_feed, heading_at, heading_from, if_heading, line_end}
 use Rattle.org_act.specs.Planning.{Put, heading_line, if_sized, line_below, next_line, planned_at, planned_if, planned_text, planning_put, put_at, put_left, put_line, put_nothing, under_heading, with_put}
-use Rattle.org_act.specs.PlanningLaws.{HeadingsArePlanned, IsDateIfAny, IsPlanned, SaysDate}
+use Rattle.org_act.specs.PlanningLaws.{HeadingsArePlanned, IsDateIfAny, IsGap, IsOldLine, IsPlanned, SaysDate}
 use Rattle.org_act.specs.declared.act.Refusal.{Refusal}
 use Rattle.org_act.specs.declared.planning.Planning.{Planning}
 use Rattle.org_act.proofs.LineLemmas.{parts}
@@ -117,6 +117,8 @@ pub record Parted (word : PlanningKeyword) (date : Option TypedDate) (h below : 
   pub line : List ℕ
   pub rest : List ℕ
   pub below_is : below ≡ old ++ rest
+  pub old_is : IsOldLine below old
+  pub gap_is : IsGap gap
   pub deleted_is : put.deleted ≡ length old
   pub inserted_is : put.inserted ≡ gap ++ line
   pub says : SaysDate word date old line
@@ -146,6 +148,9 @@ unplanned : (h : List ℕ) (ls : List (List ℕ)) → begins_heading h ≡ true 
 unplanned h [] is none = rw is refl
 unplanned h (l ∷ ls) is none = rw (is, none) refl
 
+feed_gap : (h : List ℕ) → IsGap (if has_feed h then [] else codes "\n")
+feed_gap h = elim (cases_Bool (has_feed h)) [ inl e ↦ rw e (inl refl) | inr e ↦ rw e (inr refl) ]
+
 of_feed : (h new : List ℕ) → under_heading h new ≡ (if has_feed h then [] else codes "\n") ++ new
 of_feed h new = elim (cases_Bool (has_feed h)) [ inl e ↦ rw e refl | inr e ↦ rw e refl ]
 
@@ -162,6 +167,8 @@ dated_there word date h below new put real e is plans =
       line = new;
       rest = drop (length line) below;
       below_is = split below;
+      old_is = inr (refl, plans);
+      gap_is = inl refl;
       deleted_is = sym (ap (λ (q : Put). q.deleted) made);
       inserted_is = sym (ap (λ (q : Put). q.inserted) made);
       says = (d.stamp, d.said_is, d.is_of);
@@ -182,6 +189,8 @@ dated_new word date h below new put real e is none =
       line = new;
       rest = below;
       below_is = refl;
+      old_is = inl refl;
+      gap_is = feed_gap h;
       deleted_is = sym (ap (λ (q : Put). q.deleted) made);
       inserted_is = sym (ap (λ (q : Put). q.inserted) made) ∙ of_feed h new;
       says = (d.stamp, d.said_is, subst (λ (o : Option Stamp). IsStampOf date o d.stamp) (same word) d.is_of);
@@ -190,8 +199,8 @@ dated_new word date h below new put real e is none =
     }
 
 undated_there : (word : PlanningKeyword) (h below left : List ℕ) (put : Put) → undated_line word (first_line below) (first_line (drop (length (first_line below)) below)) ≡ Some left →
-    put_left (first_line below) left ≡ put → Parted word None h below put
-undated_there word h below left put e made =
+    put_left (first_line below) left ≡ put → is_planning (first_line below) ≡ true → Parted word None h below put
+undated_there word h below left put e made plans =
     let line = first_line below in
     let rest = drop (length line) below in
     let lost = lost_stamps_are_unsaid word line (first_line rest) left e in
@@ -201,6 +210,8 @@ undated_there word h below left put e made =
       line = left;
       rest = rest;
       below_is = split below;
+      old_is = inr (refl, plans);
+      gap_is = inl refl;
       deleted_is = sym (ap (λ (q : Put). q.deleted) made);
       inserted_is = sym (ap (λ (q : Put). q.inserted) made);
       says = lost.0;
@@ -215,6 +226,8 @@ undated_none word h below put made none = record {
   line = [];
   rest = below;
   below_is = refl;
+  old_is = inl refl;
+  gap_is = inl refl;
   deleted_is = sym (ap (λ (q : Put). q.deleted) made);
   inserted_is = sym (ap (λ (q : Put). q.inserted) made);
   says = no_planning word [] no_line;
@@ -237,7 +250,7 @@ parted word None h below put real e =
       | inl plans ↦
           let left : option_map (put_left line) (undated_line word line next) ≡ Some put = rw plans at e in
           let m = from_map (put_left line) (undated_line word line next) put left in
-          undated_there word h below m.x put m.was m.is
+          undated_there word h below m.x put m.was m.is plans
       | inr none ↦
           let nothing : ◌≡◌ {A = Option Put} (Some put_nothing) (Some put) = rw none at e in
           undated_none word h below put (cc) none
@@ -301,6 +314,8 @@ planned_is p text new at put real place e is =
       place = place ∙ ap Some (sym size);
       begins = found.1;
       text_is = text_is;
+      old_is = subst (λ b. IsOldLine b parts.old) parts.below_is parts.old_is;
+      gap_is = parts.gap_is;
       new_is = new_is;
       says = parts.says;
       others = parts.others;

@@ -1,6 +1,7 @@
 -- Laws of adding a heading to a text (Org Syntax, "Headings and Sections").
-use Rattle.std.specs.Prelude.{◌≡◌, ℕ, List, ◌∷◌, ◌++◌, length, Some, Ok}
+use Rattle.std.specs.Prelude.{◌≡◌, ℕ, List, [], ◌∷◌, ◌++◌, length, None, Some, Ok}
 use Rattle.org_act.specs.Adding.{added_text, at_level, spot_of}
+use Rattle.org_act.specs.PlanningLaws.{IsGap}
 use Rattle.org_act.specs.declared.addition.Addition.{Addition}
 use Rattle.org_amend.specs.EntryLaws.{IsDateOrNone, IsReadAs}
 use Rattle.org_class.specs.Classes.{setting_lines}
@@ -16,7 +17,9 @@ pub record IsAdded (a : Addition) (text new : List ℕ) : Type 0 where
   pub back : List ℕ
   pub level : ℕ
   pub place : spot_of text a.under ≡ Some (record { at = length front; level = level })
+  pub last : a.under ≡ None → back ≡ []
   pub text_is : text ≡ front ++ back
+  pub gap_is : IsGap gap
   pub new_is : new ≡ (front ++ gap) ++ (own ++ back)
   pub read : IsReadAs (file_settings (text ++ a.behind.now)) (at_level a.entry level) own
   pub sections_are : sections new ≡ sections (front ++ gap) ++ own ∷ sections back

@@ -1,6 +1,6 @@
 -- Laws of planning a heading of a text (Org Syntax, "Planning").
-use Rattle.std.specs.Prelude.{◌≡◌, ℕ, true, List, ◌∷◌, ◌++◌, length, Option, Some, None, Ok}
-use Rattle.org_act.specs.Lines.{heading_at}
+use Rattle.std.specs.Prelude.{◌≡◌, ◌⊎◌, ℕ, true, List, [], ◌∷◌, ◌++◌, length, Option, Some, None, Ok}
+use Rattle.org_act.specs.Lines.{first_line, heading_at}
 use Rattle.org_act.specs.Planning.{planned_text}
 use Rattle.org_act.specs.declared.planning.Planning.{Planning}
 use Rattle.org_amend.specs.PlanningLaws.{IsDate, IsStampOf, SaysElse, as_line, class_left, said}
@@ -10,6 +10,7 @@ use Rattle.org_class.specs.Drawers.{classes_below}
 use Rattle.org_class.specs.Heading.{begins_heading}
 use Rattle.org_class.specs.declared.class.Class.TheVariants.{Heading}
 use Rattle.org_lines.specs.Cuts.{lines}
+use Rattle.org_stamp.specs.Pair.{is_planning}
 use Rattle.org_stamp.specs.declared.pair.PlanningKeyword.{PlanningKeyword}
 use Rattle.org_stamp.specs.declared.stamp.Stamp.{Stamp}
 
@@ -24,8 +25,16 @@ abbrev pub SaysDate : PlanningKeyword → Option TypedDate → List ℕ → List
 SaysDate word None old new = said word new ≡ None
 SaysDate word (Some date) old new = (stamp : Stamp) × (said word new ≡ Some stamp) × IsStampOf date (said word old) stamp
 
+-- nothing, or the first line of a text, which is a planning line
+abbrev pub IsOldLine : List ℕ → List ℕ → Type 0
+IsOldLine below old = (old ≡ []) ⊎ ((old ≡ first_line below) × (is_planning old ≡ true))
+
+-- nothing, or a line feed
+abbrev pub IsGap : List ℕ → Type 0
+IsGap gap = (gap ≡ []) ⊎ (gap ≡ 10 ∷ [])
+
 -- a heading was planned: under its line stands another line in the place of its planning line, or none, and says what is asked,
--- and under other keywords what was said. All that stands before and behind it stays, and the lines behind it are read as before
+-- and under other keywords what was said. Nothing goes but a planning line, and all that stands before and behind it stays, and the lines behind it are read as before
 pub record IsPlanned (p : Planning) (text new : List ℕ) : Type 0 where
   pub front : List ℕ
   pub heading : List ℕ
@@ -36,6 +45,8 @@ pub record IsPlanned (p : Planning) (text new : List ℕ) : Type 0 where
   pub place : heading_at text p.line ≡ Some (length front)
   pub begins : begins_heading heading ≡ true
   pub text_is : text ≡ front ++ (heading ++ (old ++ rest))
+  pub old_is : IsOldLine (old ++ rest) old
+  pub gap_is : IsGap gap
   pub new_is : new ≡ front ++ (heading ++ (gap ++ (line ++ rest)))
   pub says : SaysDate p.keyword p.date old line
   pub others : SaysElse p.keyword old line
