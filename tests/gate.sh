@@ -94,7 +94,9 @@ counted devices crates/orgviews/out/orgviews
 
 echo "gate: files that are replaced on a real disk"
 counted saves crates/org_measure/out/org_measure append
-counted saves crates/orgq/out/orgq done
+for kind in done add in out cancel; do
+    counted saves crates/orgq/out/orgq "$kind"
+done
 
 echo "gate: standard streams that are closed, and who may read what is written"
 counted streams crates/orgq/out/orgq crates/orgviews/out/orgviews
