@@ -70,7 +70,7 @@ test:
 	@$(NEEDS_RT)
 	@WHOLE="$(WHOLE)" MINUTES="$(MINUTES)" FIRST="$(FIRST)" sh tests/gate.sh
 
-# What the headline rests on, in one page, in the order in which it is used; and how many lines it has.
+# What the headline rests on, in one page of links, each word behind those that it is said with; and how many lines it has.
 reading:
 	@python3 tests/reading.py
 

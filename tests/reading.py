@@ -2,14 +2,17 @@
 """What a reader of the headline has to believe: the definitions that the contract of `run` of org_wire names, those that these
 name, and so on, in crates/*/specs/*.antt.
 
-    tests/reading.py                 writes them into docs/out/reading.md: by chapter, in the order of use, each whole with its
-                                     comment, and under it its law and how far that ties it; says the numbers
+    tests/reading.py                 writes them into docs/out/reading.html: by chapter, each behind all that it names, with its
+                                     comment and a link to its laws, which are in docs/out/laws.html; says the numbers
+    tests/reading.py fold            writes the crate org_reading, which proves what the page shows folded (tests/folded.py)
     tests/reading.py count [FUNCTION FILE.rt]   the numbers alone; of the contract of another function, as `day_rows
                                      crates/org_agenda/src/days.rt`
     tests/reading.py list  [FUNCTION FILE.rt]   each definition with its lines and its file, in the order in which it is reached
     tests/reading.py ties            each law with the kind of its tie
-    tests/reading.py check           writes the page and tries it: that it holds every definition that tests/reached.sh names, that
-                                     the laws of tests/shown/laws.md are there, and that docs/definitions.md calls no other `both`
+    tests/reading.py check           writes the page and tries it: that it holds every definition that tests/reached.sh names, each
+                                     behind what it names, no word for two things, in no more lines than are allowed; that what is
+                                     folded is what is proved; that the laws of tests/shown/laws.md are there, and that
+                                     docs/definitions.md calls no other `both`
 
 A definition counts with the comment above it and its clauses, without blank lines and imports. A name is another definition
 where its file defines or imports it, also through a `pub use`, and it is no variable of the definition that names it. Types and
@@ -20,15 +23,21 @@ that each settles whole. All other laws tie one way. A definition that a law set
 instead loses nothing, since that the two are the same is proved.
 """
 import glob
+import html
 import os
 import re
 import subprocess
 import sys
 from collections import Counter
+from itertools import groupby
+
+import folded
 
 ROOT = os.path.dirname(os.path.dirname(os.path.abspath(__file__)))
-PAGE = "docs/out/reading.md"
+PAGE = "docs/out/reading.html"
+LAWS = "docs/out/laws.html"
 HEADLINE = "run"
+MOST_LINES, MOST_BARE = 3000, 1600
 
 WORD = re.compile(r"(?<![.\w])[A-Za-z_]\w*(?:\.[A-Za-z_]\w*)*")
 HEAD = re.compile(r"(?:(?:abbrev|unfoldable|opaque|pub|data|record) )+")
@@ -398,81 +407,291 @@ def said(specs, counts):
     ]
 
 
-def in_order(specs, first, own):
-    """The definitions in the order of use: each before those that it names, these in its order."""
-    order, wanted = [], set(own)
-    stack = [key for key in reversed(first)]
-    while stack:
-        key = stack.pop()
-        if key in wanted:
-            wanted.discard(key)
-            order.append(key)
-            stack += [target for target in reversed(specs.named(key)) if target in wanted]
-    return order
-
-
-def entry(specs, laws, key, tied, gone, told):
-    """A definition with its comment, its law and what that is said with, the kind of tie, and what else shows it."""
-    item = specs.definitions[key]
-    out = [f"**`{item.name}`** `{item.path.removeprefix('crates/')}:{item.line}`", "", "```", *item.comment, *item.body, "```", ""]
-    names = laws.of(key)
-    for law in dict.fromkeys(tied.get(key, []) + names):
-        statement = specs.definitions[laws.statements[law]]
-        kind = "both ways" if law in tied.get(key, []) else "one way" if laws.kind(law) == "one way" else "both ways, of a part of it"
-        out += [f"Law `{law}`, {kind}{', above' if law in told else ':'}", ""]
-        if law not in told:
-            told.add(law)
-            block = [*statement.comment, *statement.body]
-            for other in laws.side(law):
-                if other not in told:
-                    told.add(other)
-                    block += ["", *specs.definitions[other].comment, *specs.definitions[other].body]
-            out += ["```", *block, "```", ""]
-    if not names and key not in tied:
-        more = laws.shown(key)
-        out += [f"Law: none{'; ' + ', '.join(dict.fromkeys(more)) if more else ''}", ""]
-    if key in tied:
-        out += ["*May be skipped: its law settles what it gives.*", ""]
-    elif key in gone:
-        out += ["*May be skipped: only what a law settles names it.*", ""]
-    return out
-
-
-def page(specs, laws, first):
-    counts = numbers(specs, laws, first)
-    own, code, tied, each, shorter, (gone, _) = counts
-    laws.own = set(own)
-    chapters, chapter, told = {}, laws.chapters[0], set()
-    for key in in_order(specs, first, own):
+def said_first(specs, laws, first, own):
+    """The chapters, those first that others rest on, and in each the definitions and what of the code they name, each behind
+    all that it names. What an earlier chapter needs stands there."""
+    chapters, chapter = {}, laws.chapters[0]
+    for key in own:
         chapter = laws.chapter(key, chapter)
         chapters.setdefault(chapter, []).append(key)
-    ordered = [name for name in laws.chapters if name in chapters]
-    out = ["# What the headline rests on", "",
-           f"Made by `tests/reading.py` of the sources, from the contract of `{HEADLINE}` (`{headline_file()}`) down: each definition",
-           "whole, with its comment, after the one that uses it first. Under it is its law, if it has one. A law that ties *both ways*",
-           "settles what the definition gives, and may be read in its place; one that ties *one way* says a part of it.", ""]
-    out += [f"- {line}" for line in said(specs, counts)]
-    out += ["", "| Settled by its law | Falls away, lines | Read instead |", "|---|---|---|"]
-    for key in sorted(tied, key=lambda key: each[key][1] - each[key][0]):
-        out.append(f"| `{key[2]}` of `{key[0]}`: {', '.join(f'`{law}`' for law in tied[key])} | {each[key][0]} | {each[key][1]} |")
-    out += ["", "| Chapter | Definitions | Lines | Without comments | May be skipped |", "|---|---|---|---|---|"]
-    for name in ordered:
-        lines, bare, count = sizes(specs, chapters[name])
-        skipped = sizes(specs, [key for key in chapters[name] if key in gone])[0]
-        out.append(f"| [{name}](#{re.sub(r'[^a-z0-9 -]', '', name.lower()).replace(' ', '-')}) | {count} | {lines} | {bare} | {skipped} |")
-    out += ["", "The headline itself:", "", "```", *headline(), "```", ""]
-    for name in ordered:
-        out += [f"## {name}", ""]
+    said, out = set(), []
+
+    def say(key, into):
+        stack = [(key, iter(specs.named(key)))]
+        said.add(key)
+        while stack:
+            here, rest = stack[-1]
+            step = next((target for target in rest if target not in said), None)
+            if step is None:
+                into.append(here)
+                stack.pop()
+            else:
+                said.add(step)
+                stack.append((step, iter(specs.named(step))))
+
+    left = [name for name in reversed(laws.chapters) if name in chapters]
+    homes = {key: name for name, keys in chapters.items() for key in keys}
+    needs = {name: Counter(homes[target] for key in chapters[name] for target in specs.named(key) if target in homes) for name in left}
+    while left:
+        name = min(left, key=lambda name: sum(needs[name][other] for other in left if other != name))
+        left.remove(name)
+        out.append((name, []))
         for key in chapters[name]:
-            out += entry(specs, laws, key, tied, gone, told)
-    out += ["## What the code declares", "", "Types and constants that the definitions name.", ""]
-    for key in code:
-        item = specs.code[key]
-        out += [f"`{item.path}:{item.line}`", "", "```", *item.comment, *item.body, "```", ""]
-    out += ["## What the kit defines", "", "Definitions of the kit's libraries that these name, beside the words of its prelude. They come with",
-            "the toolchain, and are read in its folder.", "", "| Library | File | Definition |", "|---|---|---|"]
-    out += [f"| `{library}` | `{file}` | `{name}` |" for library, file, name in specs.of_kit(own)]
-    return "\n".join(out) + "\n", own
+            if key not in said:
+                say(key, out[-1][1])
+    return [(name, keys) for name, keys in out if keys]
+
+
+class Page:
+    """The page of the definitions, and the one of their laws behind its links. No word stands for two things there: what has the
+    name of something else is written with its crate, `stamp::is_name`."""
+
+    def __init__(self, specs, laws, first):
+        self.specs, self.laws, self.first = specs, laws, first
+        self.counts = numbers(specs, laws, first)
+        own, code, self.tied = self.counts[:3]
+        laws.own = set(own)
+        self.folded = folded.Folded(specs, read, own, first)
+        self.chapters = said_first(specs, laws, first, own)
+        self.shown = [key for _, keys in self.chapters for key in keys if key not in self.folded.into]
+        names = Counter(key[2] for key in {*own, *code})
+        self.names = {key: key[2] if names[key[2]] == 1 else f"{key[0].removeprefix('org_')}::{key[2]}" for key in {*own, *code}}
+        self.bodies = {key: self.body(key) for key in self.shown}
+
+    def place(self, key):
+        """Where a definition stands: that into which it is folded, if it is."""
+        while key in self.folded.into:
+            key = self.folded.into[key]
+        return key
+
+    @staticmethod
+    def anchor(key):
+        return "-".join(key).replace("/", "-")
+
+    def link(self, key, text=None, page=""):
+        return f'<a href="{page}#{self.anchor(self.place(key))}">{html.escape(text or self.names.get(key, key[2]))}</a>'
+
+    def linked(self, key, tokens):
+        """A text with its names as links."""
+        out = []
+        for token in tokens:
+            target = self.target(key, token) if folded.is_word(token) else None
+            if target is None or target == key:
+                out.append(html.escape(self.names[key] if target == key and token == key[2] else token))
+                continue
+            parts = token.split(".")
+            if target[2] in parts:
+                out.append(self.link(target) + html.escape("".join(f".{part}" for part in parts[parts.index(target[2]) + 1 :])))
+            else:
+                out.append(self.link(target, token))
+        return "".join(out)
+
+    def target(self, key, token):
+        """What of the page a word stands for."""
+        if isinstance(token, folded.Word):
+            module, name = token.means
+            parts = module.split(".")
+            if parts[0] == "Rattle" and len(parts) == 4 and parts[2] == "specs":
+                found = (parts[1], parts[3], name)
+                found = self.specs.passed_on.get(found, found)
+                found = self.specs.made_by.get(found, found)
+                return found if found in self.names else None
+            into = key[:2]
+        else:
+            into = key[:2]
+        bound = self.specs.get(key).bound
+        found = self.specs.resolve(into, str(token), bound)
+        return found if found in self.names else None
+
+    def body(self, key):
+        """The lines of a definition or of what the code declares, as lists of words."""
+        if key not in self.specs.definitions:
+            return declared(self.specs.code[key])
+        text = self.folded.texts[key]
+        if text.is_within:
+            item = self.specs.definitions[key]
+            return [folded.lex(line.removeprefix("abbrev pub ")) for line in [item.module, *item.body]]
+        if not text.clauses:
+            return [folded.lex(line) for line in gathered(text)]
+        kind = [*folded.lex(f"{text.name} "), *text.type[text.type.index(":") :]]
+        one = in_one(text)
+        if one:
+            return wrapped(one)
+        return [line for tokens in [kind, *([*left, " ", "=", " ", *right] for left, right, _ in text.clauses)] for line in wrapped(tokens)]
+
+    def law(self, key):
+        """The links to the laws of a definition."""
+        names = list(dict.fromkeys(self.tied.get(key, []) + self.laws.of(key)))
+        found = []
+        for law in names:
+            sign = "settled by" if law in self.tied.get(key, []) else "law"
+            found.append(f'<a class="l" href="laws.html#{law.replace("::", "-")}">{sign} {law.split("::")[1]}</a>')
+        return (" " + " ".join(found)) if found else ""
+
+    def entry(self, key):
+        """A definition: its comment with the links to its laws, then its lines."""
+        item = self.specs.get(key)
+        comment = " ".join(re.sub(r"^\s*(--|///) ?", "", line).strip() for line in item.comment if not re.match(r"\s*(#|module )", line))
+        lines = [self.linked(key, line) for line in self.bodies[key]]
+        laws = self.law(key) if key in self.specs.definitions else ""
+        head = f"<i>{html.escape(comment)}</i>{laws}\n" if comment or laws else ""
+        return f'<p id="{self.anchor(key)}">{head}' + "\n".join(lines) + "</p>"
+
+    def lines(self, key):
+        item = self.specs.get(key)
+        comment = " ".join(re.sub(r"^\s*(--|///) ?", "", line).strip() for line in item.comment if not re.match(r"\s*(#|module )", line))
+        return len(self.bodies[key]) + (-(-len(comment) // folded.WIDEST) if comment else 0)
+
+    def index(self):
+        """Each name with a link, by the alphabet; of what is folded to where it stands."""
+        keys = sorted({*self.counts[0], *self.counts[1]}, key=lambda key: (self.names[key].lower(), self.names[key]))
+        return [" ".join(self.link(key) for key in group) for _, group in groupby(keys, lambda key: self.names[key][0].lower())]
+
+    def text(self):
+        """The page; and how many lines of definitions and how many lines in all it has."""
+        title = "What the headline rests on"
+        own, code = self.counts[0], self.counts[1]
+        shown = [key for key in self.shown if key in self.specs.definitions]
+        bare = sum(len(self.bodies[key]) for key in shown)
+        index = self.index()
+        kit = self.specs.of_kit(own)
+        called = ", ".join(f"{name} ({library}, {file})" for library, file, name in kit)
+        intro = [
+            f"All that has to be believed of what <code>{HEADLINE}</code> promises ({headline_file().removeprefix('crates/')}), made of the "
+            "sources by tests/reading.py. Each word is said before it is used, so the promise itself is the last chapter. Names are links. "
+            "A word that two crates use stands with its crate. A definition of one line that one other alone uses stands in that one, if "
+            "it fits its line; that the two are the same is the law <code>org_reading::folds_hold</code>. Behind a link <b>law</b> is what "
+            "is proved of a definition, behind <b>settled by</b> a law that says exactly when it gives what.",
+        ]
+        chapters = [(name, [key for key in keys if key not in self.folded.into]) for name, keys in self.chapters]
+        table = [f'<a href="#{slug(name)}">{name}</a> ({sum(len(self.bodies[key]) for key in keys if key in self.specs.definitions)} lines)' for name, keys in chapters]
+        count = sum(self.lines(key) for key in self.shown) + len(chapters) + len(headline()) + sum(-(-len(re.sub("<[^>]*>", "", line)) // folded.WIDEST) for line in [*index, *intro, *table, called]) + 6
+        summary = (f"{len(own)} definitions, {len(own) - len(shown)} of them folded: {bare} lines without comments; "
+                   f"{len(code)} types and constants of the code; {count} lines in all.")
+        out = ["<!doctype html>", '<html lang="en"><head><meta charset="utf-8">', f"<title>{title}</title>", STYLE, "</head><body>", f"<h1>{title}</h1>",
+               *(f"<div>{line}</div>" for line in intro), f"<div>{summary}</div>", "<ol>", *(f"<li>{line}</li>" for line in table), "</ol>"]
+        for name, keys in chapters:
+            out += [f'<h2 id="{slug(name)}">{name}</h2>', *(self.entry(key) for key in keys)]
+        path = headline_file()
+        into = ("code", path)
+        promise = [self.promised(into, line) for line in headline()]
+        out += ['<h2 id="headline">The headline</h2>', "<p>" + "\n".join(promise) + "</p>", '<h2 id="index">Index</h2>', *(f"<div>{line}</div>" for line in index),
+                '<h2 id="kit">What the kit defines besides the words of its prelude</h2>', f"<div>{html.escape(called)}</div>", "</body></html>"]
+        return "\n".join(out) + "\n", bare, count
+
+    def promised(self, into, line):
+        out = []
+        for token in folded.lex(line):
+            target = self.specs.resolve(into, token, set()) if folded.is_word(token) and not line.startswith("///") else None
+            out.append(self.link(target, token) if target in self.names else html.escape(token))
+        return "".join(out)
+
+    def laws_text(self):
+        """The page behind the links: each law of a definition of the page, with what it is said with."""
+        names = sorted({law for key in self.shown if key in self.specs.definitions for law in [*self.tied.get(key, []), *self.laws.of(key)]})
+        out = ["<!doctype html>", '<html lang="en"><head><meta charset="utf-8">', "<title>Laws of the definitions</title>", STYLE, "</head><body>",
+               "<h1>Laws of the definitions</h1>", "<div>Each is proved. One that ties both ways says exactly when a definition gives what.</div>"]
+        for law in names:
+            statement = self.laws.statements[law]
+            out += [f'<h2 id="{law.replace("::", "-")}">{law}, {self.laws.kind(law)}</h2>']
+            for key in [statement, *self.laws.side(law)]:
+                item = self.specs.definitions[key]
+                lines = [self.linked_of_law(key, line) for line in item.body]
+                comment = " ".join(re.sub(r"^\s*-- ?", "", line).strip() for line in item.comment if not line.startswith("module "))
+                out.append(f"<p><i>{html.escape(comment)}</i>\n" + "\n".join(lines) + "</p>")
+        return "\n".join([*out, "</body></html>"]) + "\n"
+
+    def linked_of_law(self, key, line):
+        out = []
+        for token in folded.lex(line):
+            target = self.specs.resolve(key[:2], token, self.specs.definitions[key].bound) if folded.is_word(token) else None
+            out.append(self.link(target, token, "reading.html") if target in self.names else html.escape(token))
+        return "".join(out)
+
+
+STYLE = """<style>body { max-width: 110em; margin: 2em auto; padding: 0 1em; font: 15px/1.5 sans-serif; }
+p, code { white-space: pre-wrap; font: 13px/1.5 monospace; margin: 0 0 .7em; } i { color: #666; font-family: sans-serif; }
+a { color: #036; text-decoration: none; } a:hover { text-decoration: underline; } .l { color: #084; font: 12px sans-serif; }
+p:target { background: #ffd; }</style>"""
+
+
+def slug(name):
+    return re.sub(r"[^a-z0-9 -]", "", name.lower()).replace(" ", "-")
+
+
+def in_one(text):
+    """The type and the one clause of a definition in one line, `name (a : A) : B = ..`; None where they don't fit."""
+    if len(text.clauses) != 1 or not all(re.fullmatch(r"[a-z_]\w*", token) for token in text.patterns()):
+        return None
+    kinds, patterns = folded.arrows(text.type[text.type.index(":") + 1 :]), text.patterns()
+    front, rest = [text.name], list(patterns)
+    while kinds and (kinds[0][0] == "{" or rest):
+        kind = kinds.pop(0)
+        if kind[0] == "{":
+            front += [" ", *kind]
+            continue
+        if re.match(r"\(\w+ : ", "".join(kind)):
+            return None
+        names = [rest.pop(0)]
+        while rest and kinds and "".join(kinds[0]) == "".join(kind):
+            names += [" ", rest.pop(0)]
+            kinds.pop(0)
+        front += [" ", "(", *names, " ", ":", " ", *kind, ")"]
+    if rest or not kinds:
+        return None
+    result = [token for number, kind in enumerate(kinds) for token in ([" ", "→", " "] if number else []) + kind]
+    one = [*front, " ", ":", " ", *result, " ", "=", " ", *text.clauses[0][1]]
+    return one if len("".join(one)) <= folded.WIDEST else None
+
+
+def wrapped(tokens):
+    """A text in lines of at most WIDEST columns, those behind the first set in."""
+    lines, line, width = [], [], 0
+    for place, token in enumerate(tokens):
+        behind = len(tokens[place + 1]) if token == "(" and place + 1 < len(tokens) else 0
+        if width + len(token) + behind > folded.WIDEST and line and not folded.is_space(token):
+            lines.append(line)
+            line, width = ["    "], 4
+        line.append(token)
+        width += len(token)
+    return [*lines, line]
+
+
+def gathered(text):
+    """A type of several lines, its fields or variants side by side."""
+    head, parts = text.lines[0].strip().removeprefix("pub "), []
+    for line in text.lines[1:]:
+        line = line.strip().removeprefix("pub ")
+        parts = parts + [line] if not line.startswith("--") else parts
+    return packed(re.sub(r" where$", "", head.replace("record ", "record ").replace(" : Type 0 where", "")), parts)
+
+
+def packed(head, parts):
+    """A head and its parts in as few lines as hold them."""
+    lines, line = [], head + " where " if parts else head
+    for number, part in enumerate(parts):
+        add = part + ("; " if number + 1 < len(parts) else "")
+        if len(line) + len(add) > folded.WIDEST:
+            lines.append(line.rstrip())
+            line = "    "
+        line += add
+    return [*lines, line.rstrip()]
+
+
+def declared(item):
+    """A constant, or a type with its parts side by side; what is said of a part stands behind it."""
+    lines = [line.strip() for line in item.body]
+    if len(lines) == 1 or not lines[0].endswith("{"):
+        return [folded.lex(re.sub(r"^(pub(\([a-z]+\))? )", "", " ".join(lines)))]
+    parts, notes = [], []
+    for line in lines[1:-1]:
+        if line.startswith("///"):
+            notes.append(line[3:].strip())
+        elif line and not line.startswith(("#", "//")):
+            note = f" [{' '.join(notes).rstrip('.')}]" if notes else ""
+            parts.append(re.sub(r"^(pub(\([a-z]+\))? )", "", line).rstrip(",").removeprefix("ghost ") + note)
+            notes = []
+    return [folded.lex(line) for line in packed(re.sub(r"^(pub(\([a-z]+\))? )", "", lines[0])[:-1].strip(), parts)]
 
 
 def headline():
@@ -486,34 +705,47 @@ def headline():
     return lines[begin_at:end]
 
 
-def write(text):
-    os.makedirs(os.path.dirname(os.path.join(ROOT, PAGE)), exist_ok=True)
-    with open(os.path.join(ROOT, PAGE), "w", encoding="utf-8") as file:
+def write(text, path):
+    os.makedirs(os.path.dirname(os.path.join(ROOT, path)), exist_ok=True)
+    with open(os.path.join(ROOT, path), "w", encoding="utf-8") as file:
         file.write(text)
 
 
+class Tried:
+    """What was tried, and what of it failed."""
+
+    def __init__(self):
+        self.passed = self.failed = 0
+
+    def that(self, is_so, what):
+        self.passed, self.failed = self.passed + bool(is_so), self.failed + (not is_so)
+        if not is_so:
+            print(f"reading: {what}")
+
+
 def check(specs, laws, first):
-    """Whether the page holds every definition, and docs/definitions.md says of laws what is so."""
-    text, own = page(specs, laws, first)
-    write(text)
-    failed = passed = 0
+    """Whether the page holds every definition, each behind what it names, and docs/definitions.md says of laws what is so."""
+    made, tried = Page(specs, laws, first), Tried()
+    text, bare, count = made.text()
+    write(text, PAGE)
+    write(made.laws_text(), LAWS)
     named = subprocess.run(["sh", "tests/reached.sh", "list"], cwd=ROOT, capture_output=True, text=True, check=True).stdout
     rows = re.findall(r"^ *\d+  (\w+)  (\w+)/specs/(\w+)\.antt$", named, re.M)
     for name, crate, file in rows:
-        item = specs.definitions[crate, file, name]
-        is_there = "\n".join(item.comment + item.body) in text and f"**`{name}`** `{crate}/specs/{file}.antt:{item.line}`" in text
-        passed, failed = passed + is_there, failed + (not is_there)
-        if not is_there:
-            print(f"reading: {PAGE} doesn't hold {name} of {item.path}")
+        tried.that(f'<p id="{made.anchor(made.place((crate, file, name)))}">' in text, f"{PAGE} doesn't hold {name} of {crate}/specs/{file}.antt")
+    tried.that(len(rows) == len(made.counts[0]), f"tests/reached.sh names {len(rows)} definitions, and {len(made.counts[0])} are reached")
+    order = {key: number for number, key in enumerate(key for _, keys in made.chapters for key in keys)}
+    for key in order:
+        late = [target for target in specs.named(key) if order.get(target, -1) > order[key] and key not in specs.reached([target])]
+        tried.that(not late, f"{key[2]} of {key[0]} is said before {', '.join(target[2] for target in late)}")
+    shown = Counter(made.names.values())
+    tried.that(max(shown.values()) == 1, f"these stand for two things: {', '.join(name for name, number in shown.items() if number > 1)}")
+    tried.that(count <= MOST_LINES and bare <= MOST_BARE, f"{PAGE} has {count} lines, {bare} of them definitions; {MOST_LINES} and {MOST_BARE} may be")
+    for path, content in folds(made).items():
+        tried.that(os.path.exists(os.path.join(ROOT, path)) and read(path) == content, f"{path} isn't as `tests/reading.py fold` writes it")
     for law, names in laws.settles.items():
         found = {key[2] for key in specs.named(laws.statements[law])} if law in laws.statements else set()
-        is_so = law in laws.statements and found.issuperset(names)
-        passed, failed = passed + is_so, failed + (not is_so)
-        if not is_so:
-            print(f"reading: tests/shown/laws.md: {law} isn't there, or doesn't name {', '.join(names)}")
-    if len(rows) != len(own):
-        print(f"reading: tests/reached.sh names {len(rows)} definitions, and {len(own)} are reached")
-        failed += 1
+        tried.that(law in laws.statements and found.issuperset(names), f"tests/shown/laws.md: {law} isn't there, or doesn't name {', '.join(names)}")
     for line in read("docs/definitions.md").split("\n"):
         cells = line.split("|")
         if not line.startswith("| `") or len(cells) != 7:
@@ -524,18 +756,21 @@ def check(specs, laws, first):
         if kind not in ("both", "one"):
             continue
         kinds = {laws.kind(name) for name in names if name in laws.statements}
-        is_so = ("both ways" in kinds) if kind == "both" else bool(kinds)
-        passed, failed = passed + is_so, failed + (not is_so)
-        if not is_so:
-            print(f"reading: docs/definitions.md: {cells[1].strip()}: no law there ties {kind}")
-    print(f"reading: {passed} passed, {failed} failed")
-    return failed == 0 and passed > 0
+        tried.that(("both ways" in kinds) if kind == "both" else bool(kinds), f"docs/definitions.md: {cells[1].strip()}: no law there ties {kind}")
+    print(f"reading: {tried.passed} passed, {tried.failed} failed")
+    return tried.failed == 0 and tried.passed > 0
+
+
+def folds(made):
+    """The files of the crate that proves what is folded."""
+    keys = [key for key in made.counts[0] if key in made.folded.changed and key not in made.folded.into]
+    return folded.Writer(made.folded, keys).files()
 
 
 def main():
     words = sys.argv[1:]
     what = words.pop(0) if words else "page"
-    if what not in ("page", "count", "list", "ties", "check"):
+    if what not in ("page", "count", "list", "ties", "check", "fold"):
         sys.exit(__doc__)
     function = words[0] if words else HEADLINE
     path = words[1] if len(words) > 1 else headline_file()
@@ -550,6 +785,10 @@ def main():
     first = begin(specs, function, path)
     if what == "check":
         sys.exit(not check(specs, laws, first))
+    if what == "fold":
+        for path, text in folds(Page(specs, laws, first)).items():
+            write(text, path)
+        return
     counts = numbers(specs, laws, first)
     own = counts[0]
     if what == "list":
@@ -559,8 +798,11 @@ def main():
         for crate, lines in Counter({key[0]: 0 for key in own}).items():
             print(f"{sum(specs.definitions[key].size for key in own if key[0] == crate):6d}  {crate}")
     else:
-        write(page(specs, laws, first)[0])
-        print(f"reading: {PAGE}")
+        made = Page(specs, laws, first)
+        text, bare, count = made.text()
+        write(text, PAGE)
+        write(made.laws_text(), LAWS)
+        print(f"reading: {PAGE} has {count} lines, {bare} of them definitions; {LAWS} is behind its links")
     print("\n".join(said(specs, counts)))
 
 
