@@ -1,6 +1,6 @@
 #!/bin/sh
 # Does the same acts to the same made files in Emacs and by `orgq`, and compares the files byte for byte: each difference has to
-# be of a kind that has its row in docs/manual.md. The files are made from a seed, some 3,500 acts to 330 of them; all logging of
+# be of a kind that has its row in docs/org.md. The files are made from a seed, some 3,500 acts to 330 of them; all logging of
 # Org is off. Where Emacs or python3 isn't there all is left out, which the last line says, and the status is 0. Else the last
 # line counts.
 #     tests/acts.sh ORGQ [SEED [COUNT]]
@@ -67,4 +67,4 @@ while IFS="$(printf '\t')" read -r case file line name date; do
     act "$case.org" "$line" "$name" "$date" > "$case.said" 2>&1 < /dev/null
     echo $? > "$case.status"
 done < "$work/acts"
-python3 "$here/acts/compare.py" "$work" "$here/../docs/manual.md"
+python3 "$here/acts/compare.py" "$work" "$here/../docs/org.md"

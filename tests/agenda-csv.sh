@@ -1,7 +1,7 @@
 #!/bin/sh
 # Asks Org's own batch agenda (`org-batch-agenda-csv`, in Emacs) and `orgq --csv agenda` for the same days of the three files of
 # tests/agenda-csv, at the same moment, and compares them row by row and field by field: each difference has to be of a kind that
-# has its row in docs/manual.md, and each kind has to be seen. The order of rows within a day isn't compared. Where Emacs or
+# has its row in docs/org.md, and each kind has to be seen. The order of rows within a day isn't compared. Where Emacs or
 # python3 isn't there all is left out, and the status is 0. The last line counts.
 #     tests/agenda-csv.sh ORGQ
 here=$(cd "$(dirname "$0")" && pwd)
@@ -33,4 +33,4 @@ if ! "$emacs" -Q --batch -l "$here/agenda-csv/agenda.el" 2024-02-28 10:30 2024-0
     exit 1
 fi
 "$orgq" --at "2024-02-28 10:30" -f home.org -f work.org -f club.org --csv agenda 2024-02-19 -d 24 > orgq.csv || exit 2
-python3 "$here/agenda-csv/compare.py" emacs.csv orgq.csv 2024-02-28 "$here/../docs/manual.md" home.org work.org club.org
+python3 "$here/agenda-csv/compare.py" emacs.csv orgq.csv 2024-02-28 "$here/../docs/org.md" home.org work.org club.org

@@ -13,7 +13,7 @@ ROOT = os.path.dirname(os.path.dirname(os.path.abspath(__file__)))
 TABLE = "crates/org_client/src/template.rt"
 SENTENCES = "crates/orgq_messages/src/problem.rt"
 SCHEMA = "docs/orgq-rows.schema.json"
-MANUAL = "docs/manual.md"
+MANUAL = "docs/using.md"
 # What a template doesn't take.
 OBJECTS = ["properties"]
 

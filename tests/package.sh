@@ -102,6 +102,7 @@ installed() {
     for file in share/man/man1/orgq-notify.1 share/doc/orgviews/THIRD-PARTY-NOTICES share/doc/orgviews/LICENSE \
         share/bash-completion/completions/orgq share/zsh/site-functions/_orgq share/fish/vendor_completions.d/orgq.fish \
         share/systemd/user/orgq-notify.timer share/doc/orgviews/manual.md share/doc/orgviews/stream.md \
+        share/doc/orgviews/using.md share/doc/orgviews/acting.md share/doc/orgviews/org.md \
         share/doc/orgviews/recipes/orgq-pick share/doc/orgviews/recipes/README.md; do
         [ -s "$root/usr/$file" ] || { echo "no $file"; return 1; }
     done

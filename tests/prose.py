@@ -84,9 +84,10 @@ def long_sentences(path, text):
 
 
 def headings(text):
-    """The headings of a page, as a link names them."""
+    """The headings of a page and its marks `<a id=..>`, as a link names them."""
     found = re.findall(r"^#+ (.*)$", text, re.M)
-    return {re.sub(r"[^\w -]", "", heading.lower()).replace(" ", "-") for heading in found}
+    anchors = set(re.findall(r'<a id="([\w-]+)"></a>', text))
+    return anchors | {re.sub(r"[^\w -]", "", heading.lower()).replace(" ", "-") for heading in found}
 
 
 def missing_links(path, text):

@@ -1,6 +1,6 @@
 #!/usr/bin/env python3
 """Compares what Org and orgq leave of the same files after the same acts, byte for byte. Where they differ, the difference has
-to be of kinds that have a name here, each of which has its row in docs/manual.md; any other one fails.
+to be of kinds that have a name here, each of which has its row in docs/org.md; any other one fails.
 
     compare.py FOLDER MANUAL    FOLDER/acts, FOLDER/files, FOLDER/emacs and FOLDER/orgq, with FOLDER/orgq/CASE.status
 """

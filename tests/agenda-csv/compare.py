@@ -1,7 +1,7 @@
 #!/usr/bin/env python3
 """Compares the rows of Org's own batch agenda with those of `orgq --csv agenda` over the same files and days, field by field.
 A row has a partner of the same day, heading and kind. What differs has to be of kinds that have a name here, each of which has
-its row in docs/manual.md; any other difference fails. A row without a partner is explained by its heading's own lines.
+its row in docs/org.md; any other difference fails. A row without a partner is explained by its heading's own lines.
 
     compare.py EMACS.csv ORGQ.csv TODAY MANUAL FILE..
 """
