@@ -28,7 +28,7 @@ put 644 share/doc/orgviews README.md CHANGELOG.md LICENSE contrib/out/THIRD-PART
 for document in docs/*.md; do
     case $document in
         # for who works on the sources
-        docs/architecture.md | docs/new-code.md | docs/performance.md) ;;
+        docs/architecture.md | docs/costs.md | docs/new-code.md | docs/performance.md) ;;
         *) put 644 share/doc/orgviews "$document" ;;
     esac
 done

@@ -5,7 +5,7 @@
 # whether each must-fail edit can be applied and says where it is refused, each file is in the formatter's layout, no crate of
 # the store stands on views, the number of a rule stands once, what the pages say of the sources is so, and each crate has a row
 # on the page of what was proved from nothing. With WHOLE=1 everything is proved from nothing. Where all passed so, the last two
-# lines go into contrib/out/gate, for an archive or a package of these sources.
+# lines go into contrib/out/gate, for an archive or a package of these sources. What crates cost goes into contrib/out/spent.
 cd "$(dirname "$0")/.." || exit 2
 work=$(mktemp -d) || exit 2
 watcher=""
@@ -111,10 +111,15 @@ tests=$(grep -c ': its tests are proved$' "$work/log")
 edits=$(grep -c '^rt: must-fail ' "$work/log")
 echo "gate: $processor processor minutes in $((($(date +%s) - start) / 60)) minutes: $proofs crates proved and $earlier by earlier runs, $tests with tests, $edits must-fail edits"
 [ ! -s "$work/spent" ] || python3 tests/spent.py tell "$work/spent" "$processor" 2> /dev/null
+# The same crate by crate, with what was proved from nothing: tests/costs.py writes it into docs/costs.md.
+touch "$work/kept"
+if [ -s "$work/spent" ]; then
+    mkdir -p contrib/out
+    { cat "$work/spent" "$work/kept" && echo "at $(git rev-parse --short=8 HEAD 2> /dev/null) $(date -u +%Y-%m-%d)"; } > contrib/out/spent
+fi
 
 [ -z "$left_out" ] || echo "gate: not tried, for want of tools: $left_out"
 # What was proved from nothing, beside the page's rows; of which sources, where it was everything and all passed.
-touch "$work/kept"
 counted proved "$work/log" "$work/kept"
 cat "$work/kept"
 if [ "$(cat "$work/kept")" = "kept: everything was proved from nothing" ] && [ "$failed" -eq 0 ] && [ "$(sh contrib/sources.sh)" = "$sources" ]; then
