@@ -35,7 +35,7 @@ build: $(PROGRAM) $(ORGQ) $(PACKED)
 # `rt run` proves every crate below the program before it builds it, and then runs it on no input.
 $(PROGRAM): $(SOURCES)
 	@$(NEEDS_RT)
-	@echo "orgviews: proving every crate and building the program (half an hour to an hour on four processors; later builds check only what changed)"
+	@echo "orgviews: proving every crate below the program and building it (half an hour to an hour on four processors; later builds check only what changed)"
 	@cd crates/orgviews && rt run -- --at "2024-02-28 10:30" < /dev/null
 	@test -x $(PROGRAM) && touch $(PROGRAM)
 

@@ -49,7 +49,7 @@ def proved(text, names):
 
 
 def measured(text, names):
-    """Of each crate that the gate proved from nothing its new cells. A proof over kept work stands before the one from nothing."""
+    """Of each crate that the gate proved from nothing its new cells. A proof over kept work, if any, stands before that one."""
     stamp = re.search(r"(?m)^at ([0-9a-f]{8}) (\d{4}-\d\d-\d\d)$", text)
     if not stamp:
         sys.exit("costs: what was measured doesn't say at which commit and on which day")
@@ -60,7 +60,7 @@ def measured(text, names):
         if spent["proofs"]:
             sums = [max(spent["proofs"]), *(sum(spent[kind]) for kind in KINDS[1:])]
             most = max(memory for *_, memory in checks) / 1000
-            found[name] = [*(f"{it:.0f}" if it >= 0.5 else "" for it in sums), f"{most:.1f}", *stamp.groups()]
+            found[name] = [f"{it:.0f}" if it >= 0.5 else "" for it in sums] + [f"{most:.1f}", *stamp.groups()]
     return found
 
 

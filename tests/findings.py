@@ -63,8 +63,8 @@ def main():
     old, made = rows(page), {}
     for name, is_whole in there:
         severity, is_rare = said[name]
-        cells = [f"`{name}`", severity, "if asked for" if is_rare else "always", "all" if is_whole else "-", example(old.get(name))]
-        made[name] = f"| {' | '.join(cells)} |"
+        looked_for = "if asked for" if is_rare else "always"
+        made[name] = f"| `{name}` | {severity} | {looked_for} | {'all' if is_whole else '-'} | {example(old.get(name))} |"
     before, _, rest = page.partition(BEGIN)
     after = rest.partition(END)[2]
     whole = "\n".join([before + BEGIN, *HEAD, *made.values(), END + after])

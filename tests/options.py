@@ -39,6 +39,11 @@ def read(path):
         return file.read()
 
 
+def reached(body, lists):
+    """The options of the lists that a function names."""
+    return set().union(*(options for name, options in lists.items() if re.search(rf"\b{name}\b", body)))
+
+
 class Table:
     """What the program takes: options by their names and letters, and those of each command."""
 
@@ -50,7 +55,7 @@ class Table:
         self.of_all = lists["OF_ALL"] | {"--help", "--version"}
         self.of_rows = lists["OF_ROWS"]
         bodies = {found[1]: found[2] for found in re.finditer(r"(?ms)^(?:pub )?fn (\w+)<.*?\{\n(.*?)^\}", code)}
-        helps = {name: self.reached(body, bodies, lists) for name, body in bodies.items() if "Command::new" not in body}
+        helps = {name: reached(body, lists) for name, body in bodies.items() if "Command::new" not in body}
         self.commands = {}
         for name, body in bodies.items():
             names = re.findall(r'Command::new\(alloc, (?:"([a-z]+)"|name)\)', body)
@@ -58,7 +63,8 @@ class Table:
                 continue
             # A function that is told the name makes one of a clock for each call.
             called = re.findall(rf'\b{name}\(alloc, "([a-z]+)"', code)
-            own = self.reached(body, {}, lists).union(*(options for it, options in helps.items() if re.search(rf"\b{it}\(", body)))
+            called_helps = (options for it, options in helps.items() if re.search(rf"\b{it}\(", body))
+            own = reached(body, lists).union(*called_helps)
             is_below = name.startswith("clock_") or name == "with_clock_acts"
             for word in called or names:
                 self.commands[f"clock {word}" if is_below else word] = own
@@ -76,10 +82,6 @@ class Table:
             if letter:
                 self.letters[f"-{letter}"] = f"--{name}"
         return names
-
-    def reached(self, body, bodies, lists):
-        """The options of the lists that a function names."""
-        return set().union(*(options for name, options in lists.items() if re.search(rf"\b{name}\b", body)))
 
     def long(self, words):
         """Options by their long names."""
@@ -118,7 +120,8 @@ def code_of(text):
 def first_cells(text, head="Option"):
     """The first cells of the tables whose head begins so."""
     tables = re.findall(rf"(?m)^\| (?:{head})[^|\n]*\|.*\n\|[-|]+\n((?:\|.*\n?)*)", text)
-    return [re.split(r" (?<!\\)\| ", row)[0].removeprefix("| ").replace("\\|", "|") for it in tables for row in it.strip().split("\n")]
+    rows = [row for table in tables for row in table.strip().split("\n")]
+    return [re.split(r" (?<!\\)\| ", row)[0].removeprefix("| ").replace("\\|", "|") for row in rows]
 
 
 def options_in(cells):

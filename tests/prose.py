@@ -1,8 +1,9 @@
 #!/usr/bin/env python3
 """Checks in a second that pages and contracts can be read: no sentence of README.md and docs/ has more than 45 words
-outside tables and code, each file and each heading that these pages lead to is there, and no clause of a contract has more than
-100 characters from its keyword to its brace. tests/prose.txt says how many longer clauses a file has for now, a line each:
-CRATE/src/FILE.rt COUNT; no file may have more. Says what it finds; the last line counts files.
+outside tables and code, each file and each heading that these pages lead to is there, as is each section of a page's own that
+"see" names, and no clause of a contract has more than 100 characters from its keyword to its brace. tests/prose.txt says how
+many longer clauses a file has for now, a line each: CRATE/src/FILE.rt COUNT; no file may have more. Says what it finds; the last
+line counts files.
 
     tests/prose.py            everything
     tests/prose.py FILE.md    the sentences and links of these pages alone
@@ -83,15 +84,20 @@ def long_sentences(path, text):
     return said
 
 
+def anchor(heading):
+    """A heading as a link names it."""
+    return re.sub(r"[^\w -]", "", heading.lower()).replace(" ", "-")
+
+
 def headings(text):
     """The headings of a page and its marks `<a id=..>`, as a link names them."""
     found = re.findall(r"^#+ (.*)$", text, re.M)
     anchors = set(re.findall(r'<a id="([\w-]+)"></a>', text))
-    return anchors | {re.sub(r"[^\w -]", "", heading.lower()).replace(" ", "-") for heading in found}
+    return anchors | {anchor(heading) for heading in found}
 
 
 def missing_links(path, text):
-    """What a page names and isn't there: links, and in backticks the files of this repository."""
+    """What a page names and isn't there: links, sections of its own, and in backticks the files of this repository."""
     said = []
     here = os.path.dirname(path)
     for target, heading in re.findall(r"\]\(([^)#]*)#?([^)]*)\)", text):
@@ -102,6 +108,9 @@ def missing_links(path, text):
             said.append(f"{path}: no file {target}")
         elif heading and heading not in headings(read(whole)):
             said.append(f"{path}: no heading {heading} in {target or path}")
+    for section in re.findall(r"\b(?:see|under) \*([A-Z][^*\n|]*)\*", text):
+        if anchor(section) not in headings(text):
+            said.append(f"{path}: no section {section} of its own")
     for target in re.findall(r"`((?:docs|tests|crates|contrib|clients|bench)/[A-Za-z0-9_./-]+)`", text):
         made = "/out/" in target or target.endswith("/out")
         if not made and not os.path.exists(os.path.join(ROOT, target)):
