@@ -18,17 +18,8 @@ SOURCES = ["crates/orgq_args/src/arguments.rt", "crates/orgq_args/src/act_argume
 LINES = "crates/orgq_args/src/option_lines.rt"
 STREAM = "crates/orgviews/src/arguments.rt"
 COMPLETIONS = "contrib/completions"
-# Where the manual says more of a command than its row of *Commands*.
-SECTIONS = {
-    "docs/using.md": {"Clock tables": ["clock"], "A calendar for other programs": ["ical"], "A page to look at": ["page"]},
-    "docs/acting.md": {
-        "Changing your files": ["done", "set"],
-        "Clocks that run": ["clock in", "clock out", "clock cancel"],
-        "New headings": ["add"],
-        "Place and options": ["done", "set", "schedule", "deadline"],
-    },
-    "docs/org.md": {"What will not show": ["check"]},
-}
+# Where the manual says of several commands at once what their options are, beside the sections that their rows lead to.
+SHARED_SECTIONS = {("docs/acting.md", "Place and options"): ["done", "set", "schedule", "deadline"]}
 # Values that completions know, by what the table calls them.
 KNOWN = ["PATH", "FILE", "PLACE", "KIND,..", "DATE", "TAG"]
 OPTION = r"(?<![\w-])--[a-z]+(?:-[a-z]+)*|(?<![\w-])-[a-zA-Z](?![\w-])"
@@ -39,23 +30,17 @@ def read(path):
         return file.read()
 
 
-def reached(body, lists):
-    """The options of the lists that a function names."""
-    return set().union(*(options for name, options in lists.items() if re.search(rf"\b{name}\b", body)))
-
-
 class Table:
     """What the program takes: options by their names and letters, and those of each command."""
 
     def __init__(self):
         code = "\n".join(map(read, SOURCES))
-        self.values, self.letters, lists = {}, {"-h": "--help", "-V": "--version"}, {}
+        self.values, self.letters, self.lists = {}, {"-h": "--help", "-V": "--version"}, {}
         for name, text in re.findall(r'const (OF_\w+): &str =\s*"((?:\\.|[^"\\])*)";', code, re.S):
-            lists[name] = self.add(text.removeprefix("\\\n"))
-        self.of_all = lists["OF_ALL"] | {"--help", "--version"}
-        self.of_rows = lists["OF_ROWS"]
+            self.lists[name] = self.add(re.sub(r"\\\n\s*", "", text))
+        self.of_all = self.lists["OF_ALL"] | {"--help", "--version"}
         bodies = {found[1]: found[2] for found in re.finditer(r"(?ms)^(?:pub )?fn (\w+)<.*?\{\n(.*?)^\}", code)}
-        helps = {name: reached(body, lists) for name, body in bodies.items() if "Command::new" not in body}
+        parts = {name: body for name, body in bodies.items() if "Command::new" not in body}
         self.commands = {}
         for name, body in bodies.items():
             names = re.findall(r'Command::new\(alloc, (?:"([a-z]+)"|name)\)', body)
@@ -63,8 +48,7 @@ class Table:
                 continue
             # A function that is told the name makes one of a clock for each call.
             called = re.findall(rf'\b{name}\(alloc, "([a-z]+)"', code)
-            called_helps = (options for it, options in helps.items() if re.search(rf"\b{it}\(", body))
-            own = reached(body, lists).union(*called_helps)
+            own = self.reached(body, parts)
             is_below = name.startswith("clock_") or name == "with_clock_acts"
             for word in called or names:
                 self.commands[f"clock {word}" if is_below else word] = own
@@ -83,6 +67,16 @@ class Table:
                 self.letters[f"-{letter}"] = f"--{name}"
         return names
 
+    def reached(self, body, parts):
+        """The options of the lists that a function names, itself or by those that make parts of commands."""
+        own = [options for name, options in self.lists.items() if re.search(rf"\b{name}\b", body)]
+        below = [self.reached(text, parts) for name, text in parts.items() if re.search(rf"\b{name}\(", body)]
+        return set().union(*own, *below)
+
+    def shared(self, words):
+        """The options of the lists that a page calls by such a word in capitals, as ROWS."""
+        return set().union(*(self.lists.get(f"OF_{word}", set()) for word in words))
+
     def long(self, words):
         """Options by their long names."""
         return {self.letters.get(word, word) for word in words}
@@ -100,10 +94,9 @@ class Man:
         text = re.sub(r"\\f.", "", self.texts.get(section, ""))
         return set(re.findall(OPTION, "\n".join(re.findall(r"(?m)^\.TP\n(.*)", text))))
 
-    def in_synopsis(self, section):
-        """Those of what stands before the first paragraph."""
-        text = re.sub(r"\\f.", "", self.texts.get(section, ""))
-        return set(re.findall(OPTION, text.partition(".PP\n")[0]))
+    def synopsis(self, section):
+        """What stands before the first paragraph."""
+        return re.sub(r"\\f.", "", self.texts.get(section, "")).partition(".PP\n")[0]
 
 
 def manual_section(path, name):
@@ -147,49 +140,63 @@ def check_man(checks, table):
     man = Man("docs/orgq.1")
     groups = [it for it in man.texts if it.islower()]
     checks.each("docs/orgq.1: the list of commands", set(table.commands) - set(groups), set(groups) - set(table.commands))
-    for section, taken in (("OPTIONS", table.of_all), ("ROWS", table.of_rows)):
+    shared = [it for it in man.texts if f"OF_{it}" in table.lists]
+    for section, taken in [("OPTIONS", table.of_all), *((it, table.shared([it])) for it in shared)]:
         found = table.long(man.described(section))
         checks.each(f"docs/orgq.1: {section}", taken - found, found - taken)
     for command, own in table.commands.items():
-        text, found, shown = man.texts.get(command, ""), table.long(man.described(command)), table.long(man.in_synopsis(command))
-        of_rows = table.of_rows if ".RI [ ROWS ]" in text else set()
+        text, found, synopsis = man.texts.get(command, ""), table.long(man.described(command)), man.synopsis(command)
+        elsewhere = table.shared({*re.findall(r"\b[A-Z]+\b", synopsis)} & {*shared})
         of_others = [man.described(other) for other in re.findall(r"options and statuses are those of\n\.BR (\w+)", text)]
-        checks.each(f"docs/orgq.1: {command}", own - of_rows - found.union(*of_others), (found | shown) - own - table.of_all)
-        checks.each(f"docs/orgq.1: the synopsis of {command}", own - of_rows - shown, set())
+        shown = table.long(re.findall(OPTION, synopsis))
+        checks.each(f"docs/orgq.1: {command}", own - elsewhere - found.union(*of_others), (found | shown) - own - table.of_all)
+        checks.each(f"docs/orgq.1: the synopsis of {command}", own - elsewhere - shown, set())
     letters = {(it[0], it[1]) for it in re.findall(r'(?m)^\.TP\n\.BR (-\w) ", " (--[a-z-]+)', "\n".join(man.texts.values()))}
     checks.each("docs/orgq.1: letters", {" ".join(it) for it in set(table.letters.items()) - letters},
                 {" ".join(it) for it in letters - set(table.letters.items())})
 
 
+def manual_rows():
+    """Of each command what its rows in *Commands* show, and the sections to which they lead, as page and heading."""
+    page = "docs/using.md"
+    shown, sections = {}, dict(SHARED_SECTIONS)
+    for row in re.findall(r"(?m)^\| `.*\|$", manual_section(page, "Commands")):
+        cell, rest = re.split(r" (?<!\\)\| ", row, maxsplit=1)
+        names = []
+        for span in re.findall(r"`([^`]+)`", cell):
+            names.append(re.match(r"clock (?:in|out|cancel|status)\b|[a-z]+", span)[0])
+            shown[names[-1]] = shown.get(names[-1], "") + " " + span
+        for link, heading, target in re.findall(r"(\[?)\*([A-Z][^*]*)\*(?:\]\((\w+\.md))?", rest):
+            place = f"docs/{target}" if link else page, heading
+            sections[place] = sections.get(place, []) + names
+    return shown, sections
+
+
 def check_manual(checks, table):
     page = "docs/using.md"
-    rows = first_cells(manual_section(page, "Commands"), "Command")
-    of_row = {}
-    for cell in rows:
-        for span in re.findall(r"`([^`]+)`", cell):
-            name = re.match(r"clock (?:in|out|cancel|status)\b|[a-z]+", span)[0]
-            of_row[name] = of_row.get(name, set()) | set(re.findall(OPTION, span)) | ({"ROWS"} if "[ROWS]" in span else set())
-    checks.each(f"{page}: *Commands*", set(table.commands) - set(of_row), set(of_row) - set(table.commands))
+    shown, sections = manual_rows()
+    checks.each(f"{page}: *Commands*", set(table.commands) - set(shown), set(shown) - set(table.commands))
     # `--help` is left to the program.
     found = table.long(options_in(first_cells(manual_section(page, "Options"))))
     checks.each(f"{page}: *Options*", table.of_all - found - {"--help"}, found - table.of_all)
-    found = table.long(options_in(first_cells(manual_section(page, "Some rows of many"))))
-    checks.each(f"{page}: *Some rows of many*", table.of_rows - found, found - table.of_rows)
+    words = {word for text in shown.values() for word in re.findall(r"\[([A-Z]+)\]", text) if f"OF_{word}" in table.lists}
+    found = table.long(options_in(first_cells(read(page), "Option of")))
+    checks.each(f"{page}: tables of {', '.join(sorted(words))}", table.shared(words) - found, found - table.shared(words))
     said = {command: set() for command in table.commands}
-    for path, sections in SECTIONS.items():
-        for section, commands in sections.items():
-            text = manual_section(path, section)
-            if not text:
-                checks.each(path, {f"the section *{section}*"}, set())
-            for command in commands:
-                said[command] |= table.long(re.findall(OPTION, code_of(text)))
-            taken = table.of_all.union(*(table.commands[it] for it in commands))
-            checks.each(f"{path}: *{section}*", set(), table.long(options_in(first_cells(text, "Option|Argument"))) - taken)
+    for (path, section), commands in sections.items():
+        text, commands = manual_section(path, section), [it for it in commands if it in table.commands]
+        for command in commands:
+            said[command] |= table.long(re.findall(OPTION, code_of(text)))
+        taken = table.of_all.union(*(table.commands[it] for it in commands))
+        listed = table.long(options_in(first_cells(text, "Option|Argument")))
+        checks.each(f"{path}: *{section}*", set() if text else {"its text"}, listed - taken)
     for command, own in table.commands.items():
-        named = table.long(of_row.get(command, set()))
-        checks.each(f"the manual's row of {command}", set(), named - own - table.of_all - {"ROWS"})
-        if "ROWS" in named or command == "follow":
-            named |= table.of_rows | ({"--days"} if command == "follow" else set())
+        text = shown.get(command, "")
+        named = table.long(re.findall(OPTION, text))
+        checks.each(f"the manual's row of {command}", set(), named - own - table.of_all)
+        named |= table.shared(re.findall(r"\[([A-Z]+)\]", text))
+        # What is followed is a command, with all that may stand in front of one.
+        named |= table.lists["OF_TODAY"] | table.shared(words) if command == "follow" else set()
         checks.each(f"the manual, of {command},", own - named - said[command], set())
 
 
