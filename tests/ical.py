@@ -1,13 +1,19 @@
-"""ical.py icalendar|khal FOUND ROWS HEADINGS: holds what another program found in a calendar against rows of JSON.
+"""ical.py icalendar|khal FOUND ROWS HEADINGS DAYS: holds what another program found in a calendar against rows of JSON.
 
-FOUND is a stream of iCalendar, read by the library icalendar, or lines of `khal list`: day, start, end and title with tabs
-between. ROWS are the objects of an agenda of the same days, HEADINGS those of all headings. The last line counts, or says what
+FOUND is a stream of iCalendar, read by the library icalendar, or lines of `khal list`: days, and below each start, end and title with
+tabs
+between. ROWS are the objects of an agenda of the same days, HEADINGS those of all headings, DAYS how many days there are. Rules and
+further days of events are gone through, so that each row has its day of an event. The last line counts, or says what
 differs."""
+import datetime
 import json
 import re
 import sys
 
-EVENTS = {"stamp", "range", "scheduled", "deadline"}
+# A row of these kinds is one of an event; of a range each day has its row.
+EVENTS = {"stamp", "scheduled", "deadline"}
+STEPS = {"DAILY": 1, "WEEKLY": 7}
+FIRST = datetime.date(2024, 2, 28)
 
 
 def shown(text):
@@ -20,14 +26,22 @@ def objects(path):
         return [json.loads(line) for line in lines]
 
 
-def later_end(row):
-    """The end of a row, where it is later than its start."""
+def other_end(row):
+    """The end of a row, where it isn't its start."""
     end = row.get("end", "")
-    return end if end > row.get("start", "") else ""
+    return end if end != row.get("start", "") else ""
 
 
 def wanted_events(rows):
-    return [(row["day"], row.get("start", ""), later_end(row), shown(row["title"])) for row in rows if row["kind"] in EVENTS]
+    """The events and the days of ranges that rows stand for."""
+    events, ranges = [], []
+    for row in rows:
+        title = shown(row["words"])
+        if row["kind"] in EVENTS or row["kind"] == "range" and row["days_in"] == 1:
+            events.append((row["day"], row.get("start", ""), other_end(row), title))
+        elif row["kind"] == "range":
+            ranges.append((row["day"], title))
+    return sorted(events), sorted(ranges)
 
 
 def wanted_tasks(headings):
@@ -36,7 +50,7 @@ def wanted_tasks(headings):
     for heading in sorted(headings, key=lambda heading: (heading["file"], heading["line"])):
         if "deadline" in heading and not heading.get("done", False):
             day, time = re.match(r"(\S+) \S+(?: (\d+:\d\d))?", heading["deadline"]).groups()
-            tasks.append((day, time or "", shown(heading["title"]), tuple(heading["tags"])))
+            tasks.append((day, time or "", shown(heading["words"]), tuple(heading["tags"])))
     return tasks
 
 
@@ -44,10 +58,46 @@ def when(value):
     """The day and the time of a property."""
     value = value.dt
     if not hasattr(value, "hour"):
-        return value.isoformat(), ""
+        return value, ""
     if value.tzinfo is not None:
         fail(f"a zone: {value}")
-    return value.date().isoformat(), value.strftime("%H:%M")
+    return value.date(), value.strftime("%H:%M")
+
+
+def rule_days(first, rule, last):
+    """The days that a rule gives, up to a last one; a month and a year that lack the day are passed over."""
+    frequency, interval = str(rule["FREQ"][0]), int(rule.get("INTERVAL", [1])[0])
+    day, step = first, 0
+    while day <= last:
+        yield day
+        step += interval
+        if frequency in STEPS:
+            day = first + datetime.timedelta(days=STEPS[frequency] * step)
+            continue
+        months = first.month - 1 + (step if frequency == "MONTHLY" else 12 * step)
+        try:
+            day = first.replace(year=first.year + months // 12, month=months % 12 + 1)
+        except ValueError:
+            fail(f"a rule that passes over a day: {rule} from {first}")
+
+
+def begin_days(component, last):
+    """The days on which an event begins, up to a last one."""
+    first, start = when(component["DTSTART"])
+    if "RRULE" in component:
+        return list(rule_days(first, component["RRULE"], last))
+    more = component.get("RDATE", [])
+    more = more if isinstance(more, list) else [more]
+    days = [first]
+    for dates in more:
+        for date in dates.dts:
+            day, time = when(date)
+            if time != start:
+                fail(f"an event at {start} is at {time}, too")
+            days.append(day)
+    if days != sorted(set(days)):
+        fail(f"days that don't rise: {days}")
+    return days
 
 
 def categories(component):
@@ -55,7 +105,7 @@ def categories(component):
     return tuple(str(item) for item in found.cats) if found is not None else ()
 
 
-def by_icalendar(path):
+def by_icalendar(path, days):
     import icalendar
 
     with open(path, "rb") as stream:
@@ -69,30 +119,43 @@ def by_icalendar(path):
     uids = [str(component["UID"]) for component in components]
     if len(set(uids)) != len(uids):
         fail("a UID stands twice")
-    events, tasks = [], []
+    last = FIRST + datetime.timedelta(days=days - 1)
+    events, ranges, tasks = [], [], []
     for component in components:
         if component.name == "VEVENT":
-            day, start = when(component["DTSTART"])
-            end = ""
-            if "DTEND" in component:
-                of, end = when(component["DTEND"])
-                if of != day:
-                    fail(f"an event that ends on {of}")
-            events.append((day, start, end, str(component["SUMMARY"])))
+            begun, start = when(component["DTSTART"])
+            of, end = when(component["DTEND"]) if "DTEND" in component else (begun, "")
+            title = str(component["SUMMARY"])
+            if "DTEND" in component and (of, end) <= (begun, start):
+                fail(f"{title} ends at {of} {end} and begins at {begun} {start}")
+            over = (of - begun).days
+            if not start or end == "00:00":
+                over -= 1 if "DTEND" in component else 0
+            is_night = over == 1 and start and end and end < start
+            for day in begin_days(component, last):
+                if over <= 0 or is_night:
+                    if FIRST <= day <= last:
+                        events.append((day.isoformat(), start, end, title))
+                    continue
+                held = [day + datetime.timedelta(days=more) for more in range(over + 1)]
+                ranges += [(day.isoformat(), title) for day in held if FIRST <= day <= last]
         elif component.name == "VTODO":
-            tasks.append((*when(component["DUE"]), str(component["SUMMARY"]), categories(component)))
+            day, time = when(component["DUE"])
+            tasks.append((day.isoformat(), time, str(component["SUMMARY"]), categories(component)))
         else:
             fail(f"a component {component.name}")
-    return events, tasks
+    return sorted(events), sorted(ranges), tasks
 
 
 def by_khal(path):
-    """The events that khal lists; it gives those without an end one of its own."""
-    events = []
+    """The events that khal lists, each under its day; it gives those without an end one of its own."""
+    events, day = [], ""
     with open(path, encoding="utf-8") as lines:
         for line in lines:
-            if line.strip():
-                events.append(tuple(line.rstrip("\n").split("\t")))
+            if line.startswith("= "):
+                day = line[2:].strip()
+            elif line.strip():
+                events.append((day, *line.rstrip("\n").split("\t")))
     return events
 
 
@@ -110,21 +173,28 @@ def same(name, found, wanted):
 
 
 def main():
-    reader, found, rows, headings = sys.argv[1:]
-    events = wanted_events(objects(rows))
+    reader, found, rows, headings, days = sys.argv[1:]
+    events, ranges = wanted_events(objects(rows))
     if not events:
         fail("no rows")
     if reader == "icalendar":
         tasks = wanted_tasks(objects(headings))
-        found_events, found_tasks = by_icalendar(found)
+        found_events, found_ranges, found_tasks = by_icalendar(found, int(days))
         same("event", found_events, events)
+        same("day of a range", found_ranges, ranges)
         same("task", found_tasks, tasks)
-        print(f"{len(events)} events, {len(tasks)} tasks")
+        print(f"{len(events)} events, {len(ranges)} days of ranges, {len(tasks)} tasks")
     else:
+        # What goes on over days is on each of them, with times of its own.
+        over = {title for _, title in ranges} | {title for _, start, end, title in events if end and end < start}
         ends = {(day, start, title): end for day, start, end, title in events if end}
-        listed = [(day, start, end if (day, start, title) in ends else "", title) for day, start, end, title in by_khal(found)]
-        same("event", sorted(listed), sorted(events))
-        print(f"{len(events)} events")
+        listed = [(day, start, end if (day, start, title) in ends else "", title) for day, start, end, title in by_khal(found) if title not in over]
+        same("event", sorted(listed), [event for event in events if event[3] not in over])
+        held = {(day, title) for day, _, _, title in by_khal(found) if title in over}
+        for day, title in ranges:
+            if (day, title) not in held:
+                fail(f"{title} isn't on {day}")
+        print(f"{len(events)} events, {len(ranges)} days of ranges")
 
 
 main()

@@ -1,7 +1,8 @@
 #!/bin/sh
 # Reads back the calendars of the program ORGQ (the one that was built last where none is named) by two other programs: khal, and
 # the library icalendar of python3. Each has to find the days, times and titles of the rows that an agenda of the same days has as
-# JSON, the late ones and the warnings left out, and the tasks of the open headings that have a deadline. A program that isn't
+# JSON, the late ones and the warnings left out, and the tasks of the open headings that have a deadline; and where the calendar is
+# taken in again on a later day, no event has another name. A program that isn't
 # installed is left out, and the status is 0 then. The last line counts, and names what was left out.
 here=$(cd "$(dirname "$0")" && pwd)
 given=${1:-$here/../crates/orgq/out/orgq}
@@ -47,6 +48,10 @@ mkdir -p "$HOME" "$room/files"
     printf '* Same\n<2024-02-29 Thu>\n* Same\n<2024-02-29 Thu>\n'
     printf '* TODO [#A] Tax\nDEADLINE: <2024-03-01 Fri>\n* WAIT Later\nDEADLINE: <2024-04-30 Tue 18:00 +1y>\n* DONE Over\nDEADLINE: <2024-03-01 Fri>\n'
     printf '* Key\nDEADLINE: <2024-03-09 Sat> SCHEDULED: <2024-03-08 Fri 06:00>\n:PROPERTIES:\n:ID: 0f3a-11\n:END:\n'
+    printf '* Begun <2024-02-20 Tue>--<2024-03-01 Fri>\n* Daily\nSCHEDULED: <2024-02-01 Thu 07:00 +2d>\n* Leap <2020-02-29 Sat +1y>\n'
+    printf '* Born <1980-03-03 Mon +1y>\n* Month <2023-11-28 Tue 20:00 +3m>\n* Hours <2024-02-28 Wed 06:00 +7h>\n'
+    printf '* TODO Delayed\nSCHEDULED: <2024-02-26 Mon +1w -2d>\n* TODO Once delayed\nSCHEDULED: <2024-02-27 Tue +1w --3d>\n'
+    printf '* Evening <2024-03-08 Fri 18:00>--<2024-03-08 Fri 20:00>\n* Fast <2024-03-10 Sun 12:00>--<2024-03-12 Tue>\n'
 } > "$room/files/all.org"
 cp "$here/orgq/files/home.org" "$here/orgq/files/work.org" "$room/files/"
 cd "$room/files" || exit 2
@@ -59,9 +64,9 @@ read_back() {
     "$orgq" --at "2024-02-28 10:30" "$@" ical -d "$days" > "$room/out.ics" 2> "$room/err" || fail "no calendar of $*: $(cat "$room/err")"
     "$orgq" --at "2024-02-28 10:30" --json "$@" agenda -d "$days" > "$room/rows" || fail "no rows of $*"
     "$orgq" --at "2024-02-28 10:30" --json "$@" match "LEVEL>0" > "$room/headings" || fail "no headings of $*"
-    [ -z "$python" ] || compare icalendar "$room/out.ics" "$*"
+    [ -z "$python" ] || compare icalendar "$room/out.ics" "$days" "$*"
     if [ -n "$khal" ]; then
-        khal_rows "$days" && compare khal "$room/khal" "$*"
+        khal_rows "$days" && compare khal "$room/khal" "$days" "$*"
     fi
 }
 
@@ -71,11 +76,11 @@ fail() {
 }
 
 compare() {
-    if said=$("$python" "$here/ical.py" "$1" "$2" "$room/rows" "$room/headings"); then
+    if said=$("$python" "$here/ical.py" "$1" "$2" "$room/rows" "$room/headings" "$3"); then
         passed=$((passed + 1))
-        echo "ical: $1, $3: $said"
+        echo "ical: $1, $4: $said"
     else
-        fail "$1, $3: $said"
+        fail "$1, $4: $said"
     fi
 }
 
@@ -88,11 +93,25 @@ khal_rows() {
         fail "khal takes no calendar: $(tail -n 3 "$room/said")"
         return 1
     fi
-    "$khal" -c "$room/khal.conf" list --day-format "" --format "{start-date}	{start-time}	{end-time}	{title}" 2024-02-28 "${1}d" > "$room/khal" 2> "$room/said" || {
+    "$khal" -c "$room/khal.conf" list --day-format "= {date}" --format "{start-time}	{end-time}	{title}" 2024-02-28 "${1}d" > "$room/khal" 2> "$room/said" || {
         fail "khal lists nothing: $(tail -n 3 "$room/said")"
         return 1
     }
 }
+
+# Which events have which names, from a day on.
+names_from() {
+    "$orgq" --at "$1" -f all.org -f home.org ical -d 366 | sed -n 's/\r$//; /^UID:/h; /^DTSTART/{G; s/\n/ /; p;}' | sort
+}
+
+# An event that is in both calendars has one name in both, and begins on one day, but where its days are written out.
+names_from "2024-02-28 10:30" > "$room/today"
+names_from "2024-02-29 10:30" > "$room/tomorrow"
+if [ "$(cut -d' ' -f2- "$room/today" | sort | uniq -d | wc -l)" -eq 0 ] && [ "$(comm -12 "$room/today" "$room/tomorrow" | wc -l)" -ge 15 ]; then
+    passed=$((passed + 1))
+else
+    fail "names that change from a day to the next"
+fi
 
 read_back 1 home.org work.org
 read_back 30 home.org work.org

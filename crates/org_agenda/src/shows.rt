@@ -21,7 +21,12 @@ use org_repeat::{next_after, occurs_on, range_start};
 use org_stamp::{Delay, Stamp};
 use std::alloc::AllocError;
 
-fn occurs_delayed(stamp: &Stamp, profile: Profile, delay: Option<Delay>, day: Day) -> bool
+pub(crate) fn occurs_delayed(
+    stamp: &Stamp,
+    profile: Profile,
+    delay: Option<Delay>,
+    day: Day,
+) -> bool
     ensures value { result ≡ occurs_delayed profile stamp.now delay day }
 {
     match delay {
@@ -74,7 +79,7 @@ fn due_day(stamp: &Stamp, profile: Profile, today: Day) -> u32
 }
 
 // The number of the first day of the copy of a range that the day shows, or 0 where it shows none.
-fn shown_from(stamp: &Stamp, profile: Profile, day: Day) -> u32
+pub(crate) fn shown_from(stamp: &Stamp, profile: Profile, day: Day) -> u32
     ensures value { result ≡ shown_from profile stamp.now day }
     ensures fits { result ≤ LAST_DAY }
 {

@@ -93,7 +93,7 @@ fn earlier_of(a: u32, b: u32) -> u32
 }
 
 // The first day, from one on, on which the stamp occurs.
-fn next_on(stamp: &Stamp, profile: Profile, from: u32) -> u32
+pub(crate) fn next_on(stamp: &Stamp, profile: Profile, from: u32) -> u32
     requires { (1 ≤ from) × (from ≤ NEVER) }
     ensures not_before { from ≤ result }
     ensures most { result ≤ NEVER }
@@ -111,7 +111,7 @@ fn next_on(stamp: &Stamp, profile: Profile, from: u32) -> u32
 }
 
 // The same with the stamp's delay.
-fn next_delayed(stamp: &Stamp, profile: Profile, delay: Option<Delay>, from: u32) -> u32
+pub(crate) fn next_delayed(stamp: &Stamp, profile: Profile, delay: Option<Delay>, from: u32) -> u32
     requires { (1 ≤ from) × (from ≤ NEVER) }
     ensures not_before { from ≤ result }
     ensures none { NoDayHas (occurs_delayed profile stamp.now delay) from result }

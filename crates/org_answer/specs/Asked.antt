@@ -57,7 +57,7 @@ abbrev pub AnswersQuery : Result Answer Fault → List Scope → Question → Qu
 AnswersQuery result scopes q (Agenda days) = ShowsDays result scopes (chosen_of q) days.first days.count
 AnswersQuery result scopes q (Calendar calendar) = ShowsDays result scopes (chosen_of q) calendar.days.first calendar.days.count
 AnswersQuery result scopes q (Hours days canvas) = ShowsDays result scopes (chosen_of q) days.first days.count
-AnswersQuery result scopes q (Ical days) = ShowsDays result scopes (chosen_of q) days.first days.count
+AnswersQuery result scopes q (Ical asked) = ShowsDays result scopes (chosen_of q) asked.days.first asked.days.count
 AnswersQuery result scopes q (Todo words) = ShowsListing result scopes (todo_listing words)
 AnswersQuery result scopes q (Match expression) = AnswersMatch result scopes expression.now q.moment
 AnswersQuery result scopes q (Clock query) = AnswersClock result scopes query q.moment
@@ -81,7 +81,7 @@ abbrev pub TellsQuery : Result Bool Fault → List Scope → Question → Query 
 TellsQuery result scopes q (Agenda days) = TellsDays result scopes (chosen_of q) days
 TellsQuery result scopes q (Calendar calendar) = TellsDays result scopes (chosen_of q) calendar.days
 TellsQuery result scopes q (Hours days canvas) = TellsDays result scopes (chosen_of q) days
-TellsQuery result scopes q (Ical days) = TellsDays result scopes (chosen_of q) days
+TellsQuery result scopes q (Ical asked) = TellsDays result scopes (chosen_of q) asked.days
 TellsQuery result scopes q _ = TellsAnswer result scopes q
 
 -- the same of the question itself

@@ -28,7 +28,7 @@ pub fn has_row(
         Query::Agenda(days) => days_have_row(alloc, inherits, &chosen, *days),
         Query::Calendar(calendar) => days_have_row(alloc, inherits, &chosen, calendar.days),
         Query::Hours(days, _) => days_have_row(alloc, inherits, &chosen, *days),
-        Query::Ical(days) => days_have_row(alloc, inherits, &chosen, *days),
+        Query::Ical(asked) => days_have_row(alloc, inherits, &chosen, asked.days),
         Query::Todo(_) => answer_has_row(alloc, inherits, question),
         Query::Match(_) => answer_has_row(alloc, inherits, question),
         Query::Clock(_) => answer_has_row(alloc, inherits, question),

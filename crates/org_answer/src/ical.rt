@@ -1,19 +1,16 @@
-//! Agendas and deadlines as a calendar for other programs.
+//! Stamps and deadlines as a calendar for other programs.
 ghost use Rattle.std.specs.Prelude.{◌≡◌, map};
-ghost use Rattle.org_base.specs.Results.{GivesItems};
 ghost use Rattle.org_client.specs.Components.{GivesComponents};
 ghost use Rattle.org_client.specs.Files.{AreRead};
-ghost use Rattle.org_answer.specs.Ical.{GivesIcal, IsCutTo, all_components, calendar_at, event_rows_of, has_any, shown_components, task_stamps_of};
+ghost use Rattle.org_answer.specs.Ical.{GivesIcal, IsCutTo, all_components, calendar_at, has_any, is_told, shown_components, told_length};
 ghost use Rattle.org_ical.specs.Components.{calendar_lines, component_text};
 
-use crate::view::{Chosen, Days, agenda_over, chosen_sources};
-use org_agenda::HeadingStamp;
+use crate::view::{Chosen, Days, chosen_sources};
 use org_base::Fault;
 use org_cal::Moment;
-use org_client::{date_of, event_rows, push_events, push_tasks, task_stamps, time_of};
+use org_client::{CalendarDays, date_of, push_events, push_tasks, task_stamps, time_of};
 use org_ical::{Calendar, Component};
 use org_inherit::Inherits;
-use org_layout::{ShownRow, agenda_lines};
 use std::alloc::Global;
 
 /// A calendar as it is written, and whether it has a component.
@@ -23,21 +20,30 @@ pub struct Ical {
     pub bytes: Vec<u8>,
 }
 
-/// The calendar of some days: an event for each row that stands on its own day, and a task for each deadline of an open
+/// What is asked of a calendar: its days, how many minutes before its time one is told of something, if that is wanted, and when
+/// the calendar is made, by universal time.
+#[derive(Clone, Copy, Debug)]
+pub struct IcalQuery {
+    pub days: Days,
+    pub alarm: Option<u32>,
+    pub made: Moment,
+}
+
+/// The calendar of some days: an event for each stamp that begins on one of them, and a task for each deadline of an open
 /// heading, as many of them as a limit says, the first ones.
 pub fn ical_of(
     alloc: Global,
     inherits: &Inherits<'_>,
     chosen: &Chosen<'_>,
-    days: Days,
+    asked: &IcalQuery,
     limit: Option<u32>,
 ) -> Result<Ical, Fault>
     requires read { AreRead inherits.now }
-    ensures value { GivesIcal result inherits.now chosen.now days limit }
+    ensures value { GivesIcal result inherits.now chosen.now asked.now limit }
 {
-    let components = shown_components(alloc, inherits, chosen, days, limit)?;
+    let components = shown_components(alloc, inherits, chosen, asked, limit)?;
     let has_component = has_any(components.as_slice());
-    let calendar = calendar_of(chosen.moment, components);
+    let calendar = calendar_of(asked.made, components);
     let bytes = calendar.bytes(alloc)?;
     Ok(Ical {
         has_component,
@@ -45,14 +51,22 @@ pub fn ical_of(
     })
 }
 
-// Whether there is a component.
+// Whether a component is written.
 fn has_any(components: &[Component]) -> bool
     ensures value { result ≡ has_any (map component_text components.now) }
 {
-    match components {
-        [] => false,
-        _ => true,
+    for component in components {
+        if is_written(component) {
+            return true;
+        }
     }
+    false
+}
+
+fn is_written(component: &Component) -> bool
+    ensures value { result ≡ is_told (component_text component.now) }
+{
+    component.shown.is_some()
 }
 
 // Components as a calendar that is made at a moment.
@@ -71,69 +85,68 @@ fn shown_components(
     alloc: Global,
     inherits: &Inherits<'_>,
     chosen: &Chosen<'_>,
-    days: Days,
+    asked: &IcalQuery,
     limit: Option<u32>,
 ) -> Result<Vec<Component>, Fault>
     requires read { AreRead inherits.now }
-    ensures value { GivesComponents result (shown_components inherits.now chosen.now days limit) }
+    ensures value { GivesComponents result (shown_components inherits.now chosen.now asked.now limit) }
 {
-    let mut components = all_components(alloc, inherits, chosen, days)?;
+    let mut components = all_components(alloc, inherits, chosen, asked)?;
     cut(&mut components, limit);
     Ok(components)
 }
 
-// Leaves the first so many components, or all.
+// Leaves the first components of which so many are written, or all.
 #[tactic(auto, using(crate::proofs::IcalLemmas::first_texts))]
 fn cut(components: &mut Vec<Component>, limit: Option<u32>)
     ensures { IsCutTo components.old components.new limit }
 {
     match limit {
-        Some(count) => components.truncate(count as usize),
+        Some(count) => {
+            let length = shown_length(components.as_slice(), count);
+            components.truncate(length);
+        }
         None => {}
     }
+}
+
+// How many components stand in front of one that is written behind so many that are.
+fn shown_length(components: &[Component], count: u32) -> usize
+    ensures value { result ≡ told_length count (map component_text components.now) }
+{
+    let mut left = count;
+    let mut length: usize = 0;
+    for component in components {
+        if is_written(component) {
+            if left == 0 {
+                return length;
+            }
+            left -= 1;
+        }
+        length += 1;
+    }
+    length
 }
 
 fn all_components(
     alloc: Global,
     inherits: &Inherits<'_>,
     chosen: &Chosen<'_>,
-    days: Days,
+    asked: &IcalQuery,
 ) -> Result<Vec<Component>, Fault>
     requires read { AreRead inherits.now }
-    ensures value { GivesComponents result (all_components inherits.now chosen.now days) }
+    ensures value { GivesComponents result (all_components inherits.now chosen.now asked.now) }
 {
-    let rows = event_rows_of(alloc, inherits, chosen, days)?;
-    let mut components = Vec::new(alloc);
-    push_events(alloc, &mut components, inherits, rows.as_slice())?;
-    let stamps = task_stamps_of(alloc, inherits, chosen)?;
-    push_tasks(alloc, &mut components, inherits, stamps.as_slice())?;
-    Ok(components)
-}
-
-// The rows of days that become events.
-fn event_rows_of(
-    alloc: Global,
-    inherits: &Inherits<'_>,
-    chosen: &Chosen<'_>,
-    days: Days,
-) -> Result<Vec<ShownRow>, Fault>
-    requires read { AreRead inherits.now }
-    ensures value { GivesItems result (event_rows_of inherits.now chosen.now days) }
-{
-    let agenda = agenda_over(alloc, inherits, chosen, days)?;
-    let lines = agenda_lines(alloc, &agenda)?;
-    Ok(event_rows(alloc, lines.as_slice())?)
-}
-
-// The stamps that become tasks.
-fn task_stamps_of(
-    alloc: Global,
-    inherits: &Inherits<'_>,
-    chosen: &Chosen<'_>,
-) -> Result<Vec<HeadingStamp>, Fault>
-    requires read { AreRead inherits.now }
-    ensures value { GivesItems result (task_stamps_of inherits.now chosen.now) }
-{
+    let days = CalendarDays {
+        profile: chosen.as_of.profile,
+        first: asked.days.first,
+        count: asked.days.count,
+        alarm: asked.alarm,
+    };
     let stamps = chosen_sources(alloc, inherits, chosen)?;
-    Ok(task_stamps(alloc, stamps.as_slice())?)
+    let tasks = task_stamps(alloc, stamps.as_slice())?;
+    let mut components = Vec::new(alloc);
+    push_events(alloc, &mut components, inherits, &days, stamps.as_slice())?;
+    push_tasks(alloc, &mut components, inherits, &days, tasks.as_slice())?;
+    Ok(components)
 }

@@ -45,7 +45,7 @@ pub use chart::clock_picture;
 pub use clocks::clock_lines;
 pub use expression::read_expression;
 pub use hours::day_picture;
-pub use ical::{Ical, ical_of};
+pub use ical::{Ical, IcalQuery, ical_of};
 pub use limits::lines_within;
 pub use paint::picture_bytes;
 pub use picture::{Picture, calendar_picture};

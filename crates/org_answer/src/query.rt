@@ -6,6 +6,7 @@ ghost use Rattle.org_client.specs.Files.{AreRead};
 
 use crate::calendar::{Calendar, Canvas};
 use crate::expression::{LONGEST, read_expression};
+use crate::ical::IcalQuery;
 use crate::rows_ahead::{rows_ahead, rows_since};
 use crate::table::clock_table;
 use crate::view::{Answer, Chosen, Days, agenda_days, agenda_over, match_list, todo_list};
@@ -34,7 +35,7 @@ pub enum Query<'a> {
     /// A picture of a day by its half hours; in other forms its rows.
     Hours(Days, Canvas),
     /// Days and deadlines as a calendar, which has one form.
-    Ical(Days),
+    Ical(IcalQuery),
 }
 
 impl<'a> Query<'a> {
@@ -148,7 +149,7 @@ pub fn answer(
         Query::Agenda(days) => agenda_days(alloc, inherits, &chosen, *days),
         Query::Calendar(calendar) => agenda_days(alloc, inherits, &chosen, calendar.days),
         Query::Hours(days, _) => agenda_days(alloc, inherits, &chosen, *days),
-        Query::Ical(days) => agenda_days(alloc, inherits, &chosen, *days),
+        Query::Ical(asked) => agenda_days(alloc, inherits, &chosen, asked.days),
         Query::Todo(words) => todo_list(alloc, inherits, words),
         Query::Match(expression) => match_answer(alloc, inherits, expression, now),
         Query::Clock(table) => clock(alloc, inherits, table, now),

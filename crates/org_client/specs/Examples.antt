@@ -1,10 +1,16 @@
 -- Worked examples: what the definitions say of inputs at which a wrong rule says something else.
-use Rattle.std.specs.Prelude.{◌≡◌, ℕ, ◌∷◌, ◌++◌, [], false, true, None, Some, codes}
+use Rattle.std.specs.Prelude.{◌≡◌, ℕ, ◌∷◌, ◌++◌, [], false, true, Option, None, Some, codes}
 use Rattle.org_cal.specs.Texts.{date_text}
 use Rattle.org_cal.specs.declared.moment.Moment.{Moment}
 use Rattle.org_client.specs.Bars.{bar_eighths, hundredths, part_lengths}
-use Rattle.org_agenda.specs.declared.row.RowKind.TheVariants.{InRange, LateDeadline}
-use Rattle.org_client.specs.Components.{base_name, is_event, known_by, priority_of_cookie, status_of, time_of}
+use Rattle.org_cal.specs.Parts.{month_day_of, month_of}
+use Rattle.org_cal.specs.declared.unit.Unit.TheVariants.{Hour, Month, Year}
+use Rattle.org_client.specs.Components.{base_name, known_by, priority_of_cookie, status_of}
+use Rattle.org_client.specs.EventRules.{frequency_of}
+use Rattle.org_client.specs.EventTimes.{between, date_of, time_of, when_from}
+use Rattle.org_ical.specs.declared.date.When.TheVariants.{At, Day, Days}
+use Rattle.org_ical.specs.declared.rule.Frequency.TheVariants.{Monthly, Yearly}
+use Rattle.org_stamp.specs.declared.stamp.Stamp.{Stamp}
 use Rattle.org_ical.specs.declared.component.Status.TheVariants.{Cancelled, Confirmed}
 use Rattle.org_client.specs.Clocks.{rows_of}
 use Rattle.org_client.specs.Json.{field_text, quoted, texts_member}
@@ -12,6 +18,10 @@ use Rattle.org_client.specs.Members.{text_member_of, texts_member_of}
 use Rattle.org_client.specs.Objects.{day_object}
 use Rattle.org_client.specs.Reminders.{starts_between}
 use Rattle.org_client.specs.TitleWords.{words_or, words_text}
+
+-- a stamp of 2024-02-29 with these hours, and of a range its last day
+abbrev pub stamp_of : Option ℕ → Option ℕ → Option (ℕ × Option ℕ) → Stamp
+stamp_of start end last = record { active = true; day = 738_945; time = start; end_time = end; repeater = None; delay = None; last = last }
 
 pub record ExamplesHold : Type 0 where
   pub feed : quoted (codes "a\nb") ≡ codes "\"a\\u000ab\""
@@ -44,8 +54,23 @@ pub record ExamplesHold : Type 0 where
   pub only_the_asked : texts_member_of (Some (codes "path")) (codes "path") (codes "a" ∷ codes "b" ∷ []) ++ text_member_of (Some (codes "path")) (codes "title") (codes "c") ≡ codes "a/b"
   pub day_in_json : (day : ℕ) → day_object day (codes "x") ≡ codes "{\"kind\":\"day\",\"day\":" ++ quoted (date_text day) ++ codes ",\"text\":\"x\"}"
   -- what becomes a component of a calendar
-  pub late_row : is_event LateDeadline ≡ false
-  pub range_row : is_event InRange ≡ true
+  pub plain_day : when_from (stamp_of None None None) 738_945 ≡ Day (date_of 738_945)
+  pub some_hours : when_from (stamp_of (Some 540) (Some 600) None) 738_945 ≡ between 738_945 540 738_945 600
+  -- hours that end before they begin end on the next day
+  pub over_midnight : when_from (stamp_of (Some 1_320) (Some 60) None) 738_945 ≡ between 738_945 1_320 738_946 60
+  pub no_hours : when_from (stamp_of (Some 540) (Some 540) None) 738_945 ≡ At (date_of 738_945) (time_of 540)
+  -- a range of three days ends where the fourth begins, also where a copy of it is later
+  pub some_days : when_from (stamp_of None None (Some (738_947, None))) 738_952 ≡ Days (date_of 738_952) (date_of 738_955)
+  pub days_and_hours : when_from (stamp_of (Some 540) None (Some (738_947, Some 600))) 738_945 ≡ between 738_945 540 738_947 600
+  -- without an end it has all of its last day
+  pub whole_last_day : when_from (stamp_of (Some 540) None (Some (738_946, None))) 738_945 ≡ between 738_945 540 738_947 0
+  pub last_of_all : when_from (stamp_of (Some 1_320) (Some 60) None) 3_652_059 ≡ At (date_of 3_652_059) (time_of 1_320)
+  -- not each month has a 31st, and each year a 28 February, but no 29 February
+  pub last_of_month : (day : ℕ) → month_day_of day ≡ 31 → frequency_of Month day ≡ None
+  pub in_each_month : (day : ℕ) → month_day_of day ≡ 28 → frequency_of Month day ≡ Some Monthly
+  pub leap_day : (day : ℕ) → month_of day ≡ 2 → month_day_of day ≡ 29 → frequency_of Year day ≡ None
+  pub each_year : (day : ℕ) → month_of day ≡ 2 → month_day_of day ≡ 28 → frequency_of Year day ≡ Some Yearly
+  pub hours_have_none : frequency_of Hour 738_944 ≡ None
   pub ten_past_nine : time_of 550 ≡ record { hour = 9; minute = 10 }
   pub in_folders : base_name (codes "/home/ann/a.org") ≡ codes "a.org"
   pub in_no_folder : base_name (codes "a.org") ≡ codes "a.org"

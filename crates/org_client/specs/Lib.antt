@@ -3,7 +3,6 @@ pub mod Bars
 pub mod ClockLaws
 pub mod ClockTexts
 pub mod Clocks
-pub mod Examples
 pub mod Fields
 pub mod Files
 pub mod HeadingMembers
@@ -24,5 +23,8 @@ pub mod Report
 pub mod RowMembers
 pub mod TableFields
 pub mod TitleWords
-pub mod ViewRows
+pub mod EventTimes
+pub mod EventRules
 pub mod Components
+pub mod ViewRows
+pub mod Examples

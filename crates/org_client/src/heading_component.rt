@@ -1,34 +1,48 @@
 //! Headings as components of a calendar.
 ghost use Rattle.std.specs.Prelude.{◌≡◌, ◌++◌, ◌∷◌, option_copied, IfOk};
 ghost use Rattle.org_base.specs.Results.{GivesItems};
-ghost use Rattle.org_client.specs.Components.{GivesComponent, base_name, found_component, found_key, is_cancelled, priority_of_byte, priority_of_cookie, status_of};
+ghost use Rattle.org_client.specs.Components.{GivesWords, base_name, found_key, found_words, is_cancelled, priority_of_byte, priority_of_cookie, property_text, status_of};
 ghost use Rattle.org_ical.specs.Results.{bytes_of};
 
+use crate::titles::title_words;
 use org_base::{Fault, Texts};
-use org_ical::{Component, Kind, Status};
+use org_ical::{Status, Words};
 use org_inherit::Heading;
 use std::alloc::{AllocError, Global};
 
-/// A heading as a component of a kind, where some words say more than the heading's own name does.
-pub(crate) fn heading_component(
-    alloc: Global,
-    heading: &Heading<'_, '_>,
-    more: &[u8],
-    kind: Kind,
-) -> Result<Component, Fault>
-    ensures value { GivesComponent result (found_component heading.now more.now kind) }
+/// What a heading says in words: its title without stamps, its tags, and the place and the description of its properties.
+pub(crate) fn words_of(alloc: Global, heading: &Heading<'_, '_>) -> Result<Words, Fault>
+    ensures value { GivesWords result (found_words heading.now) }
 {
     let tags = heading.tags()?;
-    Ok(Component {
-        key: key_of(alloc, heading, more)?,
-        summary: Vec::from_slice(alloc, heading.title())?,
+    Ok(Words {
+        summary: title_words(alloc, heading.title())?,
         categories: copies(alloc, &tags)?,
-        kind,
+        location: property_text(alloc, heading, b"LOCATION")?,
+        description: property_text(alloc, heading, b"DESCRIPTION")?,
     })
 }
 
-// What a heading is known by, with some words more.
-fn key_of(alloc: Global, heading: &Heading<'_, '_>, more: &[u8]) -> Result<Vec<u8>, AllocError>
+// What a property of a heading says; nothing where there is none.
+fn property_text(
+    alloc: Global,
+    heading: &Heading<'_, '_>,
+    name: &[u8],
+) -> Result<Vec<u8>, AllocError>
+    ensures value { GivesItems result (property_text heading.now.entry.now name.now) }
+{
+    match heading.entry.details.property(name) {
+        Some(text) => Vec::from_slice(alloc, text),
+        None => Ok(Vec::new(alloc)),
+    }
+}
+
+/// What a heading and some words more are known by.
+pub(crate) fn key_of(
+    alloc: Global,
+    heading: &Heading<'_, '_>,
+    more: &[u8],
+) -> Result<Vec<u8>, AllocError>
     ensures value { GivesItems result (found_key heading.now ++ 45 ∷ more.now) }
 {
     let mut key = known_by(alloc, heading)?;
@@ -37,13 +51,16 @@ fn key_of(alloc: Global, heading: &Heading<'_, '_>, more: &[u8]) -> Result<Vec<u
     Ok(key)
 }
 
-// What a heading is known by: its own property ID, if that says anything, else the name of its file and its title.
+// What a heading is known by: its own property ID, if that says anything, else the name of its file and the words of its title.
 fn known_by(alloc: Global, heading: &Heading<'_, '_>) -> Result<Vec<u8>, AllocError>
     ensures value { GivesItems result (found_key heading.now) }
 {
     match heading.entry.details.property(b"ID") {
         Some(id @ [_, ..]) => Vec::from_slice(alloc, id),
-        _ => title_in_file(alloc, heading.inherit.file(), heading.title()),
+        _ => {
+            let words = title_words(alloc, heading.title())?;
+            title_in_file(alloc, heading.inherit.file(), words.as_slice())
+        }
     }
 }
 

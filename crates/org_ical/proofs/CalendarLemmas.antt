@@ -15,6 +15,18 @@ use Rattle.org_ical.proofs.UidLemmas.{times_more}
 pub written-append : (a b : List (List ℕ)) → written (a ++ b) ≡ written a ++ written b
 written-append a b = flat_map-append written_line a b
 
+-- a line, or lines, and what is written behind
+pub then_line : (out more target line : List ℕ) (rest : List (List ℕ)) → more ≡ out ++ written_line line → target ≡ more ++ written rest → target ≡ out ++ written (line ∷ rest)
+then_line out more target line rest first goes =
+    goes ∙ ap (λ t. t ++ written rest) first ∙ append_assoc out (written_line line) (written rest)
+
+pub then_lines : (out more target : List ℕ) (lines rest : List (List ℕ)) → more ≡ out ++ written lines → target ≡ more ++ written rest → target ≡ out ++ written (lines ++ rest)
+then_lines out more target lines rest first goes =
+    goes ∙ ap (λ t. t ++ written rest) first ∙ append_assoc out (written lines) (written rest) ∙ ap (λ t. out ++ t) (sym (written-append lines rest))
+
+pub last_line : (out target line : List ℕ) → target ≡ out ++ written_line line → target ≡ out ++ written (line ∷ [])
+last_line out target line first = first ∙ ap (λ t. out ++ t) (sym (append-nil (written_line line)))
+
 pub counted_more : (counts : Counts) (seen : List (List ℕ)) (key q : List ℕ) → AreCounted counts seen →
     cond (bytes_eq q key) (count_of counts key + 1) (count_of counts q) ≡ times_in q (key ∷ seen)
 counted_more counts seen key q counted =

@@ -1,56 +1,89 @@
 -- The content lines of a calendar (RFC 5545, 3.4, "iCalendar Object", 3.6.1, "Event Component", and 3.6.2, "To-Do Component").
-use Rattle.std.specs.Prelude.{ℕ, ◌+◌, List, [], ◌∷◌, ◌++◌, codes, map}
-use Rattle.org_ical.specs.Properties.{end_lines, priority_lines, stamp_line, text_line, when_line, words_lines}
-use Rattle.org_ical.specs.Results.{bytes_of}
+use Rattle.std.specs.Prelude.{ℕ, ◌+◌, List, [], ◌∷◌, ◌++◌, Option, None, Some, codes, map}
+use Rattle.std.specs.Option.{option_map}
+use Rattle.org_ical.specs.Alarms.{wanted_alarm}
+use Rattle.org_ical.specs.Properties.{end_lines, priority_lines, stamp_line, text_line, when_line}
+use Rattle.org_ical.specs.Recurrences.{event_dates, rule_lines}
 use Rattle.org_ical.specs.Uids.{times_in, uid_text}
+use Rattle.org_ical.specs.Words.{WordsText, words_lines, words_text}
 use Rattle.org_ical.specs.declared.calendar.Calendar.{Calendar}
 use Rattle.org_ical.specs.declared.component.Component.{Component}
 use Rattle.org_ical.specs.declared.component.Kind.{Kind}
 use Rattle.org_ical.specs.declared.component.Kind.TheVariants.{Event, Task}
+use Rattle.org_ical.specs.declared.component.Shown.{Shown}
 use Rattle.org_ical.specs.declared.component.Status.{Status}
 use Rattle.org_ical.specs.declared.component.Status.TheVariants.{Cancelled, Confirmed}
 use Rattle.org_ical.specs.declared.date.Date.{Date}
 use Rattle.org_ical.specs.declared.date.Time.{Time}
 
+-- what is written of a component, by its texts
+pub record ShownText : Type 0 where
+  pub kind : Kind
+  pub more : List Date
+  pub words : WordsText
+  pub alarm : Option ℕ
+
+abbrev pub shown_text : Shown → ShownText
+shown_text shown = record {
+  kind = shown.kind;
+  more = shown.more.items;
+  words = words_text shown.words;
+  alarm = shown.alarm;
+}
+
 -- a component by its texts
 pub record ComponentText : Type 0 where
   pub key : List ℕ
-  pub summary : List ℕ
-  pub categories : List (List ℕ)
-  pub kind : Kind
+  pub shown : Option ShownText
 
 abbrev pub component_text : Component → ComponentText
 component_text component = record {
   key = component.key.items;
-  summary = component.summary.items;
-  categories = bytes_of component.categories.items;
-  kind = component.kind;
+  shown = option_map shown_text component.shown;
 }
 
--- how a component begins
+-- how a component begins and ends
 abbrev pub begin_line : Kind → List ℕ
-begin_line (Event when status) = codes "BEGIN:VEVENT"
+begin_line (Event when rule status) = codes "BEGIN:VEVENT"
 begin_line (Task due priority) = codes "BEGIN:VTODO"
 
--- when an event is, and when a task is due
+abbrev pub end_line : Kind → List ℕ
+end_line (Event when rule status) = codes "END:VEVENT"
+end_line (Task due priority) = codes "END:VTODO"
+
+-- when an event is and how often, and when a task is due
 abbrev pub times_lines : Kind → List (List ℕ)
-times_lines (Event when status) = when_line (codes "DTSTART") when ∷ end_lines when
+times_lines (Event when rule status) = when_line (codes "DTSTART") when ∷ end_lines when ++ rule_lines rule
 times_lines (Task due priority) = when_line (codes "DUE") due ∷ []
 
 abbrev pub status_line : Status → List ℕ
 status_line Confirmed = codes "STATUS:CONFIRMED"
 status_line Cancelled = codes "STATUS:CANCELLED"
 
--- how things stand with it, and its end; a task is open
-abbrev pub foot_lines : Kind → List (List ℕ)
-foot_lines (Event when status) = status_line status ∷ codes "END:VEVENT" ∷ []
-foot_lines (Task due priority) = priority_lines priority ++ codes "STATUS:NEEDS-ACTION" ∷ codes "END:VTODO" ∷ []
+-- how things stand with it; a task is open
+abbrev pub state_lines : Kind → List (List ℕ)
+state_lines (Event when rule status) = status_line status ∷ []
+state_lines (Task due priority) = priority_lines priority ++ codes "STATUS:NEEDS-ACTION" ∷ []
 
--- a component of a unique name, with the line that says when the calendar is made
+-- what is written of a component of a unique name, with the line that says when the calendar is made
+abbrev pub lines_of_shown : List ℕ → List ℕ → ShownText → List (List ℕ)
+lines_of_shown stamp uid shown =
+    begin_line shown.kind ∷ text_line (codes "UID") uid ∷ stamp
+    ∷ times_lines shown.kind
+    ++ (event_dates shown.kind shown.more
+    ++ (words_lines shown.words
+    ++ (state_lines shown.kind ++ (wanted_alarm shown.kind shown.words.summary shown.alarm ++ end_line shown.kind ∷ []))))
+
+-- nothing is written of one that only counts among those of its key
+abbrev pub lines_if : List ℕ → List ℕ → Option ShownText → List (List ℕ)
+lines_if stamp uid None = []
+lines_if stamp uid (Some shown) = lines_of_shown stamp uid shown
+
 abbrev pub component_lines : List ℕ → List ℕ → ComponentText → List (List ℕ)
-component_lines stamp uid component =
-    begin_line component.kind ∷ text_line (codes "UID") uid ∷ stamp
-    ∷ times_lines component.kind ++ words_lines component.summary component.categories ++ foot_lines component.kind
+component_lines stamp uid component = lines_if stamp uid component.shown
+
+abbrev pub shown_lines : List ℕ → List ℕ → Shown → List (List ℕ)
+shown_lines stamp uid shown = lines_of_shown stamp uid (shown_text shown)
 
 -- components, where some keys came before: of equal keys each has a number of its own
 abbrev pub components_lines : List ℕ → List (List ℕ) → List ComponentText → List (List ℕ)

@@ -1,10 +1,10 @@
 -- Days and times as they are written (RFC 5545, 3.3.4, "Date", and 3.3.5, "Date-Time", in its first form, which has no zone).
 -- Characters by their codes: 48 0, 84 T, 90 Z.
-use Rattle.std.specs.Prelude.{ℕ, ◌+◌, ◌*◌, ◌/◌, ◌%◌, Bool, nat_lt, if◌then◌else◌, List, [], ◌∷◌, ◌++◌, Option, None, Some, codes}
+use Rattle.std.specs.Prelude.{ℕ, ◌+◌, ◌/◌, ◌%◌, List, [], ◌∷◌, ◌++◌, codes}
 use Rattle.org_ical.specs.declared.date.Date.{Date}
 use Rattle.org_ical.specs.declared.date.Time.{Time}
 use Rattle.org_ical.specs.declared.date.When.{When}
-use Rattle.org_ical.specs.declared.date.When.TheVariants.{At, Between, Day}
+use Rattle.org_ical.specs.declared.date.When.TheVariants.{At, Between, Day, Days}
 
 -- the last digit of a number, the last two and the last four
 abbrev pub digit : ℕ → ℕ
@@ -23,14 +23,9 @@ date_text date = four date.year ++ two date.month ++ two date.day
 abbrev pub moment_text : Date → Time → List ℕ
 moment_text date time = date_text date ++ 84 ∷ two time.hour ++ two time.minute ++ codes "00"
 
-abbrev pub minute_of : Time → ℕ
-minute_of time = 60 * time.hour + time.minute
-
-abbrev pub is_before : Time → Time → Bool
-is_before first second = nat_lt (minute_of first) (minute_of second)
-
--- when something is that has a day, and may have a start and an end: an end that isn't later than the start says nothing
-abbrev pub when_of : Date → Option Time → Option Time → When
-when_of date None end = Day date
-when_of date (Some start) None = At date start
-when_of date (Some start) (Some end) = if is_before start end then Between date start end else At date start
+-- the same as something, where it begins on another day; only its beginning is asked
+abbrev pub on_date : Date → When → When
+on_date date (Day day) = Day date
+on_date date (Days day behind) = Day date
+on_date date (At day time) = At date time
+on_date date (Between day time last end) = At date time

@@ -4,6 +4,9 @@ pub mod Lines
 pub mod Reading
 pub mod Dates
 pub mod Properties
+pub mod Words
+pub mod Recurrences
+pub mod Alarms
 pub mod Uids
 pub mod Counts
 pub mod Components

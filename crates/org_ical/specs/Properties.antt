@@ -6,7 +6,7 @@ use Rattle.org_ical.specs.Texts.{value_text, values_text}
 use Rattle.org_ical.specs.declared.date.Date.{Date}
 use Rattle.org_ical.specs.declared.date.Time.{Time}
 use Rattle.org_ical.specs.declared.date.When.{When}
-use Rattle.org_ical.specs.declared.date.When.TheVariants.{At, Between, Day}
+use Rattle.org_ical.specs.declared.date.When.TheVariants.{At, Between, Day, Days}
 
 -- a property of a name with a value
 abbrev pub property : List ℕ → List ℕ → List ℕ
@@ -16,17 +16,23 @@ property name value = name ++ 58 ∷ value
 abbrev pub text_line : List ℕ → List ℕ → List ℕ
 text_line name text = property name (value_text text)
 
+-- a property whose value is a day
+abbrev pub day_line : List ℕ → Date → List ℕ
+day_line name date = property (name ++ codes ";VALUE=DATE") (date_text date)
+
 -- when something begins, or is due: a day, or a time of a day
 abbrev pub when_line : List ℕ → When → List ℕ
-when_line name (Day date) = property (name ++ codes ";VALUE=DATE") (date_text date)
+when_line name (Day date) = day_line name date
+when_line name (Days date behind) = day_line name date
 when_line name (At date time) = property name (moment_text date time)
-when_line name (Between date start end) = property name (moment_text date start)
+when_line name (Between date start last end) = property name (moment_text date start)
 
--- when it ends, if that is known
+-- when it ends, if that is known: days end where the first day behind them begins
 abbrev pub end_lines : When → List (List ℕ)
 end_lines (Day date) = []
 end_lines (At date time) = []
-end_lines (Between date start end) = property (codes "DTEND") (moment_text date end) ∷ []
+end_lines (Days date behind) = day_line (codes "DTEND") behind ∷ []
+end_lines (Between date start last end) = property (codes "DTEND") (moment_text last end) ∷ []
 
 -- the categories, if there are any
 abbrev pub categories_lines : List (List ℕ) → List (List ℕ)
@@ -42,6 +48,7 @@ priority_lines (Some number) = property (codes "PRIORITY") (digit number ∷ [])
 abbrev pub stamp_line : Date → Time → List ℕ
 stamp_line date time = property (codes "DTSTAMP") (moment_text date time ++ 90 ∷ [])
 
--- what something says in words
-abbrev pub words_lines : List ℕ → List (List ℕ) → List (List ℕ)
-words_lines summary categories = text_line (codes "SUMMARY") summary ∷ categories_lines categories
+-- a property whose value is a text, if that says anything
+abbrev pub some_text : List ℕ → List ℕ → List (List ℕ)
+some_text name [] = []
+some_text name (byte ∷ bytes) = text_line name (byte ∷ bytes) ∷ []

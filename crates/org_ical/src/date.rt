@@ -1,6 +1,6 @@
 //! Days, and times of days.
 ghost use Rattle.std.specs.Prelude.{◌≡◌, [], ◌∷◌};
-ghost use Rattle.org_ical.specs.Dates.{date_text, digit, four, is_before, minute_of, moment_text, two, when_of};
+ghost use Rattle.org_ical.specs.Dates.{date_text, digit, four, moment_text, on_date, two};
 ghost use Rattle.org_ical.specs.Results.{Adds};
 
 use std::alloc::AllocError;
@@ -20,41 +20,27 @@ pub struct Time {
     pub minute: u8,
 }
 
-impl Time {
-    // The minutes since 00:00.
-    fn minute_of_day(self) -> u16
-        ensures { result ≡ minute_of self }
-    {
-        60 * u16::from(self.hour) + u16::from(self.minute)
-    }
-
-    fn is_before(self, other: Time) -> bool
-        ensures { result ≡ is_before self other }
-    {
-        self.minute_of_day() < other.minute_of_day()
-    }
-}
-
 /// When something is.
 #[derive(Clone, Copy, Debug, PartialEq, Eq)]
 pub enum When {
     /// All of a day.
     Day(Date),
+    /// All of the days from the first date on, up to the second one, which is the first day behind them.
+    Days(Date, Date),
     /// From a time of a day on.
     At(Date, Time),
-    /// From a time of a day to a later one.
-    Between(Date, Time, Time),
+    /// From a time of a day to a later one of the same or a later day.
+    Between(Date, Time, Date, Time),
 }
 
 impl When {
-    /// When something is that has a day, and may have a start and an end. An end that isn't later than the start says nothing.
-    pub fn of(date: Date, start: Option<Time>, end: Option<Time>) -> When
-        ensures value { result ≡ when_of date start end }
+    // The same, where it begins on another day. Its end stays as it is, since only its beginning is asked.
+    pub(crate) fn on(self, date: Date) -> When
+        ensures value { result ≡ on_date date self }
     {
-        match (start, end) {
-            (None, _) => When::Day(date),
-            (Some(start), Some(end)) if start.is_before(end) => When::Between(date, start, end),
-            (Some(start), _) => When::At(date, start),
+        match self {
+            When::Day(_) | When::Days(..) => When::Day(date),
+            When::At(_, time) | When::Between(_, time, ..) => When::At(date, time),
         }
     }
 }

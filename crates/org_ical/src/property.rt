@@ -2,13 +2,13 @@
 ghost use Rattle.std.specs.Prelude.{◌≡◌, [], ◌∷◌};
 ghost use Rattle.org_ical.specs.Dates.{moment_text};
 ghost use Rattle.org_ical.specs.Lines.{written_line};
-ghost use Rattle.org_ical.specs.Properties.{categories_lines, end_lines, priority_lines, property, text_line, when_line, words_lines};
-ghost use Rattle.org_ical.specs.Results.{Adds, AddsLines, bytes_of};
+ghost use Rattle.org_ical.specs.Properties.{end_lines, priority_lines, property, text_line, when_line};
+ghost use Rattle.org_ical.specs.Results.{Adds, AddsLines};
 ghost use Rattle.org_ical.specs.declared.date.When.TheVariants.{Day};
 
 use crate::date::{Date, Time, When, digit, push_date, push_moment};
 use crate::line::push_line;
-use crate::value::{push_value, push_values};
+use crate::value::push_value;
 use std::alloc::{AllocError, Global};
 
 /// Appends the line of a property.
@@ -52,8 +52,9 @@ pub(crate) fn push_when(
 {
     match when {
         When::Day(date) => push_day(alloc, out, name, date),
+        When::Days(date, _) => push_day(alloc, out, name, date),
         When::At(date, time) => push_time(alloc, out, name, date, time),
-        When::Between(date, time, _) => push_time(alloc, out, name, date, time),
+        When::Between(date, time, ..) => push_time(alloc, out, name, date, time),
     }
 }
 
@@ -87,36 +88,9 @@ pub(crate) fn push_end(alloc: Global, out: &mut Vec<u8>, when: When) -> Result<(
 {
     match when {
         When::Day(_) | When::At(..) => Ok(()),
-        When::Between(date, _, end) => push_time(alloc, out, b"DTEND", date, end),
+        When::Days(_, behind) => push_day(alloc, out, b"DTEND", behind),
+        When::Between(_, _, date, time) => push_time(alloc, out, b"DTEND", date, time),
     }
-}
-
-/// Appends the summary of something, and its categories, if it has any.
-pub(crate) fn push_words(
-    alloc: Global,
-    out: &mut Vec<u8>,
-    summary: &[u8],
-    categories: &[Vec<u8>],
-) -> Result<(), AllocError>
-    ensures { AddsLines result out.old out.new (words_lines summary.now (bytes_of categories.now)) }
-{
-    push_text(alloc, out, b"SUMMARY", summary)?;
-    push_categories(alloc, out, categories)
-}
-
-fn push_categories(
-    alloc: Global,
-    out: &mut Vec<u8>,
-    categories: &[Vec<u8>],
-) -> Result<(), AllocError>
-    ensures { AddsLines result out.old out.new (categories_lines (bytes_of categories.now)) }
-{
-    if categories.is_empty() {
-        return Ok(());
-    }
-    let mut value = Vec::new(alloc);
-    push_values(&mut value, categories)?;
-    push_property(alloc, out, b"CATEGORIES", value.as_slice())
 }
 
 /// Appends a priority, if there is one.

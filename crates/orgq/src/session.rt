@@ -20,7 +20,7 @@ use org_text::Whole;
 use orgq_acts::act;
 use orgq_args::{
     Filters, columns_for, form, is_colored, named_form, now, profile, property_names,
-    property_words, read_filters, read_question, typed_moment, without_rows,
+    property_words, read_filters, read_question, typed_moment, universal, without_rows,
 };
 use orgq_files::{Asked, asked_files, say_unknown};
 use orgq_messages::{Problem, Variable, print_all, report_problem, status_of, value_of};
@@ -79,7 +79,8 @@ pub fn answer_query<
         _ => {}
     }
     let columns = columns_for(rt, matches)?;
-    let asked = read_question(rt.alloc(), matches, &moment, columns)?;
+    let made = made_at(rt, matches, moment)?;
+    let asked = read_question(rt.alloc(), matches, &moment, made, columns)?;
     look.list = asked.list();
     if asked.is_chart() && look.form != Form::Plain {
         return Err(Problem::Chart);
@@ -101,6 +102,18 @@ pub fn answer_query<
     match check(rt.alloc(), &question) {
         Ok(()) => over_files(rt, matches, &question, &filters, &look),
         Err(fault) => Ok(report_problem(rt, Problem::Fault(fault), typed)),
+    }
+}
+
+// When what is asked for is made: of a calendar by universal time.
+fn made_at<R: AllocGlobal + Files + Env>(
+    rt: &R,
+    matches: &ArgMatches<'_>,
+    moment: Moment,
+) -> Result<Moment, Problem> {
+    match matches.subcommand() {
+        Some(("ical", _)) => universal(rt, moment),
+        _ => Ok(moment),
     }
 }
 
@@ -223,10 +236,10 @@ fn finds_row(
 ) -> Result<bool, Fault>
     requires read { AreRead inherits.now }
 {
-    let Query::Ical(days) = question.asked else {
+    let Query::Ical(asked) = question.asked else {
         return has_row(alloc, inherits, question);
     };
-    let ical = ical_of(alloc, inherits, &question.chosen(), *days, look.limit)?;
+    let ical = ical_of(alloc, inherits, &question.chosen(), asked, look.limit)?;
     Ok(ical.has_component)
 }
 
@@ -240,8 +253,8 @@ fn printed_of(
 ) -> Result<(bool, Vec<u8>), Fault>
     requires read { AreRead inherits.now }
 {
-    if let Query::Ical(days) = question.asked {
-        let ical = ical_of(alloc, inherits, &question.chosen(), *days, look.limit)?;
+    if let Query::Ical(asked) = question.asked {
+        let ical = ical_of(alloc, inherits, &question.chosen(), asked, look.limit)?;
         return Ok((ical.has_component, ical.bytes));
     }
     if look.form == Form::Plain {

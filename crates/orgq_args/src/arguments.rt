@@ -61,7 +61,9 @@ const OF_CLOCKS: &str = "\
 ;from;DATE;The first day, in place of a block
 ;to;DATE;The last day; without it today";
 
-const OF_ICAL: &str = "d;days;N;How many days from today on, 1 to 366; without it 30";
+const OF_ICAL: &str = "\
+d;days;N;How many days from today on, 1 to 366; without it 30
+;alarm;MINUTES;One is told so many minutes before what has a time, 0 to 100000";
 
 const OF_PAGE: &str = "\
 d;days;N;How many days after today, 1 to 366; without it 7

@@ -7,7 +7,7 @@ use crate::clock::typed_moment;
 use crate::filters::Filters;
 use crate::options::{clock_options, refused_word};
 use clap::ArgMatches;
-use org_answer::{ClockQuery, Days, Query};
+use org_answer::{ClockQuery, Days, IcalQuery, Query};
 use org_base::MOST_DAYS;
 use org_cal::{Day, MINUTES_PER_DAY, Moment, Period, Step, TimeOfDay};
 use org_client::Window;
@@ -15,11 +15,12 @@ use orgq_files::texts;
 use orgq_messages::Problem;
 use std::alloc::Global;
 
-/// What the arguments ask for at a moment, in so many columns.
+/// What the arguments ask for at a moment, in so many columns; a calendar is made at a moment of universal time.
 pub fn read_question<'a>(
     alloc: Global,
     matches: &ArgMatches<'a>,
     moment: &Moment,
+    made: Moment,
     columns: u16,
 ) -> Result<Query<'a>, Problem> {
     let days = matches.get_one::<u32>("days");
@@ -29,7 +30,7 @@ pub fn read_question<'a>(
             Ok(Query::Calendar(asked_calendar(own, moment, columns)?))
         }
         Some(("next", own)) => asked_next(own, days, moment),
-        Some(("ical", own)) => asked_ical(own, days, moment.day),
+        Some(("ical", own)) => asked_ical(own, days, moment.day, made),
         None => Ok(Query::Agenda(days_from(moment.day, days.unwrap_or(1))?)),
         Some(_) if days.is_some() => Err(Problem::DaysOf),
         Some((name, own)) => asked_list(alloc, name, own, moment),
@@ -77,14 +78,19 @@ fn asked_days(own: &ArgMatches<'_>, days: Option<u32>, moment: &Moment) -> Resul
     days_from(period.first, count)
 }
 
-// Days from today on as a calendar.
+// Days from today on as a calendar that is made at a moment.
 fn asked_ical<'a>(
     own: &ArgMatches<'a>,
     days: Option<u32>,
     today: Day,
+    made: Moment,
 ) -> Result<Query<'a>, Problem> {
     let count = own.get_one::<u32>("days").or(days).unwrap_or(30);
-    Ok(Query::Ical(days_from(today, count)?))
+    Ok(Query::Ical(IcalQuery {
+        days: days_from(today, count)?,
+        alarm: own.get_one::<u32>("alarm"),
+        made,
+    }))
 }
 
 // What comes next, or what begins since a moment.

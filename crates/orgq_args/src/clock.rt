@@ -1,8 +1,9 @@
 //! The moment at which is asked.
 
+use jiff::civil::DateTime;
 use jiff::tz::{SystemTimeZone, TimeZoneDatabase};
 use jiff::{Error, Zoned};
-use org_cal::{Day, Moment, TimeOfDay};
+use org_cal::{Day, MINUTES_PER_DAY, Moment, TimeOfDay};
 use orgq_files::{LeftOut, read_whole};
 use orgq_messages::{Problem, Variable, value_of};
 use std::alloc::AllocError;
@@ -30,6 +31,56 @@ pub fn now<R: AllocGlobal + Files + Env + Clock>(rt: &R) -> Result<Moment, Probl
         Some(moment) => Ok(moment),
         None => Err(Problem::Clock),
     }
+}
+
+/// A moment of the system's zone by universal time; as it is where the calendar has no such moment.
+pub fn universal<R: AllocGlobal + Files + Env>(rt: &R, moment: Moment) -> Result<Moment, Problem> {
+    let zones = named_zone(rt)?;
+    let system = SystemTimeZone::read(rt).map_err(unread)?;
+    let zone = system.time_zone(&zones).map_err(unread)?;
+    let local = civil_of(&moment).map_err(unread)?;
+    match local.to_zoned(zone) {
+        Ok(there) => match moment_before(&moment, there.offset().seconds()) {
+            Some(before) => Ok(before),
+            None => Ok(moment),
+        },
+        Err(Error::OutOfMemory) => Err(Problem::from(AllocError)),
+        Err(_) => Ok(moment),
+    }
+}
+
+// The moment so many seconds before another, as far as they are minutes; none where the calendar lacks it.
+fn moment_before(moment: &Moment, seconds: i32) -> Option<Moment> {
+    let minute = moment.minute().number();
+    let minutes = u64::from(seconds.unsigned_abs() / 60);
+    if seconds < 0 {
+        moment_of_minute(minute.saturating_add(minutes))
+    } else {
+        moment_of_minute(minute.checked_sub(minutes)?)
+    }
+}
+
+// The moment of a minute since 0001-01-01 00:00.
+fn moment_of_minute(minute: u64) -> Option<Moment> {
+    let day = Day::of_number(minute / MINUTES_PER_DAY + 1)?;
+    Some(Moment {
+        day,
+        minute: TimeOfDay::of_minutes((minute % MINUTES_PER_DAY) as u16),
+    })
+}
+
+fn civil_of(moment: &Moment) -> Result<DateTime, Error> {
+    let (year, month, of_month) = moment.day.parts();
+    let minutes = moment.minute.minutes();
+    DateTime::new(
+        year as i16,
+        month as i8,
+        of_month as i8,
+        (minutes / 60) as i8,
+        (minutes % 60) as i8,
+        0,
+        0,
+    )
 }
 
 // Why the clock or the time zone can't be read.

@@ -31,7 +31,7 @@ pub use adding::{WishedHeading, added_place, lend, read_body, wished_heading};
 pub use arguments::{command, is_command};
 pub use ask::{asked_period, read_filters, read_question};
 pub use calendar::columns_for;
-pub use clock::{now, typed_moment};
+pub use clock::{now, typed_moment, universal};
 pub use filters::Filters;
 pub use joined::joined_values;
 pub use options::{

@@ -68,7 +68,7 @@ fn option<'a>(alloc: Global, line: &'static str) -> Arg<'a> {
         "level" => arg.value_parser(value_parser!(u32).range(1..=99)),
         "columns" => arg.value_parser(value_parser!(u32).range(20..=1000)),
         "lines" => arg.value_parser(value_parser!(u32).range(2..=60)),
-        "within" | "lead" => arg.value_parser(value_parser!(u32).range(0..=100_000)),
+        "within" | "lead" | "alarm" => arg.value_parser(value_parser!(u32).range(0..=100_000)),
         _ => arg,
     }
 }

@@ -6,4 +6,4 @@ use Rattle.org_client.proofs.components.push_tasks.Given as goal
 
 abbrev pub invariant-loop-stamp : goal.invariant-loop-stamp
 invariant-loop-stamp l =
-    map component_text l.all.items ++ tasks_of l.inherits (drop l.stamp-index l.stamps) ≡ map component_text l.fn.all.items ++ tasks_of l.inherits l.stamps
+    map component_text l.all.items ++ tasks_of l.inherits l.asked (drop l.stamp-index l.stamps) ≡ map component_text l.fn.all.items ++ tasks_of l.inherits l.asked l.stamps

@@ -18,9 +18,11 @@ returns c = record {
   unfolded = refl;
   date = refl;
   moment = refl;
-  whole_day = refl;
-  later_end = refl;
-  earlier_end = refl;
+  days_end = refl;
+  hours_end = refl;
+  rule = refl;
+  again = refl;
+  days_again = refl;
   numbers = refl;
   calendar = refl;
 }

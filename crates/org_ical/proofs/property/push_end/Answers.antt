@@ -9,3 +9,8 @@ pub returns-in-Between : goal.returns-in-Between
 returns-in-Between c =
     let P : List ℕ → Type 0 = λ t. OnOk c.push_time.result (c.push_time.new.out.items ≡ c.args.out.now.items ++ t) in
     subst P (sym (ap (λ w. written (end_lines w)) c.in-Between.is ∙ append-nil _)) c.push_time.ensures
+
+pub returns-in-Days : goal.returns-in-Days
+returns-in-Days c =
+    let P : List ℕ → Type 0 = λ t. OnOk c.push_day.result (c.push_day.new.out.items ≡ c.args.out.now.items ++ t) in
+    subst P (sym (ap (λ w. written (end_lines w)) c.in-Days.is ∙ append-nil _)) c.push_day.ensures

@@ -6,7 +6,7 @@ use Rattle.org_ical.specs.Properties.{property}
 use Rattle.org_ical.specs.Results.{bytes_of}
 use Rattle.org_ical.specs.Texts.{values_text}
 use Rattle.org_ical.proofs.PropertyLemmas.{categories_some}
-use Rattle.org_ical.proofs.property.push_categories.Goals as goal
+use Rattle.org_ical.proofs.words.push_categories.Goals as goal
 
 pub returns : goal.returns
 returns c =
