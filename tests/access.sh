@@ -30,7 +30,7 @@ cp "$1" "$work/orgq" && chmod 755 "$work" "$work/orgq"
 shim=$(sh "$here/save/build.sh" "$work") || give_up "the shim of tests/save can't be built here"
 chmod 755 "$shim"
 cd "$work" || exit 2
-unset ORGQ_FILES NO_COLOR TZ TZDIR
+unset ORGQ_FILES NO_COLOR TZ TZDIR XDG_STATE_HOME
 HOME=$work/home XDG_CONFIG_HOME=$work/home/config
 export HOME XDG_CONFIG_HOME
 umask 022

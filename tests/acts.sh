@@ -20,7 +20,7 @@ fi
 orgq=$(cd "$(dirname "$1")" && pwd)/$(basename "$1")
 work=$(mktemp -d) || exit 2
 trap 'rm -rf "$work"' EXIT
-unset ORGQ_FILES NO_COLOR TZ TZDIR
+unset ORGQ_FILES NO_COLOR TZ TZDIR XDG_STATE_HOME
 HOME=$work/home XDG_CONFIG_HOME=$work/home/config LC_ALL=C.UTF-8
 export HOME XDG_CONFIG_HOME LC_ALL
 mkdir -p "$HOME" "$work/orgq"

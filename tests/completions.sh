@@ -96,6 +96,7 @@ ask_all_of() {
             --color | --profile | --step | --severity) ask "orgq ${1:+$1 }$option " "$(values_of "$1" "$option")" ;;
             --from | --to) ask "orgq ${1:+$1 }$option " "$days" ;;
             --tag) ask "orgq ${1:+$1 }$option " "$(orgq tags | tr '\n' ' ')" ;;
+            -t | --todo | --keyword) ask "orgq ${1:+$1 }$option " "$(orgq keywords | tr '\n' ' ')" ;;
             --only | --not) ask "orgq ${1:+$1 }$option " "$(orgq check --only '?' 2>&1 | sed 's/.*there are //; s/,//g')" ;;
             --at | --days | --limit | --match) ask "orgq ${1:+$1 }$option " "" ;;
         esac

@@ -98,6 +98,9 @@ for kind in done add in out cancel; do
     counted saves crates/orgq/out/orgq "$kind"
 done
 
+echo "gate: what acts changed is taken back"
+counted undo crates/orgq/out/orgq
+
 echo "gate: standard streams that are closed, and who may read what is written"
 counted streams crates/orgq/out/orgq crates/orgviews/out/orgviews
 counted access crates/orgq/out/orgq

@@ -21,7 +21,7 @@ COMPLETIONS = "contrib/completions"
 # Where the manual says of several commands at once what their options are, beside the sections that their rows lead to.
 SHARED_SECTIONS = {("docs/acting.md", "Place and options"): ["done", "set", "schedule", "deadline"]}
 # Values that completions know, by what the table calls them.
-KNOWN = ["PATH", "FILE", "PLACE", "KIND,..", "DATE", "TAG"]
+KNOWN = ["PATH", "FILE", "PLACE", "KEYWORD", "KIND,..", "DATE", "TAG"]
 OPTION = r"(?<![\w-])--[a-z]+(?:-[a-z]+)*|(?<![\w-])-[a-zA-Z](?![\w-])"
 
 

@@ -27,7 +27,7 @@ orgq=$(cd "$(dirname "$1")" && pwd)/$(basename "$1")
 orgviews=$(cd "$(dirname "$2")" && pwd)/$(basename "$2")
 room=$(mktemp -d) || exit 2
 trap 'chmod -R u+rwx "$room"; rm -rf "$room"' EXIT
-unset ORGQ_FILES NO_COLOR TZ TZDIR
+unset ORGQ_FILES NO_COLOR TZ TZDIR XDG_STATE_HOME
 HOME=$room/home
 XDG_CONFIG_HOME=$room/config
 export HOME XDG_CONFIG_HOME
@@ -482,6 +482,8 @@ if ! shim=$(sh "$here/faults/build.sh" "$room" 2> "$room/err"); then
     lack "each refused growth of memory" "shim of tests/faults: $(tail -n 1 "$room/err")"
 else
     refuse_act done "$room/acts/a.org:1"
+    refuse_act done "$room/acts/a.org:1" "$room/acts/a.org:6"
+    refuse_act set --match LEVEL=1 --all DONE
     refuse_act deadline "$room/acts/a.org:1" +3d
     refuse_act add -t TODO --tag x Three
     refuse_act set "$room/acts/a.org:6" DONE

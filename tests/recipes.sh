@@ -14,7 +14,7 @@ work=$(mktemp -d) || exit 2
 trap 'rm -rf "$work"' EXIT
 mkdir "$work/bin" "$work/home" "$work/room"
 ln -s "$(cd "$(dirname "$orgq")" && pwd)/$(basename "$orgq")" "$work/bin/orgq"
-unset ORGQ_FILES ORGQ_MENU ORGQ_OPEN ORGQ_SEVERITY SENDMAIL VISUAL NO_COLOR
+unset ORGQ_FILES ORGQ_MENU ORGQ_OPEN ORGQ_SEVERITY SENDMAIL VISUAL NO_COLOR XDG_STATE_HOME
 PATH=$work/bin:$here/contrib/recipes:$PATH HOME=$work/home XDG_CONFIG_HOME=$work/home LC_ALL=C.UTF-8
 export PATH HOME XDG_CONFIG_HOME LC_ALL
 cd "$work/room" || exit 2

@@ -76,7 +76,7 @@ lines_before=$(printf '%s\n' "$before" | wc -l)
 lines_after=$(printf '%s\n' "$after" | wc -l)
 shim=$(sh "$here/save/build.sh" "$work") || give_up "the shim of tests/save can't be built here"
 cd "$work" || exit 2
-unset ORGQ_FILES NO_COLOR TZ TZDIR
+unset ORGQ_FILES NO_COLOR TZ TZDIR XDG_STATE_HOME
 HOME=$work/home
 XDG_CONFIG_HOME=$work/home/config
 export HOME XDG_CONFIG_HOME
@@ -387,6 +387,8 @@ is "some were refused, and some kept" "$((refused > 0)) $((rescued > 0))" "1 1"
 echo "saves: of $calls writes of another program $refused were found before the rename and $rescued after it, none was lost"
 
 echo "saves: eight at once, five times"
+# With a home, what they change is kept as well, and nothing is said.
+mkdir -m 755 "$HOME"
 case $kind in
     append | add) echo '* One' > d/b.org ;;
     done | in) seq 40 | sed 's/^/* TODO /' > d/b.org ;;
@@ -437,6 +439,8 @@ if [ "$kind" = add ]; then
     done
     echo "saves: of 100 headings $stood stand, and the others were refused"
 fi
+
+rm -rf "$HOME"
 
 echo "saves: a limit on the size of files"
 long 50000

@@ -19,7 +19,7 @@ done
 orgq=$(cd "$(dirname "$1")" && pwd)/$(basename "$1")
 orgviews=$(cd "$(dirname "$2")" && pwd)/$(basename "$2")
 cd "$work" || exit 2
-unset ORGQ_FILES NO_COLOR TZ TZDIR
+unset ORGQ_FILES NO_COLOR TZ TZDIR XDG_STATE_HOME
 HOME=$work/home XDG_CONFIG_HOME=$work/home/config
 export HOME XDG_CONFIG_HOME
 
@@ -62,6 +62,7 @@ act() {
     set -- --no-config --at "2024-02-28 10:30"
     case $name in
         done) "$orgq" "$@" done d/a.org:5 ;;
+        several) "$orgq" "$@" done d/a.org:1 d/a.org:5 d/b.org:1 ;;
         set) "$orgq" "$@" set d/a.org:5 DONE ;;
         schedule) "$orgq" "$@" schedule d/a.org:5 tomorrow ;;
         deadline) "$orgq" "$@" -n deadline d/a.org:5 +3d ;;
@@ -84,9 +85,9 @@ held() {
     done
 }
 
-echo "streams: 13 acts, each with eight sets of streams closed"
+echo "streams: 14 acts, each with eight sets of streams closed"
 echo body > input
-for name in done set schedule deadline add under body in switch out cancel page quiet; do
+for name in done several set schedule deadline add under body in switch out cancel page quiet; do
     new
     held > old
     act "$name" < input > out 2> err
@@ -113,7 +114,7 @@ done
 
 if [ -c /dev/full ]; then
     echo "streams: the same acts into a full device"
-    for name in done set schedule deadline add under body in switch out cancel page quiet; do
+    for name in done several set schedule deadline add under body in switch out cancel page quiet; do
         new
         act "$name" < input > out 2> err
         held > will

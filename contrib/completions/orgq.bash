@@ -158,6 +158,7 @@ _orgq_behind() {
         --from | --to) found=("${days[@]}" "${blocks[@]}") ;;
         --scheduled | --deadline) found=("${days[@]}") ;;
         --tag) _orgq_listed tags ;;
+        -t | --todo | --keyword) _orgq_listed keywords ;;
         *) mapfile -t found < <(_orgq_values "$help" "$1") ;;
     esac
 }
@@ -175,8 +176,10 @@ _orgq_argument() {
         *DATE* | *BLOCK*) found+=("${days[@]}" "${blocks[@]}") ;;
         *VIEW*) found+=(month week "${days[@]}" "${blocks[@]}") ;;
         *KEYWORD*) _orgq_listed keywords ;;
-        *PLACE* | *FILE* | *PATH*) return 1 ;;
+        *PLACE* | *FILE* | *PATH* | *MORE*) return 1 ;;
     esac
+    # Where more headings may follow, the next one may stand in place of what the first one gets.
+    case "${arguments[*]: -1}" in *MORE*) return 1 ;; esac
 }
 
 _orgq() {

@@ -95,6 +95,8 @@ function _orgq_offers
                 printf '%s\n' $days
             case --tag
                 _orgq_listed tags
+            case -t --todo --keyword
+                _orgq_listed keywords
             case '*'
                 _orgq_values $valued $help
         end
@@ -121,7 +123,7 @@ function _orgq_offers
             printf '%s\n' month week $days $blocks
         case '*KEYWORD*'
             _orgq_listed keywords
-        case '*PLACE*' '*FILE*' '*PATH*'
+        case '*PLACE*' '*FILE*' '*PATH*' '*MORE*'
             _orgq_paths
     end
 end

@@ -1,6 +1,7 @@
 pub mod ActLemmas
 pub mod AddingLemmas
 pub mod AmendLemmas
+pub mod BetweenLemmas
 pub mod ClockCancelLemmas
 pub mod ClockEntryLemmas
 pub mod ClockMinuteLemmas
@@ -18,3 +19,5 @@ pub mod PlaceLemmas
 pub mod PlanLemmas
 pub mod PlanningLemmas
 pub mod SectionLemmas
+pub mod TakingBackLemmas
+pub mod TurnLemmas

@@ -109,3 +109,7 @@ amended_in c text (Ok whole) = amended_whole c text whole
 -- what a completion makes of a text, or why it is refused
 unfoldable pub completed_text : Completion → List ℕ → Result (List ℕ) Refusal
 completed_text c text = amended_in c text (sized (text ++ c.behind.now))
+
+-- the same by the heading on another line
+abbrev pub completed_on : Completion → ℕ → List ℕ → Result (List ℕ) Refusal
+completed_on c line = completed_text (record c { line = line })

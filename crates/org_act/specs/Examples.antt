@@ -1,12 +1,15 @@
 -- Worked examples: what the definitions say of ordinary inputs, and of those at which a wrong rule says something else.
-use Rattle.std.specs.Prelude.{◌≡◌, ◌++◌, ◌+◌, ℕ, true, false, List, [], codes, Some, None, Ok, Err, Result}
+use Rattle.std.specs.Prelude.{◌≡◌, ◌++◌, ◌+◌, ℕ, true, false, List, [], codes, Some, None, Ok, Err, Result, ◌∷◌, map}
 use Rattle.org_act.specs.Adding.{gap_behind, spot_of}
 use Rattle.org_act.specs.Clocking.{inserted_at, section_on, step_part, without}
 use Rattle.org_act.specs.Completing.{done_word, no_heading, own_text}
 use Rattle.org_act.specs.Lines.{heading_at}
-use Rattle.org_act.specs.Planning.{planned_text}
+use Rattle.org_act.specs.Moved.{moved_pairs, stamp_bytes}
+use Rattle.org_act.specs.Planning.{planned_on, planned_text}
+use Rattle.org_act.specs.Several.{amended_in_turn}
+use Rattle.org_act.specs.TakingBack.{Made, text_before}
 use Rattle.org_act.specs.declared.act.Refusal.{Refusal}
-use Rattle.org_act.specs.declared.act.Refusal.TheVariants.{ClockRuns, Misread, NoClock, NoDone}
+use Rattle.org_act.specs.declared.act.Refusal.TheVariants.{ClockRuns, Edited, Misread, NoClock, NoDone}
 use Rattle.org_act.specs.declared.clock_act.ClockStep.TheVariants.{In, Out, Cancel}
 use Rattle.org_amend.specs.Begun.{clock_drawer, clock_line}
 use Rattle.org_amend.specs.Clocks.{running_in}
@@ -48,9 +51,15 @@ pub record ExamplesHold : Type 0 where
   pub emptied : (from : ℕ) → step_part Cancel (codes "* A\n:LOGBOOK:\nc\n:END:\n") (record { at = 0; len = 22 }) (Some (clock_at 14 2 from)) ≡ Ok (without (record { at = 4; len = 18 }))
   pub one_of_two : (from : ℕ) → step_part Cancel (codes "* A\n:LOGBOOK:\nc\nd\n:END:\n") (record { at = 0; len = 24 }) (Some (clock_at 14 2 from)) ≡ Ok (without (record { at = 14; len = 2 }))
 
+-- a keyword that became another
+abbrev pub done : Made
+done = record { at = 2; deleted = codes "TODO"; inserted = codes "DONE"; left = codes "* DONE a\n" }
+
 -- a heading is found by its line, and a line of text is none; without its stamp a planning line goes, unless what stands behind it
 -- would be a heading. A heading goes behind the last one below another, one level deeper, or behind all others, after a line
--- feed where the text has none
+-- feed where the text has none. Two headings lose their stamps at once, the lower one first; where one line has no heading, none
+-- does. Of the stamps of a planning line those that repeat have moved. What an act left goes back,
+-- and a text that was edited doesn't
 pub record ActExamplesHold : Type 0 where
   pub on_its_line : heading_at (codes "a\n* b\n") 2 ≡ Some 2
   pub on_none : heading_at (codes "a\n* b\n") 1 ≡ None
@@ -59,3 +68,8 @@ pub record ActExamplesHold : Type 0 where
   pub below : spot_of (codes "* a\n** b\n*** c\n** d\n") (Some 2) ≡ Some (record { at = 15; level = 3 })
   pub behind_all : spot_of (codes "* a") None ≡ Some (record { at = 3; level = 1 })
   pub unended : gap_behind (codes "* a") ≡ codes "\n"
+  pub two_at_once : amended_in_turn (planned_on (record { line = 1; keyword = Scheduled; date = None })) (3 ∷ (1 ∷ [])) (codes "* a\nSCHEDULED: <2024-02-01 Thu>\n* b\nSCHEDULED: <2024-02-02 Fri>\n") ≡ Ok (codes "* a\n* b\n")
+  pub one_refused : amended_in_turn (planned_on (record { line = 1; keyword = Scheduled; date = None })) (1 ∷ (2 ∷ [])) (codes "* a\nSCHEDULED: <2024-02-01 Thu>\nb\n") ≡ Err no_heading
+  pub one_moved : map (stamp_bytes (codes "SCHEDULED: <2024-02-08 Thu +1w> DEADLINE: <2024-02-02 Fri>")) (moved_pairs (codes "SCHEDULED: <2024-02-01 Thu +1w> DEADLINE: <2024-02-02 Fri>") (codes "SCHEDULED: <2024-02-08 Thu +1w> DEADLINE: <2024-02-02 Fri>")) ≡ codes "<2024-02-08 Thu +1w>" ∷ []
+  pub back : text_before done (codes "* DONE a\n") ≡ Ok (codes "* TODO a\n")
+  pub edited : text_before done (codes "* DONE a\n\n") ≡ Err Edited

@@ -12,5 +12,8 @@ pub mod Completing
 pub mod Examples
 pub mod Laws
 pub mod Lines
+pub mod Moved
 pub mod Planning
 pub mod PlanningLaws
+pub mod TakingBack
+pub mod Several

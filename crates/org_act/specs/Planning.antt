@@ -91,6 +91,10 @@ planned_if p text (Some at) = planned_at p text at
 unfoldable pub planned_text : Planning → List ℕ → Result (List ℕ) Refusal
 planned_text p text = planned_if p text (heading_at text p.line)
 
+-- the same by the heading on another line
+abbrev pub planned_on : Planning → ℕ → List ℕ → Result (List ℕ) Refusal
+planned_on p line = planned_text (record p { line = line })
+
 -- what code puts, as it is defined
 
 abbrev pub put_of : CodePut → Put

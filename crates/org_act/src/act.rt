@@ -27,6 +27,8 @@ pub enum Refusal {
     Misread,
     /// A part of a new heading would be.
     Unreadable(Unreadable),
+    /// The text isn't the one that the act left which is to be taken back.
+    Edited,
 }
 
 impl From<Fault> for Refusal {

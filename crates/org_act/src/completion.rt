@@ -7,6 +7,7 @@ ghost use Rattle.org_complete.specs.Written.{AnswersAs};
 ghost use Rattle.org_store.specs.Outline.{file_settings};
 
 use crate::act::{Act, Refusal};
+use crate::acts::HeadingAct;
 use crate::done::done_word;
 use org_base::{Code, Fault, Meter};
 use org_cal::Moment;
@@ -49,6 +50,22 @@ impl<'a> Act for Completion<'a> {
             Ok(mut file) => plan_in(alloc, &mut file, text, self),
             Err(fault) => Err(Refusal::Fault(fault)),
         }
+    }
+}
+
+impl<'a> HeadingAct for Completion<'a> {
+    ghost use Rattle.org_act.specs.Completing.{completed_on};
+
+    ghost amended_on = { completed_on };
+
+    fn plan_on(&self, alloc: Global, text: &str, line: u64) -> Result<OwnedChange, Refusal> {
+        let act = Completion {
+            line,
+            keyword: self.keyword,
+            moment: self.moment,
+            behind: self.behind,
+        };
+        act.plan(alloc, text)
     }
 }
 

@@ -4,14 +4,20 @@ ghost use Rattle.org_act.specs.ClockEntries.{OneClockCloses, OneClockGoes};
 ghost use Rattle.org_act.specs.ClockSums.{OwnMinutesGrow, SumsGrowAbove};
 ghost use Rattle.org_act.specs.ClockTexts.{ActsAddMinutes, ActsCancelOneClock, ActsEndOneClock};
 ghost use Rattle.org_act.specs.Examples.{ActExamplesHold, ExamplesHold};
-ghost use Rattle.org_act.specs.Laws.{ActsComplete};
+ghost use Rattle.org_act.specs.Laws.{ActsComplete, OneRefusalIsOfAll};
 ghost use Rattle.org_act.specs.PlanningLaws.{HeadingsArePlanned};
+ghost use Rattle.org_act.specs.TakingBack.{ActsAreTakenBack};
 
 /// Where nothing is read after a text, an act that completes a heading leaves what the engine's completion leaves, and is
 /// refused where that is.
 #[tactic(auto, using(crate::proofs::LawLemmas::acts_complete))]
 pub fn acts_complete()
     ensures { ActsComplete }
+{}
+
+/// Where an act is refused for one of several headings, it is refused for all of them.
+pub fn one_refusal_is_of_all()
+    ensures { OneRefusalIsOfAll }
 {}
 
 /// Ordinary headings are completed, and words that are no done keywords refused.
@@ -31,7 +37,8 @@ pub fn headings_are_added()
     ensures { HeadingsAreAdded }
 {}
 
-/// Headings are found by their lines, lose a stamp, and go behind the last one below another.
+/// Headings are found by their lines, lose a stamp, alone or several at once, and go behind the last one below another; what an
+/// act left goes back.
 pub fn act_examples_hold()
     ensures { ActExamplesHold }
 {}
@@ -71,4 +78,9 @@ pub fn acts_cancel_one_clock()
 /// that hold both ends, and no other sum changes.
 pub fn acts_add_minutes()
     ensures { ActsAddMinutes }
+{}
+
+/// What an act left is taken back to the text in which it was done, byte for byte, and any other text is refused.
+pub fn acts_are_taken_back()
+    ensures { ActsAreTakenBack }
 {}

@@ -3,8 +3,9 @@
 //! An act works out of a file's text one change of it, or why it is refused; that is pure. `amend` carries every act: it
 //! makes the change and replaces the file's text by one safe replacement of `org_save`. So whatever fails, and wherever it is
 //! stopped, the file has the text that it had or that with the change, whole. `Completion` is the act that completes a heading,
-//! `ClockAct` begins, ends or cancels its clock, `Planning` gives it a date or takes one away, and `Addition` writes another
-//! heading.
+//! `ClockAct` begins, ends or cancels its clock, `Planning` gives it a date or takes one away, `Addition` writes another
+//! heading, and `TakingBack` takes such a change back. `Acts` are one act on several headings, which is done on all of them or
+//! on none.
 //!
 //! ```
 //! let change = match act.plan(alloc, old) {
@@ -18,8 +19,10 @@
 #![tactic(auto)]
 
 mod act;
+mod acts;
 mod addition;
 mod amendment;
+mod between;
 mod change;
 mod clock_act;
 mod clock_section;
@@ -28,13 +31,19 @@ mod completion;
 mod done;
 pub mod laws;
 mod lines;
+mod moved;
 mod planning;
+mod taking_back;
 
 pub use act::{Act, Refusal};
+pub use acts::{Acts, HeadingAct};
 pub use addition::Addition;
 pub use amendment::{Amended, Unamended, amend};
+pub use between::change_between;
 pub use change::with_change;
 pub use clock_act::{ClockAct, ClockStep};
 pub use completion::{Completion, KeywordChoice};
+pub use moved::moved_pairs;
 pub use org_store::OwnedChange;
 pub use planning::Planning;
+pub use taking_back::TakingBack;

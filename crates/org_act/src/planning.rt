@@ -6,6 +6,7 @@ ghost use Rattle.org_base.specs.Codes.{memory_fault};
 ghost use Rattle.org_base.specs.Results.{GivesText};
 
 use crate::act::{Act, Refusal};
+use crate::acts::HeadingAct;
 use crate::lines::{first_line, has_feed, heading_at, line_end};
 use org_amend::{TypedDate, dated_line, undated_line};
 use org_base::{Code, Fault};
@@ -39,6 +40,21 @@ impl Act for Planning {
             Some(at) => plan_at(alloc, text.as_bytes(), self, at),
             None => Err(Refusal::Fault(Fault::Plain(Code::Heading))),
         }
+    }
+}
+
+impl HeadingAct for Planning {
+    ghost use Rattle.org_act.specs.Planning.{planned_on};
+
+    ghost amended_on = { planned_on };
+
+    fn plan_on(&self, alloc: Global, text: &str, line: u64) -> Result<OwnedChange, Refusal> {
+        let act = Planning {
+            line,
+            keyword: self.keyword,
+            date: self.date,
+        };
+        act.plan(alloc, text)
     }
 }
 

@@ -24,6 +24,7 @@ use orgq_args::{
 };
 use orgq_files::{Asked, asked_files, say_unknown};
 use orgq_messages::{Problem, Variable, print_all, report_problem, status_of, value_of};
+use orgq_undo::undo;
 use std::alloc::Global;
 use std::fs::File;
 use std::mem::forget;
@@ -54,6 +55,9 @@ pub fn answer_query<
         return check_files(rt, matches, own, &moment);
     }
     let filters = read_filters(matches)?;
+    if let Some(("undo", own)) = matches.subcommand() {
+        return undo(rt, matches, own, on_terminal || is_colored);
+    }
     if let Some(status) = act(rt, matches, moment, on_terminal || is_colored)? {
         return Ok(status);
     }

@@ -1,16 +1,19 @@
 //! The commands that change files: a heading gets another keyword or another date, its clock begins or ends, or another
 //! heading is written.
 
+use crate::all_matches::{Found, all_matches};
 use crate::amending::{carry_out_change, try_out};
 use crate::clock_act::clock_act;
 use crate::heading::{HeadingText, read_heading};
 use crate::one_match::{Search, one_match};
+use crate::several::{change_all, named_headings};
 use clap::ArgMatches;
 use org_cal::{Day, Moment};
 use org_save::{Disk, Opened, open};
 use orgq_args::{
-    HeadingPlace, Wish, WishedAct, added_place, done_keyword, lend, planning_keyword, read_body,
-    read_place, read_wish, set_keyword, wished_heading, wished_planning,
+    ActWords, HeadingPlace, Wish, WishedAct, added_place, date_words, done_keyword, keyword_words,
+    lend, planning_keyword, read_body, read_place, read_wish, set_keyword, typed_words,
+    wished_heading, wished_planning,
 };
 use orgq_files::{LeftOut, refuse_words};
 use orgq_messages::{
@@ -28,40 +31,58 @@ pub fn act<
     match matches.subcommand() {
         Some(("add", own)) => Ok(Some(add(rt, matches, own, moment, is_seen)?)),
         Some(("clock", own)) => clock_act(rt, matches, own, moment, is_seen),
-        _ => change_one(rt, matches, moment, is_seen),
+        _ => change_named(rt, matches, moment, is_seen),
     }
 }
 
-// Gives one heading a keyword or a date.
-fn change_one<
+// Gives headings a keyword or a date.
+fn change_named<
     R: AllocGlobal + Clock + Env + Files<File = File> + Input + Print + Eprint + Clone + Drop,
 >(rt: &R, matches: &ArgMatches<'_>, moment: Moment, is_seen: bool) -> Result<Option<u8>, Problem> {
     let Some((name, own)) = matches.subcommand() else {
         return Ok(None);
     };
-    let Some(asked) = wished_act(rt.alloc(), name, own, moment.day)? else {
+    if !changes_headings(name) {
         return Ok(None);
-    };
+    }
+    let words = typed_words(rt.alloc(), own)?;
+    let named = named_words(name, own, words.as_slice())?;
+    let asked = wished_act(rt.alloc(), name, own, named.wanted, moment.day)?;
     refuse_words(matches)?;
     let mut wish = read_wish(rt.alloc(), matches, own, asked, moment)?;
     wish.look.is_seen = is_seen;
-    Ok(Some(by_wish(rt, matches, own, &wish)?))
+    Ok(Some(by_wish(rt, matches, own, named.places, &wish)?))
 }
 
-// What a command wishes of one heading; none where it is another command.
-fn wished_act(
+// Whether a command gives headings a keyword or a date.
+fn changes_headings(name: &str) -> bool {
+    matches!(name, "done" | "set") || planning_keyword(name).is_some()
+}
+
+// The headings among the words of a command, and what they get.
+fn named_words<'a, 'b>(
+    name: &str,
+    own: &ArgMatches<'a>,
+    words: &'b [&'a str],
+) -> Result<ActWords<'a, 'b>, Problem> {
+    match planning_keyword(name) {
+        Some(_) => date_words(own, words),
+        None => keyword_words(own, words),
+    }
+}
+
+// What a command wishes of headings, by the words for it.
+fn wished_act<'a>(
     alloc: Global,
     name: &str,
-    own: &ArgMatches<'_>,
+    own: &ArgMatches<'a>,
+    wanted: &[&'a str],
     today: Day,
-) -> Result<Option<WishedAct>, Problem> {
-    match name {
-        "done" => Ok(Some(WishedAct::Keyword(done_keyword(alloc, own)?))),
-        "set" => Ok(Some(WishedAct::Keyword(set_keyword(alloc, own)?))),
-        _ => match planning_keyword(name) {
-            Some(keyword) => Ok(Some(wished_planning(alloc, own, keyword, today)?)),
-            None => Ok(None),
-        },
+) -> Result<WishedAct, Problem> {
+    match planning_keyword(name) {
+        Some(keyword) => wished_planning(alloc, wanted, keyword, today),
+        None if name == "set" => Ok(WishedAct::Keyword(set_keyword(alloc, own, wanted)?)),
+        None => Ok(WishedAct::Keyword(done_keyword(alloc, own, wanted)?)),
     }
 }
 
@@ -90,17 +111,61 @@ fn add<R: AllocGlobal + Clock + Env + Files<File = File> + Input + Print + Eprin
     Ok(change_at(rt, &place, &wish))
 }
 
-// Finds the heading that is meant, and changes it.
+// Finds the headings that are meant, and changes them.
 fn by_wish<
     R: AllocGlobal + Clock + Env + Files<File = File> + Input + Print + Eprint + Clone + Drop,
->(rt: &R, matches: &ArgMatches<'_>, own: &ArgMatches<'_>, wish: &Wish) -> Result<u8, Problem> {
-    let Some(expression) = own.get_str("match") else {
-        let place = read_place(rt.alloc(), own.get_str("PLACE").unwrap_or(""))?;
-        return Ok(change_at(rt, &place, wish));
-    };
+>(
+    rt: &R,
+    matches: &ArgMatches<'_>,
+    own: &ArgMatches<'_>,
+    places: &[&str],
+    wish: &Wish,
+) -> Result<u8, Problem> {
+    let has_all = own.get_flag("all");
+    match own.get_str("match") {
+        None if has_all => Err(Problem::All),
+        None => at_places(rt, places, wish),
+        Some(expression) if has_all => by_all_matches(rt, matches, expression, wish),
+        Some(expression) => by_one_match(rt, matches, expression, wish),
+    }
+}
+
+// Changes the headings that words name.
+fn at_places<R: AllocGlobal + Clock + Env + Files<File = File> + Print + Eprint>(
+    rt: &R,
+    places: &[&str],
+    wish: &Wish,
+) -> Result<u8, Problem> {
+    match places {
+        [] => Err(Problem::Place),
+        [word] => {
+            let place = read_place(rt.alloc(), word)?;
+            Ok(change_at(rt, &place, wish))
+        }
+        words => {
+            let headings = named_headings(rt, words)?;
+            change_all(rt, &headings, wish)
+        }
+    }
+}
+
+// Changes the one heading of which an expression holds.
+fn by_one_match<
+    R: AllocGlobal + Clock + Env + Files<File = File> + Input + Print + Eprint + Clone + Drop,
+>(rt: &R, matches: &ArgMatches<'_>, expression: &str, wish: &Wish) -> Result<u8, Problem> {
     match one_match(rt, matches, expression, wish)? {
         Search::One(place) => Ok(change_at(rt, &place, wish)),
         Search::Ended(status) => Ok(status),
+    }
+}
+
+// Changes all headings of which an expression holds.
+fn by_all_matches<
+    R: AllocGlobal + Clock + Env + Files<File = File> + Input + Print + Eprint + Clone + Drop,
+>(rt: &R, matches: &ArgMatches<'_>, expression: &str, wish: &Wish) -> Result<u8, Problem> {
+    match all_matches(rt, matches, expression, wish)? {
+        Found::All(headings) => change_all(rt, &headings, wish),
+        Found::Ended(status) => Ok(status),
     }
 }
 
@@ -131,7 +196,7 @@ fn try_at<R: AllocGlobal + Files + Print + Eprint>(
     }
 }
 
-fn change_opened<R: AllocGlobal + Files<File = File> + Print + Eprint>(
+fn change_opened<R: AllocGlobal + Clock + Env + Files<File = File> + Print + Eprint>(
     rt: &R,
     place: &HeadingPlace,
     wish: &Wish,
@@ -157,7 +222,7 @@ fn try_heading<R: AllocGlobal + Print + Eprint>(rt: &R, heading: &HeadingText) -
     }
 }
 
-fn change_heading<R: AllocGlobal + Files<File = File> + Print + Eprint>(
+fn change_heading<R: AllocGlobal + Clock + Env + Files<File = File> + Print + Eprint>(
     rt: &R,
     heading: &HeadingText,
     disk: &mut Disk<'_, R>,

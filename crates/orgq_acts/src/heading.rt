@@ -1,6 +1,6 @@
 //! A heading that is changed, with the text of its file.
 
-use org_act::{Addition, ClockAct, ClockStep, Completion, Planning};
+use org_act::{Acts, Addition, ClockAct, ClockStep, Completion, Planning};
 use org_amend::TypedDate;
 use org_base::Fault;
 use org_cal::Moment;
@@ -60,6 +60,18 @@ impl HeadingText {
         }
     }
 
+    /// The same of the headings on some lines.
+    pub fn completions<'a>(
+        &'a self,
+        keyword: &'a WishedKeyword,
+        lines: &'a [u64],
+    ) -> Acts<'a, Completion<'a>> {
+        Acts {
+            act: self.completion(keyword),
+            lines,
+        }
+    }
+
     /// The act that does a step to its clock.
     pub fn clocking(&self, step: ClockStep) -> ClockAct {
         ClockAct {
@@ -74,6 +86,19 @@ impl HeadingText {
             line: self.line,
             keyword,
             date,
+        }
+    }
+
+    /// The same of the headings on some lines.
+    pub fn plannings<'a>(
+        &self,
+        keyword: PlanningKeyword,
+        date: Option<TypedDate>,
+        lines: &'a [u64],
+    ) -> Acts<'a, Planning> {
+        Acts {
+            act: self.planning(keyword, date),
+            lines,
         }
     }
 

@@ -13,12 +13,16 @@
 #![tactic(auto)]
 
 mod acts;
+mod all_matches;
 mod amending;
 mod clock_act;
 mod heading;
+mod headings;
 mod one_match;
 mod refusals;
 mod running;
+mod several;
 mod switching;
+mod told;
 
 pub use acts::act;

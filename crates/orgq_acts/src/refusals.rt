@@ -8,20 +8,35 @@ use org_class::read_settings;
 use org_client::push_clock_minute;
 use org_settings::Settings;
 use org_text::{Text, Whole};
-use orgq_messages::{out_of_memory, say_of, say_unsaved};
+use orgq_messages::{CHANGED, out_of_memory, say_of, say_unsaved};
 use std::alloc::{AllocError, Global};
 use std::str;
 
-/// Says why an act on a heading wasn't done.
-pub fn say_unamended<R: AllocGlobal + Eprint>(rt: &R, heading: &HeadingText, why: &Unamended) {
+/// Says why an act on the heading of a line wasn't done.
+pub fn say_unamended<R: AllocGlobal + Eprint>(
+    rt: &R,
+    heading: &HeadingText,
+    line: u64,
+    why: &Unamended,
+) {
     match why {
-        Unamended::Refused(refusal) => say_refusal(rt, heading, *refusal),
+        Unamended::Refused(refusal) => say_refusal(rt, heading, line, *refusal),
         Unamended::Unsaved(unsaved) => say_unsaved(rt, heading.name.as_str(), unsaved),
     }
 }
 
-fn say_refusal<R: AllocGlobal + Eprint>(rt: &R, heading: &HeadingText, why: Refusal) {
-    match refusal_text(rt.alloc(), heading, why) {
+/// Says that several headings of a file aren't changed since that on a line is refused.
+pub fn say_unchanged<R: AllocGlobal + Eprint>(rt: &R, heading: &HeadingText, line: u64) {
+    match format!(in rt.alloc(); "line {line} is refused, so none of its headings is changed") {
+        Ok(text) => say_of(rt, heading.name.as_str(), text.as_str()),
+        Err(_) => {
+            let _ = out_of_memory(rt);
+        }
+    }
+}
+
+fn say_refusal<R: AllocGlobal + Eprint>(rt: &R, heading: &HeadingText, line: u64, why: Refusal) {
+    match refusal_text(rt.alloc(), heading, line, why) {
         Ok(Some(text)) => say_of(rt, heading.name.as_str(), text.as_str()),
         Ok(None) | Err(_) => {
             let _ = out_of_memory(rt);
@@ -33,6 +48,7 @@ fn say_refusal<R: AllocGlobal + Eprint>(rt: &R, heading: &HeadingText, why: Refu
 fn refusal_text(
     alloc: Global,
     heading: &HeadingText,
+    line: u64,
     why: Refusal,
 ) -> Result<Option<String>, Fault> {
     let word = heading.act.word();
@@ -46,9 +62,10 @@ fn refusal_text(
         Refusal::NoClock => Ok(Some(String::from_str(alloc, "no clock of this heading runs")?)),
         Refusal::EndsEarly(from) => Ok(Some(early_text(alloc, from)?)),
         Refusal::Misread => Ok(Some(String::from_str(alloc, MISREAD)?)),
-        Refusal::Unreadable(Unreadable::Keyword) => fault_text(alloc, heading, Code::Keyword),
+        Refusal::Edited => Ok(Some(String::from_str(alloc, CHANGED)?)),
+        Refusal::Unreadable(Unreadable::Keyword) => fault_text(alloc, heading, line, Code::Keyword),
         Refusal::Unreadable(why) => Ok(Some(String::from_str(alloc, why_unreadable(why))?)),
-        Refusal::Fault(fault) => fault_text(alloc, heading, fault.code()),
+        Refusal::Fault(fault) => fault_text(alloc, heading, line, fault.code()),
     }
 }
 
@@ -79,13 +96,15 @@ fn why_unreadable(why: Unreadable) -> &'static str {
     }
 }
 
-fn fault_text(alloc: Global, heading: &HeadingText, code: Code) -> Result<Option<String>, Fault> {
+fn fault_text(
+    alloc: Global,
+    heading: &HeadingText,
+    line: u64,
+    code: Code,
+) -> Result<Option<String>, Fault> {
     match code {
         Code::Memory => Ok(None),
-        Code::Heading => {
-            let line = heading.line;
-            Ok(Some(format!(in alloc; "no heading at line {line}")?))
-        }
+        Code::Heading => Ok(Some(format!(in alloc; "no heading at line {line}")?)),
         Code::Keyword => {
             let (word, all) = (heading.act.word(), keyword_list(alloc, heading, false)?);
             Ok(Some(format!(in alloc; "no keyword {word}; it has {all}")?))

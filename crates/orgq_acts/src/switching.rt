@@ -1,15 +1,15 @@
 //! The clock that runs and the one that is to begin in the same file: both are changed by one write.
 
 use crate::acts::heading_at;
-use crate::amending::{PlannedText, planned_text, report_unamended};
+use crate::amending::{PlannedText, keep_change, planned_text, print_kept, report_unamended};
 use crate::heading::HeadingText;
-use org_act::{Refusal, Unamended};
+use org_act::{OwnedChange, Refusal, Unamended};
 use org_save::{Disk, open, replace};
 use orgq_args::{HeadingPlace, Wish, WishedAct};
 use orgq_messages::{
-    CHANGED, UNWRITTEN, out_of_memory, print_changed, report_unfit, say_of, say_saved, say_unsaved,
-    unsaved_status,
+    CHANGED, UNWRITTEN, out_of_memory, report_unfit, say_of, say_saved, say_unsaved, unsaved_status,
 };
+use orgq_undo::Unkept;
 use std::alloc::{AllocError, Global};
 use std::fs::File;
 use std::rt::{Env, Files};
@@ -35,7 +35,7 @@ pub fn switch_at<R: AllocGlobal + Clock + Env + Files<File = File> + Print + Epr
 }
 
 // The same of the heading whose clock runs.
-fn switch_heading<R: AllocGlobal + Files<File = File> + Print + Eprint>(
+fn switch_heading<R: AllocGlobal + Clock + Env + Files<File = File> + Print + Eprint>(
     rt: &R,
     disk: &mut Disk<'_, R>,
     running: &HeadingText,
@@ -87,7 +87,7 @@ fn heading_in(
 }
 
 // Begins the clock of a heading of the text in which the other one has ended, and writes both.
-fn begin_behind<R: AllocGlobal + Files<File = File> + Print + Eprint>(
+fn begin_behind<R: AllocGlobal + Clock + Env + Files<File = File> + Print + Eprint>(
     rt: &R,
     disk: &mut Disk<'_, R>,
     running: &HeadingText,
@@ -101,9 +101,10 @@ fn begin_behind<R: AllocGlobal + Files<File = File> + Print + Eprint>(
     let Ok(lines) = joined_lines(rt.alloc(), ended, lines.as_slice()) else {
         return out_of_memory(rt);
     };
+    let kept = keep_both(rt, running, text.as_str());
     match replace(rt.alloc(), disk, running.text.as_bytes(), text.as_bytes()) {
         Ok(saved) => {
-            let status = print_changed(rt, lines.as_slice());
+            let status = print_kept(rt, running.name.as_str(), lines.as_slice(), kept);
             say_saved(rt, running.name.as_str(), saved, disk.rescue());
             status
         }
@@ -112,6 +113,20 @@ fn begin_behind<R: AllocGlobal + Files<File = File> + Print + Eprint>(
             unsaved_status(why.why)
         }
     }
+}
+
+// Keeps that a text takes the place of a file's, so that both steps are taken back as one.
+fn keep_both<R: AllocGlobal + Clock + Env + Files<File = File>>(
+    rt: &R,
+    running: &HeadingText,
+    text: &str,
+) -> Result<(), Unkept> {
+    let change = OwnedChange {
+        at: 0,
+        del: running.text.len() as u64,
+        ins: String::from_str(rt.alloc(), text)?,
+    };
+    keep_change(rt, running, &change)
 }
 
 fn joined_lines(alloc: Global, first: &[u8], second: &[u8]) -> Result<Vec<u8>, AllocError> {

@@ -7,7 +7,10 @@ use std::alloc::{AllocError, Global};
 // Lines of options.
 const OF_ACTS: &str = "\
 ;match;EXPR;The heading of which the expression holds, in place of FILE:LINE
+;all;;With --match: all headings of which the expression holds, up to 1000
 ;dry-run;;Nothing is written; the same is printed";
+
+const OF_KEYWORDS: &str = ";keyword;KEYWORD;The keyword, as of several headings";
 
 const OF_CLOCK_IN: &str = "\
 ;match;EXPR;The heading of which the expression holds, in place of FILE:LINE
@@ -25,6 +28,10 @@ t;todo;KEYWORD;Its keyword, one of the file's
 ;under;PLACE;The heading below which it goes, as FILE:LINE
 ;dry-run;;Nothing is written; the same is printed";
 
+const OF_UNDO: &str = "\
+;list;;What would be taken back, the newest first; nothing is written
+;dry-run;;Nothing is written; the same is printed";
+
 /// Those that change files, after others.
 pub fn with_acts<'a>(alloc: Global, command: Command<'a>) -> Result<Command<'a>, AllocError> {
     command
@@ -32,7 +39,8 @@ pub fn with_acts<'a>(alloc: Global, command: Command<'a>) -> Result<Command<'a>,
         .subcommand(act_set(alloc)?)?
         .subcommand(act_schedule(alloc)?)?
         .subcommand(act_deadline(alloc)?)?
-        .subcommand(act_add(alloc)?)
+        .subcommand(act_add(alloc)?)?
+        .subcommand(act_undo(alloc)?)
 }
 
 /// What is said of the clock that runs, and done to it, in place of a table.
@@ -67,21 +75,21 @@ fn clock_out<'a>(
 
 fn act_done<'a>(alloc: Global) -> Result<Command<'a>, AllocError> {
     let done = Command::new(alloc, "done").about(
-        "A heading of a file is done: it gets a done keyword, or its stamps shift",
+        "Headings of files are done: they get a done keyword, or their stamps shift",
     );
     with_place(
         alloc,
         done,
-        "The done keyword; without it the first one of the heading's",
+        "The done keyword, without it the first one of the heading's; or another heading",
     )
 }
 
 fn act_set<'a>(alloc: Global) -> Result<Command<'a>, AllocError> {
-    let set = Command::new(alloc, "set").about("A heading of a file gets a keyword");
-    with_place(alloc, set, "The keyword")
+    let set = Command::new(alloc, "set").about("Headings of files get a keyword");
+    with_place(alloc, set, "The keyword, or another heading")
 }
 
-// What names a heading and a keyword.
+// What names headings and a keyword.
 fn with_place<'a>(
     alloc: Global,
     command: Command<'a>,
@@ -93,19 +101,21 @@ fn with_place<'a>(
         "The heading, as FILE:LINE; with --match the keyword stands here",
     );
     let command = command.arg(place)?.arg(word(alloc, "KEYWORD", keyword))?;
+    let more = words(alloc, "MORE", "More headings, as FILE:LINE");
+    let command = with_options(alloc, command.arg(more)?, OF_KEYWORDS, false)?;
     with_options(alloc, command, OF_ACTS, false)
 }
 
 fn act_schedule<'a>(alloc: Global) -> Result<Command<'a>, AllocError> {
     let schedule = Command::new(alloc, "schedule").about(
-        "A heading of a file is scheduled for a date, or no longer",
+        "Headings of files are scheduled for a date, or no longer",
     );
     with_date(alloc, schedule)
 }
 
 fn act_deadline<'a>(alloc: Global) -> Result<Command<'a>, AllocError> {
     let deadline = Command::new(alloc, "deadline").about(
-        "A heading of a file gets a deadline, or loses it",
+        "Headings of files get a deadline, or lose it",
     );
     with_date(alloc, deadline)
 }
@@ -122,7 +132,17 @@ fn act_add<'a>(alloc: Global) -> Result<Command<'a>, AllocError> {
     with_options(alloc, add.arg(title)?, OF_ADD, false)
 }
 
-// What names a heading and a date.
+fn act_undo<'a>(alloc: Global) -> Result<Command<'a>, AllocError> {
+    let undo = Command::new(alloc, "undo").about("The last change of a file is taken back");
+    let file = word(
+        alloc,
+        "FILE",
+        "The file, or a folder; without it the one that was changed last",
+    );
+    with_options(alloc, undo.arg(file)?, OF_UNDO, false)
+}
+
+// What names headings and a date.
 fn with_date<'a>(alloc: Global, command: Command<'a>) -> Result<Command<'a>, AllocError> {
     let place = word(
         alloc,
@@ -132,10 +152,15 @@ fn with_date<'a>(alloc: Global, command: Command<'a>) -> Result<Command<'a>, All
     let date = word(
         alloc,
         "DATE",
-        "The date: tomorrow, fri, +3d, 2024-02-28; none takes it away",
+        "The date, behind the last heading: tomorrow, fri, +3d, 2024-02-28; none takes it away",
     );
     let time = word(alloc, "TIME", "A time of that day: 9:30, 9:30-10:15");
     let command = command.arg(place.allow_hyphen_values(true))?;
     let command = command.arg(date.allow_hyphen_values(true))?.arg(time)?;
-    with_options(alloc, command, OF_ACTS, false)
+    let more = words(
+        alloc,
+        "MORE",
+        "Words behind these: headings, the date, a time",
+    );
+    with_options(alloc, command.arg(more)?, OF_ACTS, false)
 }

@@ -90,9 +90,9 @@ const VERSION: &str = "\
 kit and commit: not known to a build; where a package has the file PROOF, that names both";
 
 // The commands.
-const COMMANDS: [&str; 19] = [
+const COMMANDS: [&str; 20] = [
     "agenda", "calendar", "todo", "match", "clock", "clocks", "next", "ical", "page", "keywords",
-    "tags", "check", "follow", "done", "set", "schedule", "deadline", "add", "config",
+    "tags", "check", "follow", "done", "set", "schedule", "deadline", "add", "undo", "config",
 ];
 
 /// Whether a word is the name of a command.

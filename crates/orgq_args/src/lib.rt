@@ -13,6 +13,7 @@
 #![tactic(auto)]
 
 mod act_arguments;
+mod act_words;
 mod adding;
 mod arguments;
 mod ask;
@@ -24,9 +25,11 @@ mod option_lines;
 mod options;
 mod place;
 mod planning;
+mod undoing;
 mod usage;
 mod wish;
 
+pub use act_words::{ActWords, date_words, keyword_words, typed_words};
 pub use adding::{WishedHeading, added_place, lend, read_body, wished_heading};
 pub use arguments::{command, is_command};
 pub use ask::{asked_period, read_filters, read_question};
@@ -37,7 +40,8 @@ pub use joined::joined_values;
 pub use options::{
     form, is_colored, named_form, profile, property_names, property_words, without_rows,
 };
-pub use place::{HeadingPlace, read_place};
+pub use place::{HeadingPlace, is_place, read_place};
 pub use planning::{planning_keyword, wished_planning};
+pub use undoing::{UndoWish, read_undo};
 pub use usage::parser_said;
 pub use wish::{Look, Wish, WishedAct, WishedKeyword, done_keyword, read_wish, set_keyword};

@@ -18,20 +18,31 @@ pub struct HeadingPlace {
 /// The place that a word spells as `FILE:LINE`; a colon may follow, as it does in front of rows, and FILE may stand between
 /// quotation marks, where it does so there.
 pub fn read_place(alloc: Global, word: &str) -> Result<HeadingPlace, Problem> {
-    let word = word.strip_suffix(':').unwrap_or(word);
-    let Some((name, number)) = word.rsplit_once(':') else {
+    let Some((name, line)) = spelled_place(word) else {
         return Err(Problem::Place);
     };
-    let name = meant_name(name);
-    if name.is_empty() {
-        return Err(Problem::Place);
-    }
-    let line = read_number(number).ok_or(Problem::Place)?;
     Ok(HeadingPlace {
         name: String::from_str(alloc, name)?,
         line,
         found_in: None,
     })
+}
+
+/// Whether a word spells a place.
+pub fn is_place(word: &str) -> bool {
+    spelled_place(word).is_some()
+}
+
+// The file and the line of the place that a word spells.
+fn spelled_place(word: &str) -> Option<(&str, u64)> {
+    let word = word.strip_suffix(':').unwrap_or(word);
+    let (name, number) = word.rsplit_once(':')?;
+    let name = meant_name(name);
+    if name.is_empty() {
+        return None;
+    }
+    let line = read_number(number)?;
+    Some((name, line))
 }
 
 // The name of a file that is typed, or printed in front of rows. Quotation marks that stand there because a place seems to stand

@@ -1,7 +1,6 @@
 //! The dates that headings get.
 
 use crate::wish::WishedAct;
-use clap::ArgMatches;
 use org_amend::TypedDate;
 use org_cal::Day;
 use org_stamp::PlanningKeyword;
@@ -17,24 +16,18 @@ pub fn planning_keyword(command: &str) -> Option<PlanningKeyword> {
     }
 }
 
-/// What `schedule` or `deadline` asks for. Where an expression stands for the place, the date is the first word.
+/// What `schedule` or `deadline` asks for by the words for a date.
 pub fn wished_planning(
     alloc: Global,
-    own: &ArgMatches<'_>,
+    wanted: &[&str],
     keyword: PlanningKeyword,
     today: Day,
 ) -> Result<WishedAct, Problem> {
-    let (place, date, time) = (
-        own.get_str("PLACE"),
-        own.get_str("DATE"),
-        own.get_str("TIME"),
-    );
-    let (date, time) = match (own.get_str("match"), time) {
-        (None, _) => (date, time),
-        (Some(_), None) => (place, date),
-        (Some(_), Some(_)) => return Err(Problem::PlaceBeside),
+    let date = match wanted {
+        [date] => wished_date(alloc, date, None, today)?,
+        [date, time] => wished_date(alloc, date, Some(time), today)?,
+        _ => return Err(Problem::NoDate),
     };
-    let date = wished_date(alloc, date.ok_or(Problem::NoDate)?, time, today)?;
     Ok(WishedAct::Planning(keyword, date))
 }
 

@@ -137,7 +137,7 @@ pub fn read_wish(
 }
 
 // Whether a place stands in front of each line; the lines are no rows.
-fn has_place(matches: &ArgMatches<'_>, is_keyword: bool) -> Result<bool, Problem> {
+pub(crate) fn has_place(matches: &ArgMatches<'_>, is_keyword: bool) -> Result<bool, Problem> {
     if matches.get_one::<u32>("days").is_some() {
         return Err(Problem::DaysOf);
     }
@@ -152,30 +152,34 @@ fn has_place(matches: &ArgMatches<'_>, is_keyword: bool) -> Result<bool, Problem
     }
 }
 
-/// The keyword of `done`.
-pub fn done_keyword(alloc: Global, own: &ArgMatches<'_>) -> Result<WishedKeyword, Problem> {
-    match keyword_word(own)? {
+/// The keyword of `done`, among its options and words.
+pub fn done_keyword<'a>(
+    alloc: Global,
+    own: &ArgMatches<'a>,
+    wanted: &[&'a str],
+) -> Result<WishedKeyword, Problem> {
+    match keyword_word(own, wanted) {
         Some(word) => Ok(WishedKeyword::Done(String::from_str(alloc, word)?)),
         None => Ok(WishedKeyword::FirstDone),
     }
 }
 
-/// The keyword of `set`.
-pub fn set_keyword(alloc: Global, own: &ArgMatches<'_>) -> Result<WishedKeyword, Problem> {
-    match keyword_word(own)? {
+/// The keyword of `set`, among its options and words.
+pub fn set_keyword<'a>(
+    alloc: Global,
+    own: &ArgMatches<'a>,
+    wanted: &[&'a str],
+) -> Result<WishedKeyword, Problem> {
+    match keyword_word(own, wanted) {
         Some(word) => Ok(WishedKeyword::Any(String::from_str(alloc, word)?)),
         None => Err(Problem::NoKeyword),
     }
 }
 
-// The word for the keyword: the first one where an expression stands for the place.
-fn keyword_word<'a>(own: &ArgMatches<'a>) -> Result<Option<&'a str>, Problem> {
-    let second = own.get_str("KEYWORD");
-    if own.get_str("match").is_none() {
-        return Ok(second);
-    }
-    match second {
-        Some(_) => Err(Problem::PlaceBeside),
-        None => Ok(own.get_str("PLACE")),
+// The word for the keyword.
+fn keyword_word<'a>(own: &ArgMatches<'a>, wanted: &[&'a str]) -> Option<&'a str> {
+    match own.get_str("keyword") {
+        Some(word) => Some(word),
+        None => wanted.first().copied(),
     }
 }

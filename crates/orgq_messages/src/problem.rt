@@ -12,6 +12,8 @@ use unicode_width::UnicodeWidthStr;
 pub enum Problem {
     /// A form is asked for that what `done` and `set` print doesn't have.
     ActForm,
+    /// All headings of which an expression holds are meant, and there is no expression.
+    All,
     Block,
     /// The category of `--category` has a quotation mark.
     Category,
@@ -61,8 +63,12 @@ pub enum Problem {
     Link,
     /// A form is asked for that what a command prints that changes files doesn't have.
     LineForm,
+    /// A keyword stands behind several headings.
+    KeywordBehind,
     LimitOf,
     List,
+    /// More headings are named than are changed at once.
+    Many,
     Moment,
     /// A name of a text on standard input, and there is none.
     Name,
@@ -92,6 +98,8 @@ pub enum Problem {
     SinceBeside,
     SinceDays,
     SinceMoment,
+    /// No variable of the environment says where histories of acts lie.
+    State,
     Step,
     Tables,
     Tag,
@@ -119,6 +127,7 @@ impl Problem {
     fn why(self) -> &'static str {
         match self {
             Problem::ActForm => "done and set print lines: --json and --csv are no forms of theirs",
+            Problem::All => "--all goes with --match",
             Problem::Block => NO_BLOCK,
             Problem::Category => "a category of --category has no quotation mark in it",
             Problem::Chart => "--chart has lines alone, without -n, --json, --csv and --format",
@@ -164,11 +173,13 @@ impl Problem {
             Problem::Lead => "--lead wants --since",
             Problem::Link =>
                 "--link has places in braces, {file}, {name}, {line} and {before}, and other braces twice",
+            Problem::KeywordBehind => "of several headings --keyword names the keyword",
             Problem::LineForm => "this command prints lines: --json and --csv are no forms of its",
             Problem::LimitOf => "--limit is an option of agenda, ical, next, todo and match",
             Problem::List => {
                 "the list of files, orgq/files in XDG_CONFIG_HOME or ~/.config, can't be read as a file of UTF-8"
             }
+            Problem::Many => "no more than 1,000 headings are changed at once",
             Problem::Moment => {
                 "no such moment: --at takes one as \"2024-02-28 10:30\" or \"tomorrow 9:00\""
             }
@@ -192,6 +203,9 @@ impl Problem {
             Problem::SinceDays => "--since is more than 366 days back",
             Problem::SinceMoment => {
                 "no such moment: --since takes one as \"2024-02-28 10:30\" or \"yesterday 9:00\""
+            }
+            Problem::State => {
+                "what acts changed isn't known: neither XDG_STATE_HOME nor HOME names a folder"
             }
             Problem::Step => "--step is day or week",
             Problem::Tables => "--step cuts these days into more than 366 tables",

@@ -1,0 +1,3 @@
+pub mod AgainLemmas
+pub mod BeforeLemmas
+pub mod SettledLemmas

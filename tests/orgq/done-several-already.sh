@@ -1,0 +1,1 @@
+printf '* DONE a\n* DONE b\n' > a.org

@@ -1,0 +1,1 @@
+printf '* TODO a\n* TODO b\n* TODO c\n' > a.org

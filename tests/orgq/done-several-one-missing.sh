@@ -1,0 +1,1 @@
+printf '* TODO c\n' > b.org

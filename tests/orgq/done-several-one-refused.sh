@@ -1,0 +1,2 @@
+printf '* TODO a\nb\n' > a.org
+printf '* TODO c\n' > b.org

@@ -1,0 +1,1 @@
+printf '* a\n* b\n* c\n* d\n' > a.org

@@ -1,0 +1,2 @@
+cp work.org before.org
+"$orgq" --at "2024-02-28 10:30" done work.org:2 > /dev/null
