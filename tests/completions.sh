@@ -19,6 +19,8 @@ trap 'rm -rf "$work"' EXIT
 mkdir "$work/bin" "$work/folder" "$work/home"
 ln -s "$(cd "$(dirname "$1")" && pwd)/$(basename "$1")" "$work/bin/orgq"
 printf '%s\n' '#+TODO: TODO NEXT | DONE' '* NEXT a :errand:' '* TODO b :home:' > "$work/words.org"
+mkdir -p "$work/home/config/orgq"
+printf '%s\n' '[morning]' 'about = what $(today) asks' 'show = todo' '[calls]' 'show = match phone' > "$work/home/config/orgq/views"
 unset NO_COLOR TZ TZDIR
 PATH=$work/bin:$PATH HOME=$work/home XDG_CONFIG_HOME=$work/home/config XDG_DATA_HOME=$work/home/data ORGQ_FILES=$work/words.org LC_ALL=C
 export PATH HOME XDG_CONFIG_HOME XDG_DATA_HOME ORGQ_FILES LC_ALL
@@ -48,9 +50,12 @@ words_of() {
     case $1 in
         # What can be helped with: the commands beside it.
         help | *" help") below=$(commands_of "${1%help}") ;;
-        agenda | clock | clocks | *" agenda" | *" clock" | *" clocks") below="$below $days" ;;
+        agenda | clock | clocks | log | *" agenda" | *" clock" | *" clocks" | *" log") below="$below $days" ;;
         calendar | *" calendar") below="$below month week $(taken_by "$1")" ;;
+        view) below="$below $(orgq views | sed 's/ .*//' | tr '\n' ' ')" ;;
         todo | *" todo") below="$below $(orgq keywords | tr '\n' ' ')" ;;
+        # Where a heading is named, the short ids of those that are open.
+        done | set | schedule | deadline | "clock in") below="$below $(orgq todo --format '{id}' | tr '\n' ' ')" ;;
     esac
     echo "$below"
 }
@@ -93,12 +98,12 @@ ask_all_of() {
     for option in $options; do
         case " $of_all " in *" $option "*) continue ;; esac
         case $option in
-            --color | --profile | --step | --severity) ask "orgq ${1:+$1 }$option " "$(values_of "$1" "$option")" ;;
+            --color | --profile | --step | --severity | --group-by | --log-done | --log-repeat) ask "orgq ${1:+$1 }$option " "$(values_of "$1" "$option")" ;;
             --from | --to) ask "orgq ${1:+$1 }$option " "$days" ;;
             --tag) ask "orgq ${1:+$1 }$option " "$(orgq tags | tr '\n' ' ')" ;;
             -t | --todo | --keyword) ask "orgq ${1:+$1 }$option " "$(orgq keywords | tr '\n' ' ')" ;;
             --only | --not) ask "orgq ${1:+$1 }$option " "$(orgq check --only '?' 2>&1 | sed 's/.*there are //; s/,//g')" ;;
-            --at | --days | --limit | --match) ask "orgq ${1:+$1 }$option " "" ;;
+            --at | --days | --limit | --match | --sort) ask "orgq ${1:+$1 }$option " "" ;;
         esac
     done
 }
@@ -188,10 +193,12 @@ echo "completions: $count lines were asked of each shell"
 # A section of the man page, from its heading to the next one, without backslashes.
 section() { sed -n "/^\.S[SH] \"*$1\"*\$/,/^\.S[SH] /p" "$here/../docs/orgq.1" | sed '1d; s/\\//g'; }
 
-# The man page has a section for each command, which names each option that the command has of its own.
+# The man page has a section for each command, which names each option that the command has of its own, or the section that has them.
 describe() {
     section "$1" > "$work/section"
-    grep -q ROWS "$work/section" && section ROWS >> "$work/section"
+    for shared in ROWS ORDER; do
+        grep -q "$shared" "$work/section" && section "$shared" >> "$work/section"
+    done
     [ -s "$work/section" ] || { failed=$((failed + 1)); echo "completions: the man page has no section $1"; return; }
     for option in $(options_of "$1"); do
         case " $of_every " in *" $option "*) continue ;; esac

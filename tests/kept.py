@@ -224,6 +224,10 @@ def opened(rt, makes):
             make(own)
         if not os.path.isdir(own):
             return None, None, f"nothing is kept in {path} of this toolchain"
+        # A folder that nobody else gets into keeps all below it.
+        why = unsafe(own) or (f"others can get into {own}" if os.stat(own).st_mode & 0o077 else "")
+        if why:
+            return None, None, why
         held = sum(os.path.getsize(f"{own}/{it}") for it in files_below(own))
         free, wanted = shutil.disk_usage(own).free, max(MOST_KEPT - held, LEAST_FREE)
         if free < wanted:
@@ -415,7 +419,9 @@ class Turns:
         with self.guard:
             if status:
                 self.failed.append(told(key))
-                self.store.drop(key)
+                # The crate without its tests, or it with them, has the same functions.
+                for it in (key_of(crate.name, False), key_of(crate.name, True)):
+                    self.store.drop(it)
                 print(f"{said}\nkept: {told(key)} is proved over kept work, and NOT from nothing, or not as it was kept: the lines above say which", flush=True)
             else:
                 self.anew[key] = time.monotonic() - began

@@ -125,6 +125,9 @@ again=""
 chmod 777 "$work/cache/orgviews/kept"
 gate "others can write to the folder" 0 "from nothing: others can write to" "!incremental=trusted"
 chmod 700 "$work/cache/orgviews/kept"
+chmod 755 "$work/cache/orgviews/kept"/*/
+gate "others get into the toolchain's folder" 0 "from nothing: others can get into" "!incremental=trusted"
+chmod 700 "$work/cache/orgviews/kept"/*/
 flock "$work/cache/orgviews/kept"/*/lock sleep 60 &
 holder=$!
 sleep 1

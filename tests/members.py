@@ -15,7 +15,7 @@ SENTENCES = "crates/orgq_messages/src/problem.rt"
 SCHEMA = "docs/orgq-rows.schema.json"
 MANUAL = "docs/using.md"
 # What a template doesn't take.
-OBJECTS = ["properties"]
+OBJECTS = ["properties", "matches", "view", "block"]
 
 
 def read(path):
@@ -38,7 +38,7 @@ def table():
 def written():
     """The names that the code writes: each call of `Members`, or of a function that hands a name to one."""
     names = set()
-    for path in glob.glob(os.path.join(ROOT, "crates/org_client/src/*.rt")):
+    for path in [*glob.glob(os.path.join(ROOT, "crates/org_client/src/*.rt")), os.path.join(ROOT, "crates/orgq/src/head.rt")]:
         code = re.sub(r"//[^\n]*", "", read(os.path.relpath(path, ROOT)))
         names.update(re.findall(r'\b(?:to|self|line|value)\.(?:date|time|number|text|texts|flag|object)\(\s*"([a-z_]+)"', code))
         names.update(re.findall(r'\bput_\w+\([^()]*?"([a-z_]+)"', code))

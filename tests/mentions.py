@@ -95,6 +95,8 @@ class Sources:
         programs = "".join(text_of(path) for path in self.files if re.match(r"crates/org(q(_[a-z]+)?|views)/src/", path))
         self.options = set(re.findall(r'(?m)(?:^|")[a-zA-Z]?;([a-z][a-z-]*);|\.long\("([a-z-]+)"\)', programs))
         self.options = {name for pair in self.options for name in pair} | {"help", "version"}
+        # What a line of a view takes besides, which is no option of a program.
+        self.options |= set(re.findall(r'word == "--([a-z-]+)"', text_of("crates/orgq_views/src/block.rt")))
         self.commands = set(re.findall(r'"([a-z]+)"', programs))
         self.targets = set(re.findall(r"(?m)^([a-z-]+):", text_of("Makefile")))
 

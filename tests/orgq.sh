@@ -27,7 +27,7 @@ orgq=$(cd "$(dirname "$1")" && pwd)/$(basename "$1")
 orgviews=$(cd "$(dirname "$2")" && pwd)/$(basename "$2")
 room=$(mktemp -d) || exit 2
 trap 'chmod -R u+rwx "$room"; rm -rf "$room"' EXIT
-unset ORGQ_FILES NO_COLOR TZ TZDIR XDG_STATE_HOME
+unset ORGQ_FILES NO_COLOR COLUMNS LINES COLORFGBG TZ TZDIR XDG_STATE_HOME
 HOME=$room/home
 XDG_CONFIG_HOME=$room/config
 export HOME XDG_CONFIG_HOME
@@ -275,6 +275,13 @@ for expected in "$here"/orgq/*.stdout; do
     esac
 done
 
+# The commands of a view share what standard input says, which can be read once.
+mkdir -p "$XDG_CONFIG_HOME/orgq"
+printf '[twice]\nshow = todo --title one\nshow = todo --title two\n' > "$XDG_CONFIG_HOME/orgq/views"
+echo '* TODO only' | "$orgq" -f - --name a.org view twice > "$room/out" 2> "$room/err"
+[ $? -eq 0 ] && [ "$(grep -c 'TODO only' "$room/out")" -eq 2 ] && passed=$((passed + 1)) || fail "a view of standard input: $(cat "$room/out" "$room/err")"
+rm "$XDG_CONFIG_HOME/orgq/views"
+
 # The advice of each finding helps.
 if said=$(python3 "$here/advice.py" "$orgq" 2>&1); then
     passed=$((passed + $(printf '%s\n' "$said" | sed -n 's/^advice: \([0-9]*\) passed.*/\1/p')))
@@ -298,7 +305,7 @@ fi
 if ! has python3; then
     lack "that rows follow the schema" python3
 else
-    for view in "agenda 2024" "agenda 2024-02 --profile 2" "todo" "match LEVEL>0" "next" "next --since 2024-01-01" "clock 2024 --effort --level 9 --step week" "clocks 2024"; do
+    for view in "agenda 2024" "agenda 2024-02 --profile 2" "todo" "match LEVEL>0" "next" "next --since 2024-01-01" "clock 2024 --effort --level 9 --step week" "clocks 2024" "log 2024"; do
         case $view in *--since*) set -- next --since "2024-01-01 0:00" ;; *) set -- $view ;; esac
         "$orgq" --at "2024-02-28 10:30" --json -f . "$@" > "$room/out" 2> "$room/err"
         [ -s "$room/out" ] || fail "$view has no rows: $(cat "$room/err")"
@@ -330,7 +337,7 @@ is_clean() {
         colors != "" && escape && $1 == 91 { escape = 0; number = 1; next }
         escape { exit 1 }
         number && $1 == 109 { number = 0; next }
-        number && $1 >= 48 && $1 <= 57 { next }
+        number && (($1 >= 48 && $1 <= 57) || $1 == 59) { next }
         number { exit 1 }
         colors != "" && $1 == 27 { escape = 1; next }
         ($1 < 32 && $1 != 10) || $1 == 127 || (last == 194 && $1 >= 128 && $1 < 160) { exit 1 }
@@ -385,11 +392,11 @@ for number in $numbers; do
         printf '#+CATEGORY: c%sc\n#+TODO: TODO K%s | DONE\n#+FILETAGS: :f%s:\n' "$of" "$of" "$of"
         printf '* TODO [#A] a%sb%s c :t%st: <2024-02-28 Wed> :u:\nDEADLINE: <2024-03-01 Fri>\n' "$of" "$of" "$of"
         printf ':PROPERTIES:\n:CATEGORY: p%sp\n:area: q%sq\n:END:\nCLOCK: [2024-02-27 Tue 09:10]--[2024-02-27 Tue 10:40]\n' "$of" "$of"
-        printf '* K%s k%sk :v%sv:\n' "$of" "$of" "$of"
+        printf '* K%s k%sk :v%sv:\n- State "K%s" from "TODO" [2024-02-28 Wed 09:00]\n' "$of" "$of" "$of" "$of"
     } > "$number.org"
     printf '* TODO named\n' > "n${of}n.org"
     for form in --json --csv --color=always "-n --color=always" "--format {file}{category}{title}{tags}{keyword}{text}" "--json --properties area"; do
-        for view in "agenda" "agenda --grid" "calendar" "calendar week --columns=120" "todo" "todo K$of" "match LEVEL>0" "clock" "clocks" "next" "keywords" "tags"; do
+        for view in "agenda" "agenda --grid" "calendar" "calendar week --columns=120" "todo" "todo K$of" "match LEVEL>0" "clock" "clocks" "log" "next" "keywords" "tags"; do
             case "$form $view" in --format*keywords | --format*tags | *properties*keywords | *properties*tags) continue ;; esac
             # shellcheck disable=SC2086
             "$orgq" --at "2024-02-28 10:30" $form --inherit area -f "$number.org" -f "n${of}n.org" ${view%% *} ${view#"${view%% *}"} > "$room/out" 2> "$room/err"
@@ -422,6 +429,29 @@ for number in $numbers; do
 done
 [ "$count" -eq 75 ] && passed=$((passed + 1)) || fail "$count control characters and marks, not 75"
 echo "orgq: $count control characters and marks in categories, titles, tags, keywords, properties, names and arguments"
+
+# A day in sections on a terminal has none of them: each in the category, in a title of its own and in the one above.
+if has script; then
+    {
+        printf '#+CATEGORY: c'
+        for number in $numbers; do character "$number"; done
+        printf '\n'
+        for number in $numbers; do
+            of=$(character "$number"; echo .)
+            of=${of%.}
+            printf '* up%sper\n** TODO a%sb\nSCHEDULED: <2024-02-28 Wed> DEADLINE: <2024-02-29 Thu>\n' "$of" "$of"
+        done
+    } > sections.org
+    for look in "--color never" "--color always --background dark" "--color always --columns 60" "--color never --columns 132 --ascii"; do
+        # shellcheck disable=SC2086
+        on_terminal --at "2024-02-28 10:30" $look -f sections.org > "$room/out"
+        [ $? -eq 0 ] && grep -q "Planned today.* 75" "$room/out" || fail "a day of control characters and marks, $look: $(head -n 3 "$room/out")"
+        case $look in *always*) is_clean "$room/out" colors ;; *) is_clean "$room/out" "" ;; esac && passed=$((passed + 1)) ||
+            fail "a control character or a mark stands in a day in sections, $look"
+    done
+else
+    lack "a day in sections" script
+fi
 cd "$here/orgq/files" || exit 2
 
 # Each growth of memory of a call refused once: the answer is given all the same, or nothing of it with status 4: WORD..

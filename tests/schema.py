@@ -49,16 +49,26 @@ def faults(value, schema, whole, at):
     return found
 
 
+def members(pairs, twice):
+    """Returns an object of its members; of one object's names, notes each that comes again."""
+    found = {}
+    for name, value in pairs:
+        if name in found and name not in twice:
+            twice.append(name)
+        found[name] = value
+    return found
+
+
 def main(path):
     with open(path, encoding="utf-8") as file:
         schema = json.load(file)
     passed = failed = 0
     for number, line in enumerate(sys.stdin.buffer.read().decode("utf-8").split("\n")[:-1], 1):
         try:
-            names = []
-            value = json.loads(line, object_pairs_hook=lambda pairs: names.extend(n for n, _ in pairs) or dict(pairs))
+            twice = []
+            value = json.loads(line, object_pairs_hook=lambda pairs: members(pairs, twice))
             found = faults(value, schema, schema, f"line {number}")
-            found += [f"line {number}: {name} stands twice" for name in sorted(set(names)) if names.count(name) > 1]
+            found += [f"line {number}: {name} stands twice" for name in twice]
         except ValueError as error:
             found = [f"line {number}: {error}"]
         for it in found:

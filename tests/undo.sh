@@ -52,6 +52,8 @@ make() {
     case $1 in
         feed) printf '\n' >> a.org ;;
         returns) sed 's/$/\r/' a.org > b && mv b a.org ;;
+        # What acts log goes, too.
+        logged) printf '\n#+STARTUP: logdone logdrawer logreschedule logredeadline\n' >> a.org ;;
     esac
     cp a.org before
 }
@@ -60,7 +62,7 @@ make() {
 act() {
     name=$1
     shift
-    for form in plain feed returns; do
+    for form in plain feed returns logged; do
         make $form
         run "$@"
         is "$name, $form" "$status" 0

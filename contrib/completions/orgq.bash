@@ -122,6 +122,32 @@ _orgq_listed() {
     done
 }
 
+# The names of the views, into `found`.
+_orgq_views() {
+    mapfile -t found < <(orgq views 2> /dev/null | sed -n 's/^\([a-z][a-z0-9-]*\) .*/\1/p')
+}
+
+# The short ids of the open headings of the files, into `found`, each once, and their titles, into `titles`. In a title the program
+# itself writes control characters so that they can be seen.
+_orgq_headings() {
+    local line
+    while IFS= read -r line; do
+        [ -z "${titles[${line%% *}]+known}" ] || continue
+        found+=("${line%% *}")
+        titles[${line%% *}]=${line#* }
+    done < <(orgq todo --format '{id} {title}' 2> /dev/null | grep -a '^[a-z2-9]\{4,12\} ')
+}
+
+# Puts titles behind ids, where the shell only lists them: several, which have no title in common. What it may put on the line stays an
+# id alone.
+_orgq_title() {
+    local k
+    case ${#COMPREPLY[@]}/${COMP_TYPE-} in [01]/*) return ;; */9 | */33 | */63 | */64) ;; *) return ;; esac
+    for k in "${!COMPREPLY[@]}"; do
+        [ -z "${titles[${COMPREPLY[k]}]+known}" ] || COMPREPLY[k]+="  ${titles[${COMPREPLY[k]}]}"
+    done
+}
+
 # Offers those of `found` that begin as the word that was typed; `$1` is the part of it that readline replaces.
 _orgq_offer() {
     local meant open quoted whole word front=${typed[-1]%"$1"} odd=()
@@ -176,7 +202,12 @@ _orgq_argument() {
         *DATE* | *BLOCK*) found+=("${days[@]}" "${blocks[@]}") ;;
         *VIEW*) found+=(month week "${days[@]}" "${blocks[@]}") ;;
         *KEYWORD*) _orgq_listed keywords ;;
-        *PLACE* | *FILE* | *PATH* | *MORE*) return 1 ;;
+        *NAME*) _orgq_views ;;
+        *PLACE* | *MORE*)
+            _orgq_headings
+            return 1
+            ;;
+        *FILE* | *PATH*) return 1 ;;
     esac
     # Where more headings may follow, the next one may stand in place of what the first one gets.
     case "${arguments[*]: -1}" in *MORE*) return 1 ;; esac
@@ -186,6 +217,7 @@ _orgq() {
     local days=(today tomorrow yesterday mon tue wed thu fri sat sun)
     local blocks=(thisweek lastweek nextweek thismonth lastmonth nextmonth thisyear lastyear nextyear)
     local typed=() above=() found=() lead='' valued='' place=0 part help
+    local -A titles=()
     COMPREPLY=()
     _orgq_type
     help=$(_orgq_help)
@@ -211,7 +243,7 @@ _orgq() {
         *)
             if ! _orgq_argument; then
                 _orgq_offer "$2"
-                [ ${#COMPREPLY[@]} -eq 0 ] || return 0
+                [ ${#COMPREPLY[@]} -eq 0 ] || { _orgq_title; return 0; }
                 _orgq_paths .org
             fi
             ;;

@@ -35,6 +35,18 @@ function _orgq_listed
     orgq $argv[1] 2> /dev/null | tr '\000' '\001' | string match -rv '^-|[\x01-\x1f\x7f-\x{9f}]'
 end
 
+# The names of the views, with what each is for behind a tab, in which the program itself writes control characters so that they
+# can be seen.
+function _orgq_views
+    orgq --color always views 2> /dev/null | string replace -rf '^([a-z][a-z0-9-]*) +' '$1\t'
+end
+
+# The open headings of the files by their short ids, with their titles behind a tab, in which the program itself writes control
+# characters so that they can be seen.
+function _orgq_headings
+    orgq todo --format '{id} {title}' 2> /dev/null | string replace -rf '^([a-z2-9]{4,12}) ' '$1\t'
+end
+
 # Files and folders that begin as the word at the cursor, its quotes taken away.
 function _orgq_paths
     set -l token (commandline -ct)
@@ -123,7 +135,12 @@ function _orgq_offers
             printf '%s\n' month week $days $blocks
         case '*KEYWORD*'
             _orgq_listed keywords
-        case '*PLACE*' '*FILE*' '*PATH*' '*MORE*'
+        case '*NAME*'
+            _orgq_views
+        case '*PLACE*' '*MORE*'
+            _orgq_headings
+            _orgq_paths
+        case '*FILE*' '*PATH*'
             _orgq_paths
     end
 end

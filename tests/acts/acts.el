@@ -5,8 +5,9 @@
 ;;; Commentary:
 
 ;; emacs -Q --batch -l acts.el FOLDER
-;; does each act of FOLDER/acts to its file of FOLDER/files, at half past ten on 28 February 2024, with all logging off and tags
-;; where they are, and writes what Org leaves as FOLDER/emacs/CASE.org.  Where Org ends with an error, the error is written in its place.
+;; does each act of FOLDER/acts to its file of FOLDER/files, at half past ten on 28 February 2024, with all logging off, or as Org
+;; itself and the file have it where the act begins with `log-', and tags where they are.  It writes what Org leaves as
+;; FOLDER/emacs/CASE.org.  Where Org ends with an error, the error is written in its place.
 
 ;;; Code:
 
@@ -31,6 +32,7 @@
 ;; A shift of many steps asks whether to go on.
 (fset 'y-or-n-p #'always)
 (advice-add 'current-time :override (lambda () acts-moment))
+(advice-add 'format-time-string :filter-args (lambda (args) (list (car args) (or (cadr args) acts-moment) (nth 2 args))))
 (advice-add 'org-today :override (lambda () (time-to-days acts-moment)))
 (advice-add 'org-time-less-p :filter-args (lambda (times) (mapcar (lambda (time) (or time acts-moment)) times)))
 
@@ -56,17 +58,40 @@
     ("in" (org-clock-in nil acts-moment))
     ("out" (acts-take-up-the-clock) (org-clock-out nil nil acts-moment))
     ("cancel" (acts-take-up-the-clock) (org-clock-cancel))
-    ("done" (org-todo "DONE"))))
+    ("done" (ignore-errors (acts-take-up-the-clock)) (org-todo "DONE"))
+    ("log-set" (ignore-errors (acts-take-up-the-clock)) (org-todo date))
+    ("log-schedule" (acts-do "schedule" date))
+    ("log-deadline" (acts-do "deadline" date))))
 
-(defun acts-write (folder case file line act date)
-  "Write into FOLDER what is left of FILE for CASE, where ACT with DATE is done to the heading on LINE."
-  (let ((buffer (find-file-noselect (expand-file-name (concat "files/" file) folder))))
+(defun acts-log (was state note)
+  "Write what Org is about to log of a heading that was WAS and gets STATE, with NOTE, which is logged in any case."
+  (when (and (org-string-nw-p note) (not org-log-setup))
+    (save-excursion (org-back-to-heading t) (org-add-log-setup 'state state was 'note)))
+  (when org-log-setup
+    (when (org-string-nw-p note) (setq org-log-note-how 'note))
+    (org-add-log-note)
+    (when (eq org-log-note-how 'note)
+      (with-current-buffer "*Org Note*"
+        (goto-char (point-max))
+        (insert (string-replace "\\n" "\n" (or note "")))
+        (org-store-log-note)))))
+
+(defun acts-write (folder case file line act date &optional note)
+  "Write into FOLDER what is left of FILE for CASE, where ACT with DATE and NOTE is done to the heading on LINE."
+  (let* ((org-log-repeat (and (string-prefix-p "log-" act) 'time))
+         (buffer (find-file-noselect (expand-file-name (concat "files/" file) folder))))
     (with-current-buffer buffer
       (unwind-protect
-          (let ((problem nil))
+          (let ((problem nil)
+                (was nil))
             (goto-char (point-min))
             (forward-line (1- (string-to-number line)))
-            (condition-case err (acts-do act date) (error (setq problem err)))
+            (setq org-log-setup nil
+                  was (org-get-todo-state))
+            (condition-case err
+                (progn (acts-do act date)
+                       (when (string-prefix-p "log-" act) (acts-log was date note)))
+              (error (setq problem err)))
             (move-marker org-clock-marker nil)
             (move-marker org-clock-hd-marker nil)
             (when problem

@@ -26,16 +26,22 @@ KINDS = {
     "rest": "what stands behind a running clock is taken away when it ends",
     "again": "a heading that is done isn't done again",
     "none": "a heading without a keyword has none where its task comes again",
-    "last": "`LAST_REPEAT` is written where the entry has a clock",
-    "reopened": "`CLOSED:`, with what stands behind it, is taken away where a task comes again",
+    "reopened": "what stands behind `CLOSED:` is taken away with it",
     "once": "`SCHEDULED:` without a repeater is taken away where a deadline repeats",
     "month": "a day that its month lacks becomes one of the next month",
     "first": "a delay of two minus signs goes where the stamp shifts",
     "plain": "repeated stamps of the text shift as well",
     "each": "each of several stamps behind one keyword shifts",
     "comes": "a task comes again where any stamp of its entry repeats",
+    "sequence": "a task that comes again gets the first keyword of the sequence of its old one",
+    "quoted": "a task without a keyword that comes again with a note has `from \"\"`",
+    "top": "all headings inherit properties of a heading in a file's first line",
+    "block": "a drawer is made inside a block that shows one",
+    "shown": "a clock line in a block counts for nothing",
+    "empty": "empty `LOGBOOK` drawers of the heading and of those below it go where its clock ends",
+    "bottom": "under a last line without a line feed the log line comes before the planning line",
 }
-KINDS_OF_ACTS = {"schedule", "deadline", "in", "out", "done"}
+KINDS_OF_ACTS = {"schedule", "deadline", "in", "out", "done", "log-set", "log-schedule", "log-deadline"}
 STAMP = r"[<\[]\d{4}-\d\d-\d\d[^>\]\n]*[>\]]"
 PAIR = re.compile(r"(SCHEDULED|DEADLINE|CLOSED):[ \t]*(" + STAMP + "(?:--" + STAMP + ")?)")
 CLOCK = re.compile(r"[ \t]*CLOCK: \[")
@@ -164,22 +170,11 @@ def kinds_of_clock_in(org, own):
 
 def kinds_of_clock_out(org, own):
     cut = lambda line: re.sub(r"(CLOCK: \[[^]]*\]--\[[^]]*\] => +\d+:\d\d)[^\r]*", r"\1", line)
-    if org.lines != own.lines and [cut(line) for line in own.lines] == org.lines:
-        own.lines = org.lines
+    bare = [cut(line) for line in own.lines]
+    if org.lines != own.lines and bare != own.lines and set(bare) - set(own.lines) <= set(org.lines):
+        own.lines = bare
         return ["rest"]
     return []
-
-
-def without_last_repeat(lines):
-    """The lines without the property that Org writes where a task with clocks comes again, and without a drawer that it makes."""
-    kept = [line for line in lines if ":LAST_REPEAT:" not in line]
-    if len(kept) == len(lines):
-        return lines
-    for k in range(len(kept) - 1):
-        if (kept[k].strip(), kept[k + 1].strip()) == (":PROPERTIES:", ":END:"):
-            del kept[k : k + 2]
-            break
-    return kept
 
 
 def is_overflow(org, own):
@@ -192,10 +187,9 @@ def differing_completions(org, own):
     """The kinds by which the planning lines of a completed heading differ, or None."""
     kinds = []
     words = lambda line: {word for word, _ in line.pairs}
-    if "CLOSED" in words(own) - words(org):
+    if own.rest and not org.rest:
         kinds.append("reopened")
-        own.pairs = [pair for pair in own.pairs if pair[0] != "CLOSED"]
-        own.rest = own.rest if org.rest else ""
+        own.rest = ""
     gone = [stamp for word, stamp in own.pairs if word == "SCHEDULED" and "SCHEDULED" not in words(org)]
     if gone and not re.search(r"[.+]\+?\d+[hdwmy]", gone[0]):
         kinds.append("once")
@@ -224,18 +218,28 @@ def differing_completions(org, own):
     return kinds if (org.indent, org.rest, org.end) == (own.indent, own.rest, own.end) or not own.pairs else None
 
 
+def without_last_repeat(lines):
+    """The lines without the property `LAST_REPEAT`, and without a drawer that was made for it."""
+    kept = [line for line in lines if ":LAST_REPEAT:" not in line]
+    for k in range(len(kept) - 1):
+        if (kept[k].strip(), kept[k + 1].strip()) == (":PROPERTIES:", ":END:"):
+            del kept[k : k + 2]
+            break
+    return kept
+
+
 def kinds_of_done(before, org, own):
-    kinds = []
-    if org.lines == before.lines and re.match(r"\*+ DONE ", before.lines[0]):
+    if org.lines[0] == before.lines[0] and re.match(r"\*+ DONE ", before.lines[0]):
         own.lines = org.lines
         return ["again"]
+    kinds = kinds_of_clock_out(org, own)
+    if any(line.startswith("#+begin") for line in own.lines) and any("LAST_REPEAT" in line for line in own.lines) and not any("LAST_REPEAT" in line for line in org.lines):
+        kinds.append("shown")
+        own.lines = without_last_repeat(own.lines)
     is_done_once = own.lines[0] != before.lines[0] and re.match(r"\*+ +DONE ", own.lines[0]) and own.lines[1:] == before.lines[1:]
     if org.lines[0] == before.lines[0] and is_done_once and re.search(r"<[^>\n]* [.+]?\+\d+[hdwmy]", "\n".join(before.lines[1:])):
         own.lines = org.lines
         return ["comes"]
-    if without_last_repeat(org.lines) != org.lines:
-        kinds.append("last")
-        org.lines = without_last_repeat(org.lines)
     if org.lines[0] == before.lines[0] and not re.match(r"\*+ +(TODO|DONE) ", org.lines[0]) and own.lines[0] == re.sub(r"^(\*+ +)", r"\1TODO ", org.lines[0]):
         kinds.append("none")
         own.lines[0] = org.lines[0]
@@ -247,19 +251,106 @@ def kinds_of_done(before, org, own):
         kinds += more
         own.lines[1:2] = org.lines[1:2] if was_planning else []
     dated = lambda line: re.sub(r"<\d{4}-\d\d-\d\d \w+| --\d+[hdwmy]", "<", line).replace("<", "")
-    if org.lines[2:] != own.lines[2:] and own.lines[2:] == before.lines[2:] and [dated(a) for a in org.lines] == [dated(b) for b in own.lines]:
+    if org.lines[2:] != own.lines[2:] and [dated(a) for a in org.lines] == [dated(b) for b in own.lines]:
         kinds.append("plain")
         own.lines = org.lines
     return kinds
 
 
+def is_done(line):
+    return bool(re.match(r"\*+ +(DONE|CANCELED|Ö|VERYLONGDONEWORD) ", line))
+
+
+def kinds_of_set(word, before, org, own):
+    """The kinds by which two sections differ whose heading got a keyword, with what is logged of it, or None."""
+    if is_done(before.lines[0]) and is_done(f"* {word} ") and len(before.lines) > 1 and re.search(r"<[^>\n]* [.+]?\+\d+[hdwmy]", before.lines[1]):
+        own.lines = org.lines
+        return ["again"]
+    kinds = []
+    stripped = lambda lines: sorted(line.strip() for line in lines)
+    if len(before.lines) < 3 and not before.back and not before.ended and stripped(org.lines) == stripped(own.lines) and org.lines != own.lines:
+        own.lines = org.lines
+        return ["bottom"]
+    unquoted = [line.replace('from ""', "from   ") for line in org.lines]
+    if unquoted != org.lines and unquoted[1:] != own.lines[1:] and [line.replace('from ""', "from   ") for line in own.lines] == own.lines:
+        kinds.append("quoted")
+        org.lines = unquoted
+    elif unquoted != org.lines and own.lines[1:] == unquoted[1:]:
+        kinds.append("quoted")
+        org.lines = unquoted
+    if org.lines[0] != own.lines[0] and re.match(r"\*+ (A|TODO) ", org.lines[0]) and re.sub(r" (A|TODO) ", " ", org.lines[0], 1) == re.sub(r" (A|TODO) ", " ", own.lines[0], 1):
+        kinds.append("sequence")
+        own.lines[0] = org.lines[0]
+    if org.lines[0] != own.lines[0] and own.lines[0] == re.sub(r"^(\*+ +)", r"\1" + own.lines[0].split()[1] + " ", org.lines[0]):
+        kinds.append("none")
+        own.lines[0] = org.lines[0]
+    if org.lines[1:2] != own.lines[1:2] and all(len(entry.lines) > 1 and is_planning(entry.lines[1]) for entry in (org, own)):
+        more = differing_completions(Planning(org.lines[1]), Planning(own.lines[1]))
+        if more is None:
+            return None
+        kinds += more
+        own.lines[1] = org.lines[1]
+    return kinds if org.lines == own.lines else kinds + kinds_of_place(before, org, own)
+
+
+def kinds_of_place(before, org, own):
+    """The kinds by which two sections differ that have the same log lines, and the same other ones, in other places."""
+    is_drawer = lambda line: re.match(r":[A-Z]+:$", line)
+    plain = lambda lines: sorted(line.strip() for line in lines[1:] if line.strip() and not is_drawer(line.strip()))
+    if org.lines[0] != own.lines[0] or plain(org.lines) != plain(own.lines):
+        return []
+    first = (before.front + before.lines)[0]
+    if any("#+begin" in line for line in before.lines):
+        kinds = ["block"]
+    elif first.startswith("* ") and "LOG" in "".join(before.front[1:9]):
+        kinds = ["top"]
+    else:
+        return []
+    own.lines = org.lines
+    return kinds
+
+
+def without_empty_drawers(lines):
+    kept = []
+    for line in lines:
+        if line.strip() == ":END:" and kept and kept[-1].strip().lower() == ":logbook:":
+            kept.pop()
+        else:
+            kept.append(line)
+    return kept
+
+
+def kinds_of_log(act, date, before, org, own):
+    """The same where what Org logs is logged."""
+    kinds = []
+    if any(re.match(r"[ \t]*CLOCK: \[[^]]*\]\r?$", line) for line in before.lines):
+        bare = without_empty_drawers(own.back)
+        if bare != own.back and without_empty_drawers(org.back) == bare:
+            kinds.append("empty")
+            own.back = org.back
+    if act != "set" and any("#+begin" in line for line in before.lines) and org.lines[2:] != own.lines[2:]:
+        plain = lambda lines: sorted(line.strip() for line in lines[2:] if line.strip() and not re.match(r":[A-Z]+:$", line.strip()))
+        if plain(org.lines) == plain(own.lines):
+            kinds.append("block")
+            own.lines[2:] = org.lines[2:]
+    more = kinds_of(act, date, before, org, own)
+    return None if more is None else kinds + more
+
+
 def kinds_of(act, date, before, org, own):
     """The kinds by which two texts differ, or None where they differ otherwise."""
+    if act.startswith("log-"):
+        return kinds_of_log(act.removeprefix("log-"), date, before, org, own)
     keyword = {"schedule": "SCHEDULED", "deadline": "DEADLINE"}.get(act)
     kinds = []
     if org.ended != own.ended:
         kinds.append("end")
         own.ended = org.ended
+        for lines, others in ((own.back, org.back), (own.lines, org.lines)):
+            # A carriage return is of the line feed that one of them lacks.
+            if lines and others:
+                lines[-1] = lines[-1].rstrip("\r") + ("\r" if others[-1].endswith("\r") else "")
+                break
     if org.key() == own.key():
         return kinds
     if keyword and date == "none":
@@ -268,6 +359,8 @@ def kinds_of(act, date, before, org, own):
         more = kinds_of_date(keyword, date, org, own)
     elif act == "done":
         more = kinds_of_done(before, org, own)
+    elif act == "set":
+        more = kinds_of_set(date, before, org, own)
     else:
         more = {"in": kinds_of_clock_in, "out": kinds_of_clock_out}.get(act, lambda org, own: [])(org, own)
     return kinds + more if more is not None and org.key() == own.key() else None
@@ -286,8 +379,8 @@ def main():
     rows = read(manual)
     counts, found, errors, failed, passed = {}, {}, [], 0, 0
     for row in read(f"{folder}/acts").splitlines():
-        case, name, line, act, date = row.split("\t")
-        if not os.path.exists(f"{folder}/orgq/{case}.org"):
+        case, name, line, act, date = row.split("\t")[:5]
+        if not os.path.exists(f"{folder}/orgq/{case}.status"):
             continue
         before, org, own = (read(path) for path in (f"{folder}/files/{name}", f"{folder}/emacs/{case}.org", f"{folder}/orgq/{case}.org"))
         status = read(f"{folder}/orgq/{case}.status").strip()
@@ -298,7 +391,7 @@ def main():
         counts[act] = (same + (org == own), all_of + 1)
         is_refused = status == "2" and own == before and "would be read as something else" in read(f"{folder}/orgq/{case}.said")
         kinds = [] if org == own else kinds_of(act, date, *(Entry(text, int(line)) for text in (before, org, own)))
-        if is_refused and act in ("schedule", "deadline"):
+        if is_refused and act.removeprefix("log-") in ("schedule", "deadline"):
             kinds, status = ["refused"], "0"
         for kind in kinds or []:
             found[kind] = found.get(kind, 0) + 1

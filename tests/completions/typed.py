@@ -10,6 +10,7 @@ import os
 import pty
 import select
 import signal
+import subprocess
 import sys
 import time
 
@@ -22,7 +23,7 @@ passed, failed = 0, 0
 # The program of the shell's path: what a completion asks is answered by the true one, all else is noted.
 STUB = """#!/bin/sh
 case " $* " in
-    *" --help "* | " keywords " | " tags " | " check --only ? ") exec '{orgq}' "$@" ;;
+    *" --help "* | " keywords " | " tags " | *" views "* | " check --only ? " | " todo --format "*) exec '{orgq}' "$@" ;;
 esac
 printf '%s\\0' "$@" > '{record}.new' && mv '{record}.new' '{record}'
 """
@@ -190,6 +191,23 @@ tell("no minus among words", it.list("todo ", "DONE") and b"-Z" not in it.said a
 write("#+CATEGORY: Z`touch${IFS}canary`\n* Z$(touch canary) :Z:\n")
 attempt("a category", "agenda --category Z", ["agenda", "--category", "Z"])
 attempt("an expression", "match Z", ["match", "Z"])
+
+# Where a heading is named, short ids of open headings are offered with their titles: of one the id is put on the line, and of several
+# the titles are written, and not raw.
+def id_of(place):
+    """The short id of an open heading of the words' file, by its place among them."""
+    said = subprocess.run([orgq, "-f", words, "todo", "--format", "{id}"], capture_output=True, check=False)
+    return said.stdout.decode().split("\n")[place]
+
+
+for word in RUN + ODD + RAW + ["a\x1b]0;own\x07b $(touch canary)"]:
+    write("* TODO Z%s\n" % word)
+    for command in ["done", "set", "schedule", "deadline", "clock in"]:
+        if word in (RUN[0], RAW[0]) or command == "done":
+            attempt("a heading Z%s, %s" % (word, command), command + " ", [*command.split(), id_of(0)])
+    write("* TODO Z%s\n* TODO ZEND\n* TODO Z%s two\n" % (word, word))
+    tell("a list of headings with %r" % word, it.list("done ", "ZEND" if shell != "bash" else id_of(1)) and not is_raw(it.said), it.said)
+    tell("a list of headings with %r: something was run" % word, not os.listdir(room), os.listdir(room))
 
 # What the command line itself holds isn't run either.
 write("#+TODO: TODO Z | DONE\n* a\n")

@@ -9,13 +9,13 @@ DEADLINE: <2024-02-26 Mon>
 * TODO Water the plants
 SCHEDULED: <2024-02-28 Wed +3d>
 * TODO Tax return :money:
-DEADLINE: <2024-03-08 Fri>
+SCHEDULED: <2024-02-28 Wed> DEADLINE: <2024-03-08 Fri>
 * Concert at the town hall <2024-03-01 Fri 19:30>
 END
 cat > work.org <<'END'
 #+TODO: TODO NEXT WAIT | DONE
 * Stand-up
-<2024-02-26 Mon 09:15-09:30 +1w>
+<2024-02-26 Mon 09:15-09:30 +1d>
 * Interview: Ana <2024-02-28 Wed 11:00-12:00>
 * Fair in Utrecht
 <2024-03-06 Wed>--<2024-03-08 Fri>

@@ -41,6 +41,11 @@ function! orgq#next(is_local, words) abort
   call s:ask(a:is_local, ['next'] + (empty(a:words) ? [] : ['-d'] + a:words))
 endfunction
 
+" What the view {name} of the configuration folder shows.
+function! orgq#view(is_local, name) abort
+  call s:ask(a:is_local, ['view', a:name])
+endfunction
+
 " What looks planned and will not show. {words} holds options of the command and files, % and # among them.
 function! orgq#check(is_local, words) abort
   call s:ask(a:is_local, ['check'] + map(copy(a:words), 'v:val =~# "^[%#~]" ? expand(v:val) : v:val'))
@@ -185,11 +190,16 @@ function! s:list(is_local, what) abort
   return a:is_local ? getloclist(0, a:what) : getqflist(a:what)
 endfunction
 
-" An item for each row, and before the rows of a day, or of a step of a table, one without a place that names it.
+" An item for each row, and before the rows of a day, or of a step of a table, one without a place that names it; before the rows
+" of each command of a view one with its title.
 function! s:items(rows) abort
   let items = []
-  let head = ''
+  let [title, head] = ['', '']
   for row in a:rows
+    if get(row, 'block', title) !=# title
+      let [title, head] = [row.block, '']
+      call add(items, {'text': '── ' . title . ' ──', 'valid': 0})
+    endif
     let own = s:head_line(row)
     if own !=# head && own !=# ''
       let head = own
@@ -323,6 +333,12 @@ function! orgq#complete_clock(lead, line, at) abort
     return orgq#complete_match(a:lead, a:line, a:at)
   endif
   return s:beginning(a:lead, words)
+endfunction
+
+" The names of views.
+function! orgq#complete_view(lead, line, at) abort
+  let answer = s:run(s:command([]) + ['views'])
+  return s:beginning(a:lead, filter(map(answer.output, 'matchstr(v:val, "^[a-z][a-z0-9-]*\\ze ")'), 'v:val !=# ""'))
 endfunction
 
 " Files, options, and kinds of findings with commas between.

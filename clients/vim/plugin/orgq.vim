@@ -10,6 +10,7 @@ let g:loaded_orgq = 1
 command! -bang -bar -nargs=* -complete=customlist,orgq#complete_agenda OrgqAgenda call orgq#agenda(<bang>0, [<f-args>])
 command! -bang -bar -nargs=* -complete=customlist,orgq#complete_todo OrgqTodo call orgq#todo(<bang>0, [<f-args>])
 command! -bang -bar -nargs=* -complete=customlist,orgq#complete_next OrgqNext call orgq#next(<bang>0, [<f-args>])
+command! -bang -bar -nargs=1 -complete=customlist,orgq#complete_view OrgqView call orgq#view(<bang>0, <q-args>)
 command! -bang -bar -nargs=* -complete=customlist,orgq#complete_check OrgqCheck call orgq#check(<bang>0, [<f-args>])
 " An expression may hold a bar and quotation marks, so these two take the rest of the line.
 command! -bang -nargs=1 -complete=customlist,orgq#complete_match OrgqMatch call orgq#match(<bang>0, <q-args>)

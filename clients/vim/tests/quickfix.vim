@@ -158,6 +158,21 @@ silent OrgqNext 7
 call s:equal('next', getqflist({'title': 1}).title, 'orgq next -d 7')
 call s:lead_to_their_lines('next')
 
+" Views -----------------------------------------------------------------------------------------------------------------------
+
+let $XDG_CONFIG_HOME = s:folder . '/config'
+call mkdir(s:folder . '/config/orgq', 'p')
+call s:write('config/orgq/views', ['[morning]', 'show = todo NEXT --title Next', 'show = agenda tomorrow', '', '[calls]', 'show = match nosuch'])
+silent OrgqView morning
+call s:equal('titles stand above rows', map(filter(getqflist(), '!v:val.valid'), 'v:val.text')[0], '── Next ──')
+call s:check('rows lead to their headings', !empty(filter(getqflist(), 'v:val.valid && bufname(v:val.bufnr) =~# "my notes.org$"')))
+call s:equal('the title of the list', getqflist({'title': 1}).title, 'orgq view morning')
+call s:equal('names of views', orgq#complete_view('m', 'OrgqView m', 10), ['morning'])
+call s:check('no row of a view', s:said('OrgqView calls') =~# 'no row')
+call s:check('a view that there is not', s:said('OrgqView evening') =~# 'no view has this name; there are morning, calls')
+cclose
+unlet $XDG_CONFIG_HOME
+
 " What will not show ----------------------------------------------------------------------------------------------------------
 
 " Place, type and kind of each item.

@@ -1,18 +1,20 @@
 -- A heading that is added to a text, among its sections.
-use Rattle.std.proofs.Common.{◌≡◌, ◌⊎◌, ◌∙◌, ℕ, zero, suc, ◌+◌, ◌-◌, ◌<◌, ◌≤◌, true, false, ◌==◌, ◌&&◌, inl, inr, List, [], ◌∷◌, ◌++◌, length, take, drop, get_or, refl, sym, ap, subst, arith, length-drop, length-take, append_assoc, append-nil}
+use Rattle.std.proofs.Common.{◌≡◌, ◌⊎◌, ◌∙◌, ℕ, Bool, zero, suc, ◌+◌, ◌-◌, ◌<◌, ◌≤◌, true, false, ◌==◌, ◌&&◌, inl, inr, List, [], ◌∷◌, ◌++◌, length, take, drop, get_or, refl, sym, ap, subst, arith, length-drop, length-take, append_assoc, append-nil}
 use Rattle.std.specs.Prelude.{Option, Some, None, Result, Ok, Err, if◌then◌else◌, nat_le, slice_index}
-use Rattle.std.specs.List.{flat_map}
+use Rattle.std.specs.List.{concat, flat_map}
 use Rattle.std.proofs.lemmas.Bool.{and_parts, cases_Bool, eqb-true}
+use Rattle.std.proofs.lemmas.Bool.Decides.{nat_tests}
 use Rattle.std.proofs.lemmas.List.{drop-drop, take-append-drop}
+use Rattle.std.proofs.Math.Seq.{take-add}
 use Rattle.org_act.specs.Adding.{added_at, added_in, added_text, at_level, break_of, end_below, gap_behind, last_spot, spot_at, spot_below, spot_of, with_entry}
-use Rattle.org_act.specs.AddingLaws.{HeadingsAreAdded, IsAdded}
+use Rattle.org_act.specs.AddingLaws.{AreDeeper, EndsBelow, HeadingsAreAdded, IsAdded, IsLastBelow, IsPlace}
 use Rattle.org_act.specs.Lines.{first_line, has_feed, heading_at, subtree_end}
 use Rattle.org_act.specs.PlanningLaws.{IsGap}
 use Rattle.org_act.specs.declared.addition.Addition.{Addition}
 use Rattle.org_act.specs.declared.addition.Spot.{Spot}
 use Rattle.org_act.proofs.LineLemmas.{parts}
 use Rattle.org_act.proofs.PlanLemmas.{sized_is}
-use Rattle.org_act.proofs.PlanningLemmas.{heading_there, if_sized_is, some_or_none}
+use Rattle.org_act.proofs.PlanningLemmas.{heading_there, if_sized_is, some_or_none, split}
 use Rattle.org_amend.specs.Entries.{entry_text}
 use Rattle.org_amend.specs.EntryLaws.{IsDateOrNone}
 use Rattle.org_amend.specs.declared.head.Unreadable.{Unreadable}
@@ -48,12 +50,32 @@ first_headed text h = by (lines text) refl h
     by [] e h = absurd (let wrong : false ≡ true = h in cc)
     by (l ∷ ls) e h = sym (first_line_headed text) ∙ (ap is_headed e ∙ h)
 
--- where a subtree ends the text ends, or a heading begins
+-- where a subtree ends the text ends, or a heading begins that is no deeper; all before it are
 
-pub record IsEnd (at : ℕ) (text : List ℕ) (k : ℕ) : Type 0 where
+pub record IsEnd (level at : ℕ) (text : List ℕ) (k : ℕ) : Type 0 where
   pub from : at ≤ k
   pub within : k - at ≤ length text
   pub cut : (drop (k - at) text ≡ []) ⊎ (begins_heading (drop (k - at) text) ≡ true)
+  pub between : List (List ℕ)
+  pub lines_are : lines text ≡ between ++ lines (drop (k - at) text)
+  pub bytes_are : concat between ≡ take (k - at) text
+  pub deeper : AreDeeper level between
+  pub ends : EndsBelow level (drop (k - at) text)
+
+no_deeper : (s level : ℕ) → nat_le s level ≡ true → s ≤ level
+no_deeper s level le = grind (arith, nat_tests)
+
+deeper : (s level : ℕ) → nat_le s level ≡ false → level < s
+deeper s level other = grind (arith, nat_tests)
+
+is_deeper : (b : Bool) (s level : ℕ) → (b && nat_le s level) ≡ false → b ≡ true → level < s
+is_deeper true s level other is = deeper s level other
+is_deeper false s level other is = absurd (let wrong : false ≡ true = is in cc)
+
+-- the first line of a text is its front
+front_line : (text : List ℕ) → take (length (first_line text)) text ≡ first_line text
+front_line text =
+    ap (λ t. take (length (first_line text)) t) (split text) ∙ take_front (first_line text) (drop (length (first_line text)) text)
 
 end_none : (level at : ℕ) (text : List ℕ) → text ≡ [] → subtree_end level at (lines text) ≡ at
 unfolding subtree_end
@@ -68,13 +90,22 @@ moved : (a b : List ℕ) → a ≡ b → (a ≡ []) ⊎ (begins_heading a ≡ tr
 moved a b same (inl none) = inl (sym same ∙ none)
 moved a b same (inr begins) = inr (subst (λ (t : List ℕ). begins_heading t ≡ true) same begins)
 
-end_empty : (level at : ℕ) (text : List ℕ) → text ≡ [] → IsEnd at text (subtree_end level at (lines text))
+end_empty : (level at : ℕ) (text : List ℕ) → text ≡ [] → IsEnd level at text (subtree_end level at (lines text))
 end_empty level at text none =
     let e = end_none level at text none in
     let zero' : at - at ≡ 0 = omega arith in
-    subst (IsEnd at text) (sym e) (record { from = omega arith; within = omega arith; cut = inl (ap (λ j. drop j text) zero' ∙ none) })
+    subst (IsEnd level at text) (sym e) (record {
+      from = omega arith;
+      within = omega arith;
+      cut = inl (ap (λ j. drop j text) zero' ∙ none);
+      between = [];
+      lines_are = sym (ap (λ j. lines (drop j text)) zero');
+      bytes_are = sym (ap (λ j. take j text) zero');
+      deeper = tt;
+      ends = inl (ap (λ j. drop j text) zero' ∙ none);
+    })
 
-end_by : (m level at : ℕ) (text : List ℕ) → length text ≤ m → IsEnd at text (subtree_end level at (lines text))
+end_by : (m level at : ℕ) (text : List ℕ) → length text ≤ m → IsEnd level at text (subtree_end level at (lines text))
 end_by zero level at text few = elim (some_or_none text) [
   | inl none ↦ end_empty level at text none
   | inr some ↦ absurd (omega (arith, few, some))
@@ -91,7 +122,16 @@ end_by (suc m) level at text few = elim (some_or_none text) [
             let e : subtree_end level at (lines text) ≡ at = step ∙ (rw here refl) in
             let both = and_parts (begins_heading h) (nat_le (stars h) level) here in
             let none : at - at ≡ 0 = omega arith in
-            subst (IsEnd at text) (sym e) (record { from = omega arith; within = omega arith; cut = inr (subst (λ j. begins_heading (drop j text) ≡ true) (sym none) (first_headed text both.0)) })
+            subst (IsEnd level at text) (sym e) (record {
+              from = omega arith;
+              within = omega arith;
+              cut = inr (subst (λ j. begins_heading (drop j text) ≡ true) (sym none) (first_headed text both.0));
+              between = [];
+              lines_are = sym (ap (λ j. lines (drop j text)) none);
+              bytes_are = sym (ap (λ j. take j text) none);
+              deeper = tt;
+              ends = subst (λ j. EndsBelow level (drop j text)) (sym none) (inr (both.0, no_deeper (stars h) level both.1));
+            })
         | inr there ↦
             let k = subtree_end level (at + length h) (lines rest) in
             let e : subtree_end level at (lines text) ≡ k = step ∙ (rw there refl) in
@@ -99,10 +139,18 @@ end_by (suc m) level at text few = elim (some_or_none text) [
             let next = end_by m level (at + length h) rest (omega (arith, size, few, p.some)) in
             let sum : length h + (k - (at + length h)) ≡ k - at = omega (arith, next.from) in
             let same : drop (k - (at + length h)) rest ≡ drop (k - at) text = drop-drop (k - (at + length h)) (length h) text ∙ ap (λ j. drop j text) sum in
-            subst (IsEnd at text) (sym e) (record {
+            subst (IsEnd level at text) (sym e) (record {
               from = omega (arith, next.from);
               within = omega (arith, next.within, size, next.from, p.within);
               cut = moved (drop (k - (at + length h)) rest) (drop (k - at) text) same next.cut;
+              between = h ∷ next.between;
+              lines_are = p.lines_are ∙ (ap (λ ls. h ∷ ls) next.lines_are ∙ ap (λ t. h ∷ (next.between ++ lines t)) same);
+              bytes_are =
+                  ap (λ front. front ++ concat next.between) (sym (front_line text))
+                  ∙ (ap (λ bs. take (length h) text ++ bs) next.bytes_are
+                  ∙ (sym (take-add (length h) (k - (at + length h)) text) ∙ ap (λ n. take n text) sum));
+              deeper = (is_deeper (begins_heading h) (stars h) level there, next.deeper);
+              ends = subst (EndsBelow level) same next.ends;
             })
       ]
 ]
@@ -183,11 +231,64 @@ gap_line (b ∷ bs) = elim (cases_Bool (has_feed (b ∷ bs))) [
   | inr other ↦ inr (without_feed b bs other)
 ]
 
--- a heading that is below none stands behind all
-behind_all : (text : List ℕ) (under : Option ℕ) (spot : Spot) → spot_of text under ≡ Some spot → under ≡ None → drop spot.at text ≡ []
+-- the place is behind all, or behind all that is below a heading
+
+headed_some : (text : List ℕ) → begins_heading (first_line text) ≡ true → 0 < length text
+headed_some text begins = elim (some_or_none text) [
+  | inl none ↦ absurd (let wrong : false ≡ true = subst (λ (t : List ℕ). begins_heading (first_line t) ≡ true) none begins in cc)
+  | inr some ↦ some
+]
+
+last_below : (text : List ℕ) (line at : ℕ) → heading_at text line ≡ Some at →
+    IsLastBelow text (take (end_below text (first_line (drop at text)) at) text) (drop (end_below text (first_line (drop at text)) at) text) (stars (first_line (drop at text)) + 1) line
+last_below text line at place =
+    let there = heading_there text line at place in
+    let tail = drop at text in
+    let h = first_line tail in
+    let from = at + length h in
+    let rest = drop from text in
+    let e = end_by (length rest) (stars h) from rest (omega arith) in
+    let k = subtree_end (stars h) from (lines rest) in
+    let j = k - from in
+    let sum : from + j ≡ k = omega (arith, e.from) in
+    let whole : at + (length h + j) ≡ k = omega (arith, e.from) in
+    let same : drop j rest ≡ drop k text = drop-drop j from text ∙ ap (λ n. drop n text) sum in
+    let behind : drop (length h) tail ≡ rest = drop-drop (length h) at text in
+    let front : length (take at text) ≡ at = omega (arith, length-take at text, there.0) in
+    record {
+      before = take at text;
+      heading = h;
+      below = e.between;
+      heading_is = place ∙ ap Some (sym front);
+      begins = there.1;
+      front_is =
+          ap (λ n. take n text) (sym whole)
+          ∙ (take-add at (length h + j) text
+          ∙ ap (λ bs. take at text ++ bs) (take-add (length h) j tail
+          ∙ (ap (λ bs. bs ++ take j (drop (length h) tail)) (front_line tail)
+          ∙ ap (λ bs. h ++ bs) (ap (take j) behind ∙ sym e.bytes_are))));
+      lines_are =
+          ap (λ n. lines (drop n text)) front
+          ∙ ((parts tail (headed_some tail there.1)).lines_are
+          ∙ (ap (λ t. h ∷ lines t) behind
+          ∙ (ap (λ ls. h ∷ ls) e.lines_are ∙ ap (λ t. h ∷ (e.between ++ lines t)) same)));
+      deeper = e.deeper;
+      ends = subst (EndsBelow (stars h)) same e.ends;
+      level_is = refl;
+    }
+
+place_there : (text : List ℕ) (under : Option ℕ) (spot : Spot) → spot_of text under ≡ Some spot → IsPlace text (take spot.at text) (drop spot.at text) spot.level under
 unfolding spot_of
-behind_all text None spot e none = (let same : last_spot text ≡ spot = cc in subst (λ (s : Spot). drop s.at text ≡ []) same (all_dropped text))
-behind_all text (Some line) spot e none = absurd cc
+place_there text None spot e =
+    let same : last_spot text ≡ spot = cc in
+    subst (λ (s : Spot). IsPlace text (take s.at text) (drop s.at text) s.level None) same (all_dropped text, refl)
+place_there text (Some line) spot e = by (heading_at text line) refl e
+  where
+    by : (found : Option ℕ) → heading_at text line ≡ found → spot_at text found ≡ Some spot → IsPlace text (take spot.at text) (drop spot.at text) spot.level (Some line)
+    by None place made = absurd cc
+    by (Some at) place made =
+        let same : spot_below text (first_line (drop at text)) at ≡ spot = cc in
+        subst (λ (s : Spot). IsPlace text (take s.at text) (drop s.at text) s.level (Some line)) same (last_below text line at place)
 
 cut_before : (front own back : List ℕ) → begins_heading own ≡ true → has_feed own ≡ true → is_cut (front ++ gap_behind front) (own ++ back) ≡ true
 cut_before front [] back begins ends = absurd (let wrong : false ≡ true = begins in cc)
@@ -237,9 +338,8 @@ added_is a text new own spot s d place written is =
       own = own;
       back = back;
       level = spot.level;
-      place = place ∙ ap (λ k. Some (record { at = k; level = spot.level })) (sym size);
-      last = behind_all text a.under spot place;
       text_is = text_is;
+      place = place_there text a.under spot place;
       gap_is = gap_line front;
       new_is = new_is;
       read = read;

@@ -2,6 +2,7 @@ pub mod ActLemmas
 pub mod AddingLemmas
 pub mod AmendLemmas
 pub mod BetweenLemmas
+pub mod ClockBeginLemmas
 pub mod ClockCancelLemmas
 pub mod ClockEntryLemmas
 pub mod ClockMinuteLemmas

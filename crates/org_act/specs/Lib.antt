@@ -2,6 +2,7 @@ pub mod Adding
 pub mod AddingLaws
 pub mod Amending
 pub mod Changes
+pub mod ClockBegins
 pub mod ClockEntries
 pub mod ClockParts
 pub mod ClockSections
@@ -10,10 +11,12 @@ pub mod ClockTexts
 pub mod Clocking
 pub mod Completing
 pub mod Examples
+pub mod Kept
 pub mod Laws
 pub mod Lines
 pub mod Moved
 pub mod Planning
 pub mod PlanningLaws
 pub mod TakingBack
+pub mod Rewriting
 pub mod Several

@@ -65,7 +65,7 @@ fn text_in_turn<A: HeadingAct>(
 }
 
 // The text that an act on the heading of a line makes of another.
-fn text_after<A: HeadingAct>(
+pub(crate) fn text_after<A: HeadingAct>(
     alloc: Global,
     text: &str,
     act: &A,

@@ -42,7 +42,7 @@ impl<'a> Act for Addition<'a> {
 }
 
 // Where a heading goes, and its level.
-#[derive(Clone, Copy, Debug)]
+#[derive(Clone, Copy)]
 struct Spot {
     at: usize,
     level: usize,

@@ -40,6 +40,16 @@ pub struct Completion<'a> {
     pub behind: &'a str,
 }
 
+impl<'a> Completion<'a> {
+    // The word by which the heading on a line of a text is completed.
+    pub(crate) fn word_on(&self, alloc: Global, text: &str, line: u64) -> Result<String, Refusal> {
+        match file_of(alloc, text, self.behind) {
+            Ok(mut file) => chosen_word(alloc, &mut file, line, self.keyword),
+            Err(fault) => Err(Refusal::Fault(fault)),
+        }
+    }
+}
+
 impl<'a> Act for Completion<'a> {
     ghost use Rattle.org_act.specs.Completing.{completed_text};
 

@@ -1,5 +1,6 @@
 //! Laws of the definitions. Each is a function without parameters whose contract is the law.
 ghost use Rattle.org_act.specs.AddingLaws.{HeadingsAreAdded};
+ghost use Rattle.org_act.specs.ClockBegins.{ActsBeginOneClock};
 ghost use Rattle.org_act.specs.ClockEntries.{OneClockCloses, OneClockGoes};
 ghost use Rattle.org_act.specs.ClockSums.{OwnMinutesGrow, SumsGrowAbove};
 ghost use Rattle.org_act.specs.ClockTexts.{ActsAddMinutes, ActsCancelOneClock, ActsEndOneClock};
@@ -31,8 +32,8 @@ pub fn headings_are_planned()
     ensures { HeadingsArePlanned }
 {}
 
-/// A heading that is added stands at its place and is read as what was asked for; all other bytes, sections and setting lines
-/// stay.
+/// A heading that is added stands behind all others, or behind all that is below the one that is named, and is read as what was
+/// asked for; all other bytes, sections and setting lines stay.
 pub fn headings_are_added()
     ensures { HeadingsAreAdded }
 {}
@@ -62,6 +63,12 @@ pub fn own_minutes_grow()
 /// sum changes.
 pub fn sums_grow_above()
     ensures { SumsGrowAbove }
+{}
+
+/// Where a clock begins in a text, none ran in its heading's section, and there stand now the lines of one that runs; all other
+/// bytes stay.
+pub fn acts_begin_one_clock()
+    ensures { ActsBeginOneClock }
 {}
 
 /// Where a clock ends in a text, only its heading's section changes, and of it only the clock's line.

@@ -72,7 +72,7 @@ fn plan_at(alloc: Global, text: &[u8], act: &Planning, at: usize) -> Result<Owne
 }
 
 // What is put in the place of so many bytes.
-#[derive(Debug, Drop)]
+#[derive(Drop)]
 struct Put {
     deleted: usize,
     inserted: String,

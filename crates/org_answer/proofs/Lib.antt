@@ -1,6 +1,8 @@
+pub mod ArrangedLemmas
 pub mod AheadLemmas
 pub mod AskedLemmas
 pub mod IcalLemmas
+pub mod IdLemmas
 pub mod LimitLemmas
 pub mod PaintedLemmas
 pub mod PictureLemmas

@@ -6,9 +6,10 @@ use Rattle.org_visible.specs.Visible.{visible}
 use Rattle.org_visible.specs.declared.visible.Escape.TheVariants.{Caret}
 use Rattle.org_visible.proofs.CleanLemmas.{clean_append, clean_byte, clean_front, visible_is_clean}
 use Rattle.org_client.proofs.JsonLemmas.{decimal_clean}
-use Rattle.org_answer.specs.Shown.{AddsClean, AreCleanLines, no_line, one_more, IsCleanLine, IsColor, color, color_of, number_text, shown_line, shown_text}
+use Rattle.org_answer.specs.Shown.{AddsClean, AreCleanLines, no_line, one_more, IsCleanLine, IsColor, color, color_of, number_text, shown_line, shown_text, title_in}
 use Rattle.org_answer.specs.declared.show.PrintOptions.{PrintOptions}
 use Rattle.org_layout.specs.declared.shown.Line.{Line}
+use Rattle.org_layout.specs.declared.shown.Line.TheVariants.{Day}
 
 ours : (look : PrintOptions) (is_due : Bool) (line : Line) → IsColor (color look is_due line)
 ours look is_due line = by look.is_colored
@@ -37,6 +38,9 @@ no_lines = no_line
 
 pub keeps_text : (look : PrintOptions) (is_due : Bool) (line : Line) (text old new : List ℕ) → look.is_seen ≡ true → new ≡ old ++ shown_line (color look is_due line) look.is_seen text → AreCleanLines old → AreCleanLines new
 keeps_text look is_due line text old new on added = more old (shown_line (color look is_due line) look.is_seen text) new (fronted look is_due line [] text look.is_seen on refl) added
+
+pub keeps_title : (look : PrintOptions) (title old new : List ℕ) → look.is_seen ≡ true → new ≡ old ++ title_in look title → AreCleanLines old → AreCleanLines new
+keeps_title look title old new on added = keeps_text look false (Day 1) title old new on added
 
 pub keeps_placed : (look : PrintOptions) (is_due : Bool) (line : Line) (text old between new : List ℕ) → look.is_seen ≡ true → AddsClean old between → new ≡ between ++ shown_line (color look is_due line) look.is_seen text →
     AreCleanLines old → AreCleanLines new

@@ -1,7 +1,7 @@
 -- What answers a question (profile).
 use Rattle.std.specs.Prelude.{◌≡◌, ℕ, Bool, List, Option, Result, Ok, Err, IfOk, chars, string_bytes}
 use Rattle.std.specs.List.{list_any}
-use Rattle.org_agenda.specs.Lists.{Matching, todo_listing}
+use Rattle.org_agenda.specs.Lists.{todo_listing}
 use Rattle.org_base.specs.Results.{Gives}
 use Rattle.org_base.specs.declared.fault.Fault.{Fault}
 use Rattle.org_cal.specs.Periods.{days_of}
@@ -13,10 +13,9 @@ use Rattle.org_expression.specs.Grammar.{Expr, Reads}
 use Rattle.org_inherit.specs.Scope.{Scope}
 use Rattle.org_layout.specs.Shown.{lines_of}
 use Rattle.org_answer.specs.Ahead.{ShowsNext, ShowsRows}
-use Rattle.org_answer.specs.Chosen.{ShowsDays, over_chosen}
+use Rattle.org_answer.specs.Chosen.{ShowsChosen, ShowsDays, ShowsMatches, over_chosen}
 use Rattle.org_answer.specs.Limits.{is_row}
 use Rattle.org_answer.specs.Tables.{ShowsTable}
-use Rattle.org_answer.specs.Views.{ShowsListing}
 use Rattle.org_answer.specs.declared.query.ClockQuery.{ClockQuery}
 use Rattle.org_answer.specs.declared.query.Query.{Query}
 use Rattle.org_answer.specs.declared.query.Query.TheVariants.{Agenda, Calendar, Clock, Hours, Ical, Match, Next, Since, Todo}
@@ -29,11 +28,11 @@ use Rattle.org_answer.specs.declared.view.Days.{Days}
 abbrev pub chosen_of : Question → Chosen
 chosen_of q = record { as_of = record { profile = q.profile; today = q.moment.day }; expressions = q.expressions; moment = q.moment }
 
--- the headings at a moment of which the expression holds that a text spells
-abbrev pub AnswersMatch : Result Answer Fault → List Scope → List ℕ → Moment → Type 0
-AnswersMatch (Err fault) scopes text now = Unit {0}
-AnswersMatch (Ok answer) scopes text now =
-    (expression : Expr) × Reads (chars text) expression × ShowsListing {E = Fault} (Ok answer) scopes (Matching expression now)
+-- of the headings that are chosen those of which the expression holds that a text spells
+abbrev pub AnswersMatch : Result Answer Fault → List Scope → List ℕ → Chosen → Type 0
+AnswersMatch (Err fault) scopes text chosen = Unit {0}
+AnswersMatch (Ok answer) scopes text chosen =
+    (expression : Expr) × Reads (chars text) expression × ShowsMatches {E = Fault} (Ok answer) scopes chosen expression
 
 -- the tables that options ask for, over days
 abbrev pub AnswersTable : Result Answer Fault → List Scope → List ℕ → ℕ × ℕ → Moment → Type 0
@@ -58,8 +57,8 @@ AnswersQuery result scopes q (Agenda days) = ShowsDays result scopes (chosen_of 
 AnswersQuery result scopes q (Calendar calendar) = ShowsDays result scopes (chosen_of q) calendar.days.first calendar.days.count
 AnswersQuery result scopes q (Hours days canvas) = ShowsDays result scopes (chosen_of q) days.first days.count
 AnswersQuery result scopes q (Ical asked) = ShowsDays result scopes (chosen_of q) asked.days.first asked.days.count
-AnswersQuery result scopes q (Todo words) = ShowsListing result scopes (todo_listing words)
-AnswersQuery result scopes q (Match expression) = AnswersMatch result scopes expression.now q.moment
+AnswersQuery result scopes q (Todo words) = ShowsChosen result scopes (chosen_of q) (todo_listing words)
+AnswersQuery result scopes q (Match expression) = AnswersMatch result scopes expression.now (chosen_of q)
 AnswersQuery result scopes q (Clock query) = AnswersClock result scopes query q.moment
 AnswersQuery result scopes q (Next days within) = AnswersNext result scopes (chosen_of q) days within
 AnswersQuery result scopes q (Since window days) = AnswersSince result scopes (chosen_of q) days window

@@ -1,11 +1,14 @@
--- Which stamps agendas look at (profile).
+-- Which headings answers are of, and which stamps agendas look at (profile).
 use Rattle.std.specs.Prelude.{ℕ, List, Result}
 use Rattle.org_agenda.specs.Days.{AgendaView, agenda_of}
 use Rattle.org_agenda.specs.Sources.{sources_of}
 use Rattle.org_agenda.specs.declared.source.HeadingStamp.{HeadingStamp}
-use Rattle.org_client.specs.Matching.{matching}
+use Rattle.org_agenda.specs.Lists.{Listing, Matching, list_rows}
+use Rattle.org_agenda.specs.declared.row.Row.{Row}
+use Rattle.org_client.specs.Matching.{all_meeting, matching}
+use Rattle.org_expression.specs.Grammar.{Expr}
 use Rattle.org_inherit.specs.Scope.{Scope}
-use Rattle.org_answer.specs.Views.{ShowsAgenda}
+use Rattle.org_answer.specs.Views.{ShowsAgenda, ShowsList}
 use Rattle.org_answer.specs.declared.view.Answer.{Answer}
 use Rattle.org_answer.specs.declared.view.Chosen.{Chosen}
 
@@ -20,3 +23,15 @@ over_chosen chosen scopes first count = agenda_of chosen.as_of.profile (chosen_s
 -- that agenda, shown
 abbrev pub ShowsDays : {E : Type 0} → Result Answer E → List Scope → Chosen → ℕ → ℕ → Type 0
 ShowsDays result scopes chosen first count = ShowsAgenda result (over_chosen chosen scopes first count)
+
+-- the rows whose headings meet the expressions
+abbrev pub chosen_rows : Chosen → List Scope → List Row → List Row
+chosen_rows chosen scopes rows = all_meeting chosen.expressions.now chosen.moment scopes rows
+
+-- those of the list of all files, shown
+abbrev pub ShowsChosen : {E : Type 0} → Result Answer E → List Scope → Chosen → Listing → Type 0
+ShowsChosen result scopes chosen listing = ShowsList result (chosen_rows chosen scopes (list_rows listing scopes))
+
+-- of the headings that are chosen those of which an expression holds
+abbrev pub ShowsMatches : {E : Type 0} → Result Answer E → List Scope → Chosen → Expr → Type 0
+ShowsMatches result scopes chosen expression = ShowsChosen result scopes chosen (Matching expression chosen.moment)

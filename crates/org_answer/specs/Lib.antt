@@ -1,5 +1,6 @@
 pub mod Ahead
 pub mod Asked
+pub mod Arranged
 pub mod Chosen
 pub mod Examples
 pub mod Ical

@@ -45,13 +45,17 @@ shown_line color is_seen text = color ++ shown_text is_seen text ++ (if length c
 abbrev pub line_in : PrintOptions → LineOfAnswer → List ℕ
 line_in look shown = shown_line (color look shown.is_due shown.line.now) look.is_seen shown.text.now
 
--- the text of a view is printed as it stands: without colours, into a pipe, and whole
-abbrev pub is_bare_form : Form → Bool → Bool → Option ℕ → Bool
-is_bare_form Plain colored seen limit = not colored && not seen && is_none limit
-is_bare_form _ colored seen limit = false
+-- the text of a view is printed as it stands: without ids and colours, into a pipe, and whole
+abbrev pub is_bare_form : Form → Bool → Bool → Bool → Option ℕ → Bool
+is_bare_form Plain ids colored seen limit = not ids && not colored && not seen && is_none limit
+is_bare_form _ ids colored seen limit = false
 
 abbrev pub is_bare : PrintOptions → Bool
-is_bare look = is_bare_form look.form look.is_colored look.is_seen look.limit
+is_bare look = is_bare_form look.form look.has_ids look.is_colored look.is_seen look.limit
+
+-- a title as it is printed: bold where colours are asked for
+abbrev pub title_in : PrintOptions → List ℕ → List ℕ
+title_in look title = shown_line (if look.is_colored then 27 ∷ codes "[1m" else []) look.is_seen title
 
 -- that text, over the files of the rows
 abbrev pub bare_text : Answer → ReportView → List ℕ

@@ -145,7 +145,7 @@ fn push_signs(out: &mut String, sign: &str, count: u32) -> Result<(), AllocError
 }
 
 // What the files have in a step of a table.
-#[derive(Debug, Drop)]
+#[derive(Drop)]
 struct StepSums {
     period: Period,
     total: u64,

@@ -4,7 +4,7 @@ ghost use Rattle.org_answer.specs.Shown.{AreCleanLines, IsSafe, KeepsClean, is_s
 
 use crate::show::{Form, PrintOptions, push_whole, row_line};
 use org_base::Fault;
-use org_client::{LoadReport, ShownClock, ViewRow, push_clock_minute};
+use org_client::{HeadingAt, LoadReport, ShownClock, ViewRow, push_clock_minute};
 use org_inherit::Heading;
 use org_text::Text;
 use std::alloc::{AllocError, Global};
@@ -37,7 +37,7 @@ fn push_clock<T: Text>(
 ) -> Result<(), Fault>
     ensures clean { IsSafe look.now → KeepsClean result out.old out.new }
 {
-    let text = clock_text(alloc, files, clock, look.form == Form::Places)?;
+    let text = clock_text(alloc, files, clock, look.form)?;
     let shown = ClockText {
         clock: *clock,
         text: text.as_str(),
@@ -46,7 +46,7 @@ fn push_clock<T: Text>(
 }
 
 /// A clock, and its line in words.
-#[derive(Clone, Copy, Debug)]
+#[derive(Clone, Copy)]
 pub(crate) struct ClockText<'a> {
     pub clock: ShownClock,
     pub text: &'a str,
@@ -73,8 +73,8 @@ pub(crate) fn push_row<T: Text>(
     Ok(push_whole(out, &line)?)
 }
 
-// Whether no control character of a file may stand in what is printed.
-fn is_safe(look: &PrintOptions<'_, '_>) -> bool
+/// Whether no control character of a file may stand in what is printed.
+pub(crate) fn is_safe(look: &PrintOptions<'_, '_>) -> bool
     ensures value { result ≡ is_safe look.now.form look.now.is_seen }
 {
     match look.form {
@@ -83,19 +83,17 @@ fn is_safe(look: &PrintOptions<'_, '_>) -> bool
     }
 }
 
-// The line of a clock: its place, if that is wanted, when it begins, when it ends, its minutes as hours and minutes, and the
-// title of its heading.
+// The line of a clock in a form: its place, if that is wanted, its heading's short id, if rows have ids, when it begins, when it
+// ends, its minutes as hours and minutes, and the title of its heading.
 fn clock_text<T: Text>(
     alloc: Global,
     files: &LoadReport<'_, '_, T>,
     clock: &ShownClock,
-    has_place: bool,
+    form: Form<'_>,
 ) -> Result<String, AllocError> {
     let row = &clock.row;
     let mut text = String::new(alloc);
-    if has_place {
-        push_place(&mut text, files, clock)?;
-    }
+    push_front(alloc, &mut text, files, clock, form)?;
     push_clock_minute(&mut text, row.from)?;
     text.push_str(" ")?;
     push_end(&mut text, row.to)?;
@@ -117,18 +115,54 @@ pub(crate) fn push_title<T: Text>(
     }
 }
 
-/// Appends the file and the line of a clock, and a space, since its line begins with a number.
-pub(crate) fn push_place<T: Text>(
+/// Appends what stands in front of a clock in a form: its file and its line, and its heading's short id, if rows have ids; and a
+/// space, since its line begins with a number.
+pub(crate) fn push_front<T: Text>(
+    alloc: Global,
     text: &mut String,
     files: &LoadReport<'_, '_, T>,
     clock: &ShownClock,
+    form: Form<'_>,
+) -> Result<(), AllocError> {
+    let id = clock_id(alloc, files, clock)?;
+    let id = str::from_utf8(&id).unwrap_or("");
+    match form {
+        Form::Places => push_place(text, files, clock, id),
+        Form::Plain if !id.is_empty() => write!(text, "{id} "),
+        Form::Plain | Form::Json | Form::Csv | Form::Template(_) => Ok(()),
+    }
+}
+
+// The short id of a clock's heading; none where rows have no ids.
+fn clock_id<T: Text>(
+    alloc: Global,
+    files: &LoadReport<'_, '_, T>,
+    clock: &ShownClock,
+) -> Result<Vec<u8>, AllocError> {
+    let at = HeadingAt {
+        file: clock.row.file,
+        heading: clock.row.heading,
+    };
+    let mut id = Vec::new(alloc);
+    files.ids().push(&mut id, at, 0)?;
+    Ok(id)
+}
+
+fn push_place<T: Text>(
+    text: &mut String,
+    files: &LoadReport<'_, '_, T>,
+    clock: &ShownClock,
+    id: &str,
 ) -> Result<(), AllocError> {
     let file = clock.row.file;
     if file < files.file_set.count() {
         text.push_str(files.file_set.file(file).name())?;
     }
     let line = clock.place.line;
-    write!(text, ":{line}: ")
+    if id.is_empty() {
+        return write!(text, ":{line}: ");
+    }
+    write!(text, ":{line}@{id}: ")
 }
 
 // Appends an end, or the room of one.

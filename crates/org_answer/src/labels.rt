@@ -12,7 +12,7 @@ use org_visible::is_mark;
 use std::alloc::{AllocError, Global};
 
 /// How rows are said: with their times and keywords or without, by which signs, and of how many rows of a day at most.
-#[derive(Clone, Copy, Debug)]
+#[derive(Clone, Copy)]
 pub(crate) struct Wording {
     pub has_time: bool,
     pub has_keyword: bool,

@@ -8,7 +8,7 @@
 //! Every call that allocates may be refused memory. Where it names no other refusal, that is its only one.
 //!
 //! ```
-//! let answer = answer(alloc, inherits, question)?;
+//! let answer = arranged_answer(alloc, inherits, question)?;
 //! let lines = lines_within(answer.lines.as_slice(), look.limit);
 //! ```
 //!
@@ -16,15 +16,23 @@
 #![tactic(auto)]
 
 mod any_row;
+mod arranging;
 mod calendar;
 mod chart;
 mod clocks;
+mod day;
+mod day_words;
 mod expression;
+mod found;
+mod grouped;
 mod hours;
 mod ical;
 mod labels;
 pub mod laws;
 mod limits;
+mod line_ids;
+mod link_words;
+mod log;
 mod names;
 mod once_words;
 mod paint;
@@ -40,13 +48,19 @@ mod view;
 mod words;
 
 pub use any_row::has_row;
+pub use arranging::{Arrangement, arrange};
 pub use calendar::{Calendar, Canvas, View};
 pub use chart::clock_picture;
 pub use clocks::clock_lines;
+pub use day::{DayCanvas, DayText, day_text};
 pub use expression::read_expression;
+pub use found::found_bytes;
+pub use grouped::grouped_bytes;
 pub use hours::day_picture;
 pub use ical::{Ical, IcalQuery, ical_of};
 pub use limits::lines_within;
+pub use line_ids::headings_of_lines;
+pub use log::log_lines;
 pub use paint::picture_bytes;
 pub use picture::{Picture, calendar_picture};
 pub use placed::{heading_of, push_file_name, seems_placed};

@@ -29,7 +29,7 @@ fn first_rows(lines: &[Line], rows: u32) -> &[Line]
 }
 
 // How many rows are left to be shown after a line.
-fn left_after(left: u32, line: &Line) -> u32
+pub(crate) fn left_after(left: u32, line: &Line) -> u32
     requires some { 1 ≤ left }
     ensures value { result ≡ left_after left line.now }
 {

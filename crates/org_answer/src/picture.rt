@@ -66,7 +66,7 @@ struct Drawing<'a> {
 }
 
 // A week: its number and its days.
-#[derive(Debug, Drop)]
+#[derive(Drop)]
 struct WeekDays {
     number: String,
     days: Vec<GridDay>,

@@ -1,8 +1,9 @@
 //! Where the headings of lines stand, in front of them.
-ghost use Rattle.std.specs.Prelude.{◌≡◌, true, OnOk};
+ghost use Rattle.std.specs.Prelude.{◌≡◌, ◌∷◌, ◌++◌, [], decimal, true, OnOk};
 ghost use Rattle.org_base.specs.Results.{Adds};
 ghost use Rattle.org_answer.specs.Shown.{AddsClean, number_text};
 
+use crate::line_ids::push_line_id;
 use crate::show::push_seen;
 use org_client::LoadReport;
 use org_clocktable::Of;
@@ -12,7 +13,7 @@ use std::alloc::{AllocError, Global};
 
 // Appends the file and the line of a row's heading; before a row of a clock table, which begins with a number, a space, so
 // that editors take no number of it as a column.
-#[tactic(auto, using(crate::proofs::ShownLemmas::places_alone, crate::proofs::ShownLemmas::places_after, crate::proofs::ShownLemmas::places_nothing))]
+#[tactic(auto, using(crate::proofs::ShownLemmas::places_alone, crate::proofs::ShownLemmas::places_after, crate::proofs::ShownLemmas::places_nothing, crate::proofs::IdLemmas::places_with_id))]
 pub(crate) fn push_place<T: Text>(
     alloc: Global,
     out: &mut Vec<u8>,
@@ -33,7 +34,31 @@ pub(crate) fn push_place<T: Text>(
         return push_number(alloc, out, place.line, is_spaced);
     }
     push_file_name(out, files.file_set.file(file).name(), is_seen)?;
-    push_number(alloc, out, place.line, is_spaced)
+    if files.ids().is_none() {
+        return push_number(alloc, out, place.line, is_spaced);
+    }
+    push_number_at(alloc, out, place.line)?;
+    push_line_id(out, files, line, b':')?;
+    push_space(out, is_spaced)
+}
+
+// Appends a line that an id follows.
+fn push_number_at(alloc: Global, out: &mut Vec<u8>, number: u32) -> Result<(), AllocError>
+    ensures value { Adds result out.old out.new (58 ∷ decimal number ++ 64 ∷ []) }
+{
+    let text = format!(in alloc; ":{number}@")?;
+    out.extend_from_slice(text.as_bytes())?;
+    Ok(())
+}
+
+#[tactic(auto, using(crate::proofs::IdLemmas::spaced, crate::proofs::ShownLemmas::places_nothing))]
+fn push_space(out: &mut Vec<u8>, is_spaced: bool) -> Result<(), AllocError>
+    ensures clean { OnOk result (AddsClean out.old.items out.new.items) }
+{
+    if is_spaced {
+        out.push(b' ')?;
+    }
+    Ok(())
 }
 
 /// Appends the name of a file as it stands in front of rows. One in which a place seems to stand is put between quotation marks,

@@ -31,12 +31,12 @@ pub fn answer_bytes<T: Text>(
     lines_bytes(alloc, files, first, answer.with_effort, look)
 }
 
-// Whether a view is printed as it stands: its text, without colours, into a pipe, and whole.
+// Whether a view is printed as it stands: its text, without ids and colours, into a pipe, and whole.
 fn is_bare(look: &PrintOptions<'_, '_>) -> bool
     ensures value { result ≡ is_bare look.now }
 {
     match look.form {
-        Form::Plain => !look.is_colored && !look.is_seen && look.limit.is_none(),
+        Form::Plain => !look.has_ids && !look.is_colored && !look.is_seen && look.limit.is_none(),
         Form::Places | Form::Json | Form::Csv | Form::Template(_) => false,
     }
 }

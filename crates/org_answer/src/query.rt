@@ -4,12 +4,13 @@ ghost use Rattle.org_clocktable.specs.Request.{AsksFor};
 ghost use Rattle.org_answer.specs.Asked.{AnswersClock, AnswersMatch, AnswersNext, AnswersQuestion, AnswersSince, chosen_of};
 ghost use Rattle.org_client.specs.Files.{AreRead};
 
+use crate::arranging::Arrangement;
 use crate::calendar::{Calendar, Canvas};
 use crate::expression::{LONGEST, read_expression};
 use crate::ical::IcalQuery;
 use crate::rows_ahead::{rows_ahead, rows_since};
 use crate::table::clock_table;
-use crate::view::{Answer, Chosen, Days, agenda_days, agenda_over, match_list, todo_list};
+use crate::view::{Answer, Chosen, Days, agenda_days, agenda_over, chosen_matches, todo_list};
 use org_agenda::AsOf;
 use org_base::{Code, Fault, Profile, Texts};
 use org_cal::{Day, Moment, Period};
@@ -94,13 +95,14 @@ impl ClockQuery<'_> {
     }
 }
 
-/// What is asked, in which profile, at which moment, and of which headings.
+/// What is asked, in which profile, at which moment, of which headings, and how the rows stand.
 #[derive(Clone, Copy, Debug)]
 pub struct Question<'a, 'b> {
     pub asked: &'a Query<'b>,
     pub profile: Profile,
     pub moment: Moment,
     pub expressions: &'a [Match],
+    pub arrangement: Arrangement<'a>,
 }
 
 impl<'a> Question<'a, '_> {
@@ -150,8 +152,8 @@ pub fn answer(
         Query::Calendar(calendar) => agenda_days(alloc, inherits, &chosen, calendar.days),
         Query::Hours(days, _) => agenda_days(alloc, inherits, &chosen, *days),
         Query::Ical(asked) => agenda_days(alloc, inherits, &chosen, asked.days),
-        Query::Todo(words) => todo_list(alloc, inherits, words),
-        Query::Match(expression) => match_answer(alloc, inherits, expression, now),
+        Query::Todo(words) => todo_list(alloc, inherits, words, &chosen),
+        Query::Match(expression) => match_answer(alloc, inherits, expression, &chosen),
         Query::Clock(table) => clock(alloc, inherits, table, now),
         Query::Next(days, within) => next_answer(alloc, inherits, &chosen, *days, *within),
         Query::Since(window, days) => since_answer(alloc, inherits, &chosen, *days, window),
@@ -191,13 +193,13 @@ fn match_answer(
     alloc: Global,
     inherits: &Inherits<'_>,
     expression: &str,
-    now: Moment,
+    chosen: &Chosen<'_>,
 ) -> Result<Answer, Fault>
     requires read { AreRead inherits.now }
-    ensures value { AnswersMatch result inherits.now expression.now now }
+    ensures value { AnswersMatch result inherits.now expression.now chosen.now }
 {
     let expression = read_expression(alloc, expression)?;
-    match_list(alloc, inherits, &expression, now)
+    chosen_matches(alloc, inherits, &expression, chosen)
 }
 
 #[tactic(auto, using(crate::proofs::AskedLemmas::tabled))]

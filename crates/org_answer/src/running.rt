@@ -2,8 +2,8 @@
 ghost use Rattle.std.specs.Prelude.{IfOk};
 ghost use Rattle.org_answer.specs.Shown.{AreCleanLines, IsSafe, KeepsClean};
 
-use crate::clocks::{ClockText, push_place, push_row, push_title};
-use crate::show::{Form, PrintOptions};
+use crate::clocks::{ClockText, push_front, push_row, push_title};
+use crate::show::PrintOptions;
 use org_base::Fault;
 use org_cal::{Day, LAST_DAY, Moment, Period};
 use org_client::{FileSet, LoadReport, ShownClock, clock_rows, shown_clocks};
@@ -72,9 +72,7 @@ fn push_running<T: Text>(
     ensures clean { IsSafe look.now → KeepsClean result out.old out.new }
 {
     let mut text = String::new(alloc);
-    if look.form == Form::Places {
-        push_place(&mut text, files, clock)?;
-    }
+    push_front(alloc, &mut text, files, clock, look.form)?;
     let (hours, minutes) = (clock.row.minutes / 60, clock.row.minutes % 60);
     write!(text, "{hours}:{minutes:02} ")?;
     push_title(&mut text, files, clock)?;

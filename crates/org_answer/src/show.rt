@@ -1,9 +1,11 @@
 //! Answers as they are printed.
 ghost use Rattle.std.specs.Prelude.{◌≡◌, [], ◌∷◌, ◌++◌, true, IfOk};
 ghost use Rattle.org_base.specs.Results.{Adds};
-ghost use Rattle.org_answer.specs.Shown.{AreCleanLines, IsSafe, KeepsClean, color_of, line_in, shown_text};
+ghost use Rattle.org_answer.specs.Shown.{AreCleanLines, IsSafe, KeepsClean, color_of, line_in, shown_text, title_in};
 
+use crate::day::DayCanvas;
 use crate::labels::is_due_row;
+use crate::line_ids::{push_id_field, push_line_id};
 use crate::placed::push_place;
 use org_agenda::RowKind;
 use org_base::Fault;
@@ -33,24 +35,35 @@ pub enum Form<'a> {
 }
 
 /// How an answer is printed: its form, whether late rows and warnings stand out, whether control characters are written so
-/// that they can be seen, whether days have objects of JSON too, the words of `--properties`, the kind of a list's rows, how
-/// many rows there are at most, and whether the program ends after it.
+/// that they can be seen, whether short ids stand in front of rows, whether days have objects of JSON too, the words of
+/// `--properties`, the kind of a list's rows, how many rows there are at most, whether the program ends after it, and what an
+/// agenda of one day is drawn on where it comes in sections.
 #[derive(Clone, Copy, Debug)]
 pub struct PrintOptions<'a, 'b> {
     pub form: Form<'a>,
     pub is_colored: bool,
     pub is_seen: bool,
+    pub has_ids: bool,
     pub has_days: bool,
     pub properties: Option<&'b [&'a str]>,
     pub list: &'static str,
     pub limit: Option<u32>,
     pub is_last: bool,
+    pub canvas: Option<DayCanvas>,
 }
 
 impl PrintOptions<'_, '_> {
     /// Whether rows tell where their stamps stand.
     pub fn tells_stamps(&self) -> bool {
         matches!(self.form, Form::Json | Form::Template(_))
+    }
+
+    /// Whether rows tell their short ids.
+    pub fn tells_ids(&self) -> bool {
+        match &self.form {
+            Form::Template(template) => self.has_ids || template.names("id"),
+            Form::Plain | Form::Places | Form::Json | Form::Csv => self.has_ids,
+        }
     }
 }
 
@@ -80,16 +93,31 @@ pub(crate) fn lines_bytes<T: Text>(
 
 // The text of a line, and what it is made of, which is kept from line to line; and the days of the clock table that it is of.
 #[derive(Drop)]
-struct Written<'a, 'b> {
+pub(crate) struct Written<'a, 'b> {
     texts: LineTexts<'a, 'b>,
     with_effort: bool,
-    text: String,
-    days: Option<(Day, Day)>,
+    pub text: String,
+    pub days: Option<(Day, Day)>,
 }
 
-impl Written<'_, '_> {
+impl<'a, 'b> Written<'a, 'b> {
+    // What these lines are written by.
+    pub fn new(
+        alloc: Global,
+        inherits: &'a Inherits<'b>,
+        lines: &[Line],
+        with_effort: bool,
+    ) -> Result<Written<'a, 'b>, Fault> {
+        Ok(Written {
+            texts: LineTexts::of(alloc, inherits, lines)?,
+            with_effort,
+            text: String::new(alloc),
+            days: None,
+        })
+    }
+
     // Writes a line.
-    fn write(&mut self, line: &Line) -> Result<(), Fault> {
+    pub fn write(&mut self, line: &Line) -> Result<(), Fault> {
         if let Line::Step(first, last) = line {
             self.days = Some((*first, *last));
         }
@@ -123,7 +151,7 @@ fn bytes_of<T: Text>(
 }
 
 // Whether a line is the row of a deadline on its day, of a heading that isn't done.
-fn is_due(inherits: &Inherits<'_>, line: &Line) -> bool {
+pub(crate) fn is_due(inherits: &Inherits<'_>, line: &Line) -> bool {
     match line {
         Line::Row(shown) => is_due_row(inherits, &shown.row),
         Line::Day(_) | Line::Step(..) | Line::Table(_) => false,
@@ -132,16 +160,16 @@ fn is_due(inherits: &Inherits<'_>, line: &Line) -> bool {
 
 // A line of an answer: what it stands for, whether it is due, the days of its clock table, and its text.
 #[derive(Clone, Copy)]
-struct LineOfAnswer<'a> {
-    line: &'a Line,
-    is_due: bool,
-    days: &'a Option<(Day, Day)>,
-    text: &'a str,
+pub(crate) struct LineOfAnswer<'a> {
+    pub line: &'a Line,
+    pub is_due: bool,
+    pub days: &'a Option<(Day, Day)>,
+    pub text: &'a str,
 }
 
 impl LineOfAnswer<'_> {
     // The row, with its days where it is one of a clock table.
-    fn row(&self) -> Option<ViewRow> {
+    pub fn row(&self) -> Option<ViewRow> {
         match (self.line, self.days) {
             (Line::Row(shown), _) => Some(ViewRow::Row(*shown)),
             (Line::Table(row), Some((first, last))) => Some(ViewRow::Sum(ShownSum {
@@ -154,8 +182,8 @@ impl LineOfAnswer<'_> {
     }
 }
 
-#[tactic(auto, using(crate::proofs::ShownLemmas::keeps_text))]
-fn push_line<T: Text>(
+// Appends a line in its form.
+pub(crate) fn push_line<T: Text>(
     alloc: Global,
     out: &mut Vec<u8>,
     files: &LoadReport<'_, '_, T>,
@@ -165,10 +193,50 @@ fn push_line<T: Text>(
     ensures clean { IsSafe look.now → KeepsClean result out.old out.new }
 {
     match look.form {
-        Form::Plain => Ok(push_text(out, shown, look)?),
+        Form::Plain => Ok(push_named(out, files, shown, look)?),
         Form::Places => Ok(push_placed(alloc, out, files, shown, look)?),
         Form::Json | Form::Csv | Form::Template(_) => push_row(alloc, out, files, shown, look),
     }
+}
+
+/// Appends a title, bold where colours are asked for.
+#[tactic(auto, using(crate::proofs::ShownLemmas::keeps_title))]
+pub(crate) fn push_title(
+    out: &mut Vec<u8>,
+    title: &str,
+    look: &PrintOptions<'_, '_>,
+) -> Result<(), AllocError>
+    ensures clean { look.now.is_seen ≡ true → KeepsClean result out.old out.new }
+{
+    push_bold(out, title, look)?;
+    Ok(())
+}
+
+fn push_bold(out: &mut Vec<u8>, title: &str, look: &PrintOptions<'_, '_>) -> Result<(), AllocError>
+    ensures value { Adds result out.old out.new (title_in look.now title.now) }
+{
+    let color = if look.is_colored { "\x1b[1m" } else { "" };
+    out.extend_from_slice(color.as_bytes())?;
+    push_seen(out, title, look.is_seen)?;
+    if !color.is_empty() {
+        out.extend_from_slice(b"\x1b[0m")?;
+    }
+    out.push(b'\n')?;
+    Ok(())
+}
+
+// Appends the short id of a line's heading, if rows have ids, and its text.
+#[tactic(auto, using(crate::proofs::ShownLemmas::keeps_placed))]
+fn push_named<T: Text>(
+    out: &mut Vec<u8>,
+    files: &LoadReport<'_, '_, T>,
+    shown: &LineOfAnswer<'_>,
+    look: &PrintOptions<'_, '_>,
+) -> Result<(), AllocError>
+    ensures clean { look.now.is_seen ≡ true → KeepsClean result out.old out.new }
+{
+    push_line_id(out, files, shown.line, b' ')?;
+    push_text(out, shown, look)
 }
 
 // Appends the text of a line, in the colour of its kind where it has one.
@@ -265,7 +333,11 @@ pub(crate) fn row_line<T: Text>(
 ) -> Result<OneLine, Fault> {
     match look.form {
         Form::Json => json_line(alloc, files, row, text),
-        Form::Csv => csv_line(alloc, files, row, look.list),
+        Form::Csv => {
+            let mut line = csv_line(alloc, files, row, look.list)?;
+            push_id_field(alloc, &mut line, files, row)?;
+            Ok(line)
+        }
         Form::Template(template) => template_line(alloc, files, row, text, &template),
         Form::Plain | Form::Places => {
             let mut line = OneLine::new(alloc);

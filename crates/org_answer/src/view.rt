@@ -5,7 +5,7 @@ ghost use Rattle.org_agenda.specs.Lists.{todo_listing, Matching};
 ghost use Rattle.org_base.specs.Results.{Gives, GivesItems};
 ghost use Rattle.org_cal.specs.declared.day.TheConstants.{LAST_DAY};
 ghost use Rattle.org_client.specs.Files.{AreRead};
-ghost use Rattle.org_answer.specs.Chosen.{ShowsDays, chosen_sources, over_chosen};
+ghost use Rattle.org_answer.specs.Chosen.{ShowsChosen, ShowsDays, ShowsMatches, chosen_rows, chosen_sources, over_chosen};
 ghost use Rattle.org_answer.specs.Limits.{is_row};
 ghost use Rattle.org_answer.specs.Views.{ShowsList, ShowsListing};
 
@@ -13,7 +13,7 @@ use crate::limits::is_row;
 use org_agenda::{Agenda, AsOf, HeadingStamp, Row, match_rows, sources_of, todo_rows};
 use org_base::{Fault, Texts};
 use org_cal::{Day, LAST_DAY, Moment, Period};
-use org_client::matching_stamps;
+use org_client::{matching_rows, matching_stamps};
 use org_inherit::Inherits;
 use org_layout::{Line, agenda_lines, list_lines};
 use org_match::Match;
@@ -35,17 +35,45 @@ impl Answer {
     }
 }
 
-/// The list of the headings that have one of these keywords, or of none, one that isn't done.
+/// The list of the headings that have one of these keywords, or of none, one that isn't done, of those that are chosen.
 pub(crate) fn todo_list(
     alloc: Global,
     inherits: &Inherits<'_>,
     words: &Texts,
+    chosen: &Chosen<'_>,
 ) -> Result<Answer, Fault>
     requires read { AreRead inherits.now }
-    ensures value { ShowsListing result inherits.now (todo_listing words.now) }
+    ensures value { ShowsChosen result inherits.now chosen.now (todo_listing words.now) }
 {
     let rows = todo_rows(alloc, inherits, words)?;
-    Ok(list_answer(alloc, rows.as_slice())?)
+    chosen_list(alloc, inherits, rows, chosen)
+}
+
+/// The list of the headings of which an expression holds, of those that are chosen.
+pub(crate) fn chosen_matches(
+    alloc: Global,
+    inherits: &Inherits<'_>,
+    expression: &Match,
+    chosen: &Chosen<'_>,
+) -> Result<Answer, Fault>
+    requires read { AreRead inherits.now }
+    ensures value { ShowsMatches result inherits.now chosen.now expression.now }
+{
+    let rows = match_rows(alloc, inherits, expression, chosen.moment)?;
+    chosen_list(alloc, inherits, rows, chosen)
+}
+
+// The list of those rows whose headings are chosen.
+fn chosen_list(
+    alloc: Global,
+    inherits: &Inherits<'_>,
+    rows: Vec<Row>,
+    chosen: &Chosen<'_>,
+) -> Result<Answer, Fault>
+    ensures value { ShowsList result (chosen_rows chosen.now inherits.now rows.items) }
+{
+    let some = matching_rows(alloc, inherits, rows, chosen.expressions, &chosen.moment)?;
+    Ok(list_answer(alloc, some.as_slice())?)
 }
 
 /// The list of the headings of which an expression holds at a moment.
@@ -98,7 +126,7 @@ impl Days {
     }
 }
 
-/// Which stamps agendas look at: those of all headings that meet these expressions at a moment.
+/// Which headings an answer is of: those that meet these expressions at a moment; and how agendas look at stamps.
 #[derive(Clone, Copy, Debug)]
 pub struct Chosen<'a> {
     pub as_of: AsOf,

@@ -1,9 +1,13 @@
+pub mod Chosen
 pub mod Clean
 pub mod Clocks
 pub mod Examples
+pub mod Kinds
 pub mod Looks
 pub mod Marked
 pub mod Marks
+pub mod Printed
 pub mod Said
+pub mod Sentences
 pub mod Unclosed
 pub mod UnreadStamps

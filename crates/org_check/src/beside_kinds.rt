@@ -1,5 +1,8 @@
 //! The kinds of findings that stand beside the marks: what was read and says something else, and guesses.
+ghost use Rattle.std.specs.Prelude.{◌≡◌};
+ghost use Rattle.org_check.specs.Kinds.{beside_entry, seen};
 
+use crate::kind_sentences;
 use crate::table::Entry;
 
 /// What was read and counts for nothing or for something else, or what may be meant otherwise.
@@ -60,273 +63,181 @@ pub enum BesideKind {
 }
 
 impl BesideKind {
-    pub(crate) fn entry(self) -> Entry {
-        match self {
-            BesideKind::WrongDayName
-            | BesideKind::ReversedRange
-            | BesideKind::ReversedTimes
-            | BesideKind::RangeWithRepeater
-            | BesideKind::ZeroRepeater
-            | BesideKind::NearRange
-            | BesideKind::DiarySexp
-            | BesideKind::StampInDrawer
-            | BesideKind::StampInBlock
-            | BesideKind::StampInComment
-            | BesideKind::StampInExample => self.stamp_entry(),
-            BesideKind::NearPlanning
-            | BesideKind::HiddenPlanning
-            | BesideKind::PlanningCase
-            | BesideKind::InactivePlanning
-            | BesideKind::PlanningRest
-            | BesideKind::RepeatedPlanning
-            | BesideKind::PlanningInHeading
-            | BesideKind::PlanningRange
-            | BesideKind::RepeaterOnDone => self.planning_entry(),
-            BesideKind::KeywordOfOtherFile
-            | BesideKind::MissingKeyword
-            | BesideKind::NearKeyword
-            | BesideKind::WordInCapitals
-            | BesideKind::OddSpace
-            | BesideKind::HeadingWithoutSpace
-            | BesideKind::IndentedHeading
-            | BesideKind::KeywordAfterCookie
-            | BesideKind::UnreadPriority
-            | BesideKind::UnreadTags => self.heading_entry(),
-            _ => self.line_entry(),
-        }
-    }
-
-    fn stamp_entry(self) -> Entry {
+    pub(crate) fn entry(self) -> Entry
+        ensures value { seen result ≡ beside_entry self }
+    {
         match self {
             BesideKind::WrongDayName => Entry::warning(
                 "wrong-day-name",
-                "the name isn't that of this day; the date counts",
-            )
-            .with_quote(),
+                kind_sentences::WRONG_DAY_NAME,
+            ).with_quote(),
             BesideKind::ReversedRange => Entry::error(
                 "reversed-range",
-                "shows on no day, since it ends before it begins; swap its days",
-            )
-            .with_quote(),
-            BesideKind::ReversedTimes => {
-                Entry::warning(
-                    "reversed-times",
-                    "it ends before it begins; swap its times",
-                ).with_quote()
-            }
+                kind_sentences::REVERSED_RANGE,
+            ).with_quote(),
+            BesideKind::ReversedTimes => Entry::warning(
+                "reversed-times",
+                kind_sentences::REVERSED_TIMES,
+            ).with_quote(),
             BesideKind::RangeWithRepeater => Entry::warning(
                 "range-with-repeater",
-                "the range shows once; its repeater says nothing",
-            )
-            .with_quote(),
-            BesideKind::ZeroRepeater => {
-                Entry::warning("zero-repeater", "a repeater of 0 repeats nothing").with_quote()
-            }
+                kind_sentences::RANGE_WITH_REPEATER,
+            ).with_quote(),
+            BesideKind::ZeroRepeater => Entry::warning(
+                "zero-repeater",
+                kind_sentences::ZERO_REPEATER,
+            ).with_quote(),
             BesideKind::NearRange => Entry::warning(
                 "near-range",
-                "two timestamps, each on its own day; in a range two dashes stand between them, \
-                 and nothing else",
-            )
-            .with_quote(),
-            BesideKind::DiarySexp => Entry::error(
-                "diary-sexp",
-                "an expression of the diary isn't evaluated; write a timestamp",
-            ),
+                kind_sentences::NEAR_RANGE,
+            ).with_quote(),
+            BesideKind::DiarySexp => Entry::error("diary-sexp", kind_sentences::DIARY_SEXP),
             BesideKind::StampInDrawer => Entry::warning(
                 "stamp-in-drawer",
-                "shows on no day; write it under the drawer, as text",
-            )
-            .with_quote(),
+                kind_sentences::STAMP_IN_DRAWER,
+            ).with_quote(),
             BesideKind::StampInBlock => Entry::warning(
                 "stamp-in-block",
-                "shows on no day; write it before the block or after it",
-            )
-            .with_quote(),
-            BesideKind::StampInComment => {
-                Entry::note("stamp-in-comment", "shows on no day, in a comment")
-                    .rare()
-                    .with_quote()
-            }
-            _ => Entry::note("stamp-in-example", "shows on no day, in an example")
-                .rare()
+                kind_sentences::STAMP_IN_BLOCK,
+            ).with_quote(),
+            BesideKind::StampInComment => Entry::note(
+                "stamp-in-comment",
+                kind_sentences::STAMP_IN_COMMENT,
+            ).rare()
                 .with_quote(),
-        }
-    }
-
-    fn planning_entry(self) -> Entry {
-        match self {
+            BesideKind::StampInExample => Entry::note(
+                "stamp-in-example",
+                kind_sentences::STAMP_IN_EXAMPLE,
+            ).rare()
+                .with_quote(),
             BesideKind::NearPlanning => Entry::warning(
                 "near-planning",
-                "no planning, and its stamp shows on its day alone; write DEADLINE: or \
-                 SCHEDULED: with the timestamp into a line directly under the heading",
-            )
-            .with_quote(),
+                kind_sentences::NEAR_PLANNING,
+            ).with_quote(),
             BesideKind::HiddenPlanning => Entry::note(
                 "hidden-planning",
-                "shows on no day, since its heading or one above it has COMMENT or the tag \
-                 ARCHIVE; take that away",
-            )
-            .with_quote(),
+                kind_sentences::HIDDEN_PLANNING,
+            ).with_quote(),
             BesideKind::PlanningCase => Entry::error(
                 "planning-case",
-                "no planning, and its stamp shows on its day alone; write the word in capitals",
+                kind_sentences::PLANNING_CASE,
             ),
             BesideKind::InactivePlanning => Entry::error(
                 "inactive-planning",
-                "shows on no day, in square brackets; write < and >",
-            )
-            .with_quote(),
+                kind_sentences::INACTIVE_PLANNING,
+            ).with_quote(),
             BesideKind::PlanningRest => Entry::error(
                 "planning-rest",
-                "not read; a planning line holds nothing but SCHEDULED:, DEADLINE: and CLOSED: \
-                 with a timestamp each",
+                kind_sentences::PLANNING_REST,
             ),
             BesideKind::RepeatedPlanning => Entry::error(
                 "repeated-planning",
-                "the same word stands before it in this line, and the last counts alone",
+                kind_sentences::REPEATED_PLANNING,
             ),
             BesideKind::PlanningInHeading => Entry::warning(
                 "planning-in-heading",
-                "no planning, and its stamp shows on its day alone; write it into the line \
-                 under the heading",
+                kind_sentences::PLANNING_IN_HEADING,
             ),
             BesideKind::PlanningRange => Entry::warning(
                 "planning-range",
-                "planning has one day, and of a range the first counts",
-            )
-            .with_quote(),
-            _ => Entry::note(
+                kind_sentences::PLANNING_RANGE,
+            ).with_quote(),
+            BesideKind::RepeaterOnDone => Entry::note(
                 "repeater-on-done",
-                "the heading is done for each day that comes; set its keyword back, or take the \
-                 repeater away",
-            )
-            .with_quote(),
-        }
-    }
-
-    fn heading_entry(self) -> Entry {
-        match self {
+                kind_sentences::REPEATER_ON_DONE,
+            ).with_quote(),
+            BesideKind::UnreadEffort => Entry::error(
+                "unread-effort",
+                kind_sentences::UNREAD_EFFORT,
+            ).with_quote(),
+            BesideKind::RepeatedProperty => Entry::warning(
+                "repeated-property",
+                kind_sentences::REPEATED_PROPERTY,
+            ),
+            BesideKind::SpecialProperty => Entry::warning(
+                "special-property",
+                kind_sentences::SPECIAL_PROPERTY,
+            ),
+            BesideKind::StrayBlockEnd => Entry::warning(
+                "stray-block-end",
+                kind_sentences::STRAY_BLOCK_END,
+            ).with_quote(),
+            BesideKind::SettingInBlock => Entry::note(
+                "setting-in-block",
+                kind_sentences::SETTING_IN_BLOCK,
+            ).rare(),
+            BesideKind::ByteOrderMark => Entry::error(
+                "byte-order-mark",
+                kind_sentences::BYTE_ORDER_MARK,
+            ),
+            BesideKind::SettingWithoutColon => Entry::error(
+                "setting-without-colon",
+                kind_sentences::SETTING_WITHOUT_COLON,
+            ),
+            BesideKind::SecondCategory => Entry::warning(
+                "second-category",
+                kind_sentences::SECOND_CATEGORY,
+            ),
+            BesideKind::CommaInKeywords => Entry::warning(
+                "comma-in-keywords",
+                kind_sentences::COMMA_IN_KEYWORDS,
+            ).with_quote(),
+            BesideKind::MissingBar => Entry::warning(
+                "missing-bar",
+                kind_sentences::MISSING_BAR,
+            ).with_quote(),
+            BesideKind::UnreadSetting => Entry::note(
+                "unread-setting",
+                kind_sentences::UNREAD_SETTING,
+            ),
             BesideKind::KeywordOfOtherFile => Entry::error(
                 "keyword-of-other-file",
-                "a keyword of another file and none of this one; add it to #+TODO:",
+                kind_sentences::KEYWORD_OF_OTHER_FILE,
             )
             .with_quote(),
             BesideKind::MissingKeyword => Entry::warning(
                 "missing-keyword",
-                "no keyword of this file; add it to #+TODO:",
-            )
-            .with_quote(),
+                kind_sentences::MISSING_KEYWORD,
+            ).with_quote(),
             BesideKind::NearKeyword => Entry::warning(
                 "near-keyword",
-                "nearly a keyword of this file, and none; write it in its own letters, with a \
-                 space after it",
-            )
-            .with_quote(),
+                kind_sentences::NEAR_KEYWORD,
+            ).with_quote(),
             BesideKind::WordInCapitals => Entry::note(
                 "word-in-capitals",
-                "stands in capitals in front of several headings, and is no keyword; if it is \
-                 meant as one, add it to #+TODO:",
-            )
-            .rare()
-            .with_quote(),
-            BesideKind::OddSpace => Entry::error(
-                "odd-space",
-                "a character that only looks like a space, as U+00A0, makes the line neither a \
-                 heading nor planning; write a space",
-            ),
+                kind_sentences::WORD_IN_CAPITALS,
+            ).rare()
+                .with_quote(),
+            BesideKind::OddSpace => Entry::error("odd-space", kind_sentences::ODD_SPACE),
             BesideKind::HeadingWithoutSpace => Entry::warning(
                 "heading-without-space",
-                "no heading; write a space after the stars",
+                kind_sentences::HEADING_WITHOUT_SPACE,
             ),
             BesideKind::IndentedHeading => Entry::warning(
                 "indented-heading",
-                "no heading; write its stars at the front of the line",
+                kind_sentences::INDENTED_HEADING,
             ),
             BesideKind::KeywordAfterCookie => Entry::error(
                 "keyword-after-cookie",
-                "no keyword here; write it before the priority",
-            )
-            .with_quote(),
+                kind_sentences::KEYWORD_AFTER_COOKIE,
+            ).with_quote(),
             BesideKind::UnreadPriority => Entry::warning(
                 "unread-priority",
-                "no priority; write [#A] to [#Z] or [#0] to [#64]",
-            )
-            .with_quote(),
-            _ => Entry::warning(
+                kind_sentences::UNREAD_PRIORITY,
+            ).with_quote(),
+            BesideKind::UnreadTags => Entry::warning(
                 "unread-tags",
-                "no tags; they have letters, digits and _@#% alone",
-            )
-            .with_quote(),
-        }
-    }
-
-    fn line_entry(self) -> Entry {
-        match self {
-            BesideKind::UnreadEffort => Entry::error(
-                "unread-effort",
-                "no effort, and counts 0; write H:MM, or a number with min, h, d, w, m or y",
-            )
-            .with_quote(),
-            BesideKind::RepeatedProperty => Entry::warning(
-                "repeated-property",
-                "the drawer has this property already, and the first counts; add to it by \
-                 `:NAME+: VALUE'",
+                kind_sentences::UNREAD_TAGS,
+            ).with_quote(),
+            BesideKind::ClockCase => Entry::error("clock-case", kind_sentences::CLOCK_CASE),
+            BesideKind::ClockInList => Entry::error("clock-in-list", kind_sentences::CLOCK_IN_LIST),
+            BesideKind::OverlappingClocks => Entry::warning(
+                "overlapping-clocks",
+                kind_sentences::OVERLAPPING_CLOCKS,
             ),
-            BesideKind::SpecialProperty => Entry::warning(
-                "special-property",
-                "match expressions take this name for what the heading says itself; give the \
-                 property another name",
-            ),
-            BesideKind::StrayBlockEnd => {
-                Entry::warning("stray-block-end", "no block begins for it").with_quote()
-            }
-            BesideKind::SettingInBlock => {
-                Entry::note("setting-in-block", "no setting, in a block").rare()
-            }
-            BesideKind::ByteOrderMark => Entry::error(
-                "byte-order-mark",
-                "a byte order mark stands in front, and makes the first line neither a heading \
-                 nor a setting; save the file without it",
-            ),
-            BesideKind::SettingWithoutColon => Entry::error(
-                "setting-without-colon",
-                "no setting; write a colon after its name, as in #+TODO:",
-            ),
-            BesideKind::SecondCategory => Entry::warning(
-                "second-category",
-                "not read, since the first #+CATEGORY: counts; give a heading the property \
-                 CATEGORY",
-            ),
-            BesideKind::CommaInKeywords => Entry::warning(
-                "comma-in-keywords",
-                "the comma is part of the keyword; write spaces alone between keywords",
-            )
-            .with_quote(),
-            BesideKind::MissingBar => Entry::warning(
-                "missing-bar",
-                "a done keyword, as the last of a line without a bar; write a bar and the done \
-                 ones after it",
-            )
-            .with_quote(),
-            BesideKind::UnreadSetting => Entry::note(
-                "unread-setting",
-                "not read, and what that file sets counts for nothing here; write its #+TODO: \
-                 line into this one",
-            ),
-            BesideKind::ClockCase => Entry::error(
-                "clock-case",
-                "no clock, and counts 0; write CLOCK: in capitals",
-            ),
-            BesideKind::ClockInList => Entry::error(
-                "clock-in-list",
-                "no clock, and counts 0; write it into a line of its own",
-            ),
-            BesideKind::OverlappingClocks => {
-                Entry::warning("overlapping-clocks", "the clock runs while another does")
-            }
-            _ => Entry::warning(
+            BesideKind::ClockBeforeHeadings => Entry::warning(
                 "clock-before-headings",
-                "a clock before the first heading counts nowhere; write it under a heading",
+                kind_sentences::CLOCK_BEFORE_HEADINGS,
             ),
         }
     }

@@ -1,6 +1,7 @@
 //! What was found.
 ghost use Rattle.std.specs.Prelude.{◌≡◌};
 ghost use Rattle.org_check.specs.Said.{mark_of};
+ghost use Rattle.org_check.specs.Sentences.{at_of, column_of, other_line_of};
 
 use crate::kind::Kind;
 use crate::look::Mark;
@@ -54,17 +55,23 @@ pub struct Finding {
 
 impl Finding {
     /// Where it begins in the text, in bytes.
-    pub fn at(&self) -> usize {
+    pub fn at(&self) -> usize
+        ensures value { result ≡ at_of self.now }
+    {
         self.shown.place.saturating_add(self.shown.line_at as usize)
     }
 
     /// The byte of the line with which it begins, from 1.
-    pub fn column(&self) -> usize {
+    pub fn column(&self) -> usize
+        ensures value { result ≡ column_of self.now }
+    {
         self.shown.place.saturating_add(1)
     }
 
     /// The line that the remedy names, from 1.
-    pub fn other_line(&self) -> Option<u32> {
+    pub fn other_line(&self) -> Option<u32>
+        ensures value { result ≡ other_line_of self.now.cause }
+    {
         match self.cause? {
             Cause::Blank(line)
             | Cause::Drawer(line)

@@ -1,8 +1,10 @@
 //! What may be found.
 ghost use Rattle.std.specs.Prelude.{◌≡◌};
+ghost use Rattle.org_check.specs.Kinds.{entry_of, is_usual, name_of, seen, severity_of};
 ghost use Rattle.org_check.specs.Said.{look_of};
 
 use crate::beside_kinds::BesideKind;
+use crate::kind_sentences;
 use crate::look::Look;
 use crate::table::{Entry, Severity};
 use crate::unread_kinds::{DrawerKind, MinutesKind, PlanningKind, StampKind};
@@ -42,39 +44,41 @@ impl Kind {
         }
     }
 
-    pub(crate) fn entry(self) -> Entry {
+    pub(crate) fn entry(self) -> Entry
+        ensures value { seen result ≡ entry_of self }
+    {
         match self {
             Kind::Stamp(kind) => kind.entry(),
             Kind::Planning(kind) => kind.entry(),
             Kind::Drawer(kind) => kind.entry(),
             Kind::UnclosedBlock => Entry::error(
                 "unclosed-block",
-                "no block, since its end doesn't come before the next line that begins with \
-                 stars and a space; write its end, or a comma before those stars",
-            )
-            .with_quote(),
-            Kind::UnreadClock => Entry::error(
-                "unread-clock",
-                "no clock, and counts 0; write inactive stamps, as CLOCK: [2024-02-09 Fri \
-                 09:00]--[2024-02-09 Fri 10:00]",
-            ),
+                kind_sentences::UNCLOSED_BLOCK,
+            ).with_quote(),
+            Kind::UnreadClock => Entry::error("unread-clock", kind_sentences::UNREAD_CLOCK),
             Kind::Minutes(kind) => kind.entry(),
             Kind::Beside(kind) => kind.entry(),
         }
     }
 
     /// The name under which it is asked for and left out.
-    pub fn name(self) -> &'static str {
+    pub fn name(self) -> &'static str
+        ensures value { result.now ≡ name_of self }
+    {
         self.entry().name
     }
 
     /// How much it matters.
-    pub fn severity(self) -> Severity {
+    pub fn severity(self) -> Severity
+        ensures value { result ≡ severity_of self }
+    {
         self.entry().severity
     }
 
     /// Whether it is looked for where nothing is said of kinds.
-    pub fn is_usual(self) -> bool {
+    pub fn is_usual(self) -> bool
+        ensures value { result ≡ is_usual self }
+    {
         self.entry().is_usual
     }
 

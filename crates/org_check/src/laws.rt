@@ -1,6 +1,6 @@
 //! Laws of the definitions. Each is a function without parameters whose contract is the law.
 ghost use Rattle.org_check.specs.Clocks.{TheseCountNothing};
-ghost use Rattle.org_check.specs.Examples.{ExamplesHold};
+ghost use Rattle.org_check.specs.Examples.{ExamplesHold, PrintedExamplesHold};
 ghost use Rattle.org_check.specs.Marked.{AllAreMarked, MarksAreTrue};
 ghost use Rattle.org_check.specs.Unclosed.{UnclosedBlocksDontEnd};
 ghost use Rattle.org_check.specs.UnreadStamps.{UnreadAreFound};
@@ -34,4 +34,9 @@ pub fn these_count_nothing()
 /// What looks like a stamp, lines that look planned, clocks that count nothing, and what is shown of control characters.
 pub fn examples_hold()
     ensures { ExamplesHold }
+{}
+
+/// Which kinds are wanted and count, what is said of a finding, and how it is printed.
+pub fn printed_examples_hold()
+    ensures { PrintedExamplesHold }
 {}

@@ -32,6 +32,7 @@ mod headings;
 mod here;
 mod hidden;
 mod kind;
+mod kind_sentences;
 pub mod laws;
 mod line;
 mod look;

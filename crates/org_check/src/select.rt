@@ -1,9 +1,13 @@
 //! Which findings are wanted.
+ghost use Rattle.std.specs.Prelude.{◌≡◌, [], false, true};
+ghost use Rattle.org_check.specs.Chosen.{counts, counts_any, is_taken, is_wanted};
+ghost use Rattle.org_check.specs.Kinds.{is_among};
 
 use crate::finding::Finding;
 use crate::kind::{ALL_KINDS, Kind};
 use crate::table::Severity;
 use std::alloc::{AllocError, Global};
+use std::marker::Model;
 
 /// Which kinds of findings are wanted: the usual ones, all, or some, without others; and from which severity on they count.
 #[derive(Debug, Drop)]
@@ -14,9 +18,19 @@ pub struct Selection {
     least: Severity,
 }
 
+impl Model for Selection {
+    ghost use Rattle.org_check.specs.Chosen.{Chosen};
+
+    ghost Value = { Chosen };
+
+    ghost view = { λ s. record { named = s.only.items; left_out = s.without.items; all = s.all; least = s.least } };
+}
+
 impl Selection {
     /// The usual kinds.
-    pub fn new(alloc: Global) -> Selection {
+    pub fn new(alloc: Global) -> Selection
+        ensures value { result ≡ record { named = []; left_out = []; all = false; least = Severity.Note } }
+    {
         Selection {
             only: Vec::new(alloc),
             without: Vec::new(alloc),
@@ -26,7 +40,9 @@ impl Selection {
     }
 
     /// All kinds in the place of the usual ones.
-    pub fn take_all(&mut self) {
+    pub fn take_all(&mut self)
+        ensures value { self.new ≡ record self.old { all = true } }
+    {
         self.all = true;
     }
 
@@ -42,22 +58,30 @@ impl Selection {
     }
 
     /// Lets what is less severe count no more. It is wanted all the same.
-    pub fn set_least(&mut self, least: Severity) {
+    pub fn set_least(&mut self, least: Severity)
+        ensures value { self.new ≡ record self.old { least = least } }
+    {
         self.least = least;
     }
 
     /// Whether a kind is wanted.
-    pub fn has(&self, kind: Kind) -> bool {
+    pub fn has(&self, kind: Kind) -> bool
+        ensures value { result ≡ is_wanted self.now kind }
+    {
         !holds(self.without.as_slice(), kind) && self.is_taken(kind)
     }
 
     /// Whether a kind is wanted and counts.
-    pub fn counts(&self, kind: Kind) -> bool {
-        kind.severity() >= self.least && self.has(kind)
+    pub fn counts(&self, kind: Kind) -> bool
+        ensures value { result ≡ counts self.now kind }
+    {
+        self.least.rank() <= kind.severity().rank() && self.has(kind)
     }
 
     /// Whether one of the findings is wanted and counts.
-    pub fn counts_any(&self, findings: &[Finding]) -> bool {
+    pub fn counts_any(&self, findings: &[Finding]) -> bool
+        ensures value { result ≡ counts_any self.now findings.now }
+    {
         for finding in findings {
             if self.counts(finding.kind) {
                 return true;
@@ -66,8 +90,10 @@ impl Selection {
         false
     }
 
-    fn is_taken(&self, kind: Kind) -> bool {
-        if self.only.is_empty() {
+    fn is_taken(&self, kind: Kind) -> bool
+        ensures value { result ≡ is_taken self.now kind }
+    {
+        if self.only.as_slice().is_empty() {
             self.all || kind.is_usual()
         } else {
             holds(self.only.as_slice(), kind)
@@ -75,9 +101,11 @@ impl Selection {
     }
 }
 
-fn holds(kinds: &[Kind], kind: Kind) -> bool {
+fn holds(kinds: &[Kind], kind: Kind) -> bool
+    ensures value { result ≡ is_among kinds.now kind }
+{
     for one in kinds {
-        if *one == kind {
+        if one.name() == kind.name() {
             return true;
         }
     }

@@ -1,4 +1,7 @@
 //! What is said of a kind of findings.
+ghost use Rattle.std.specs.Prelude.{◌≡◌};
+ghost use Rattle.org_check.specs.Kinds.{always, quoting, rare, seen};
+ghost use Rattle.org_check.specs.Chosen.{rank_of, severity_name};
 
 /// How much a finding matters.
 #[derive(Clone, Copy, Debug, PartialEq, Eq, PartialOrd, Ord)]
@@ -13,11 +16,24 @@ pub enum Severity {
 
 impl Severity {
     /// Its name, as compilers write it.
-    pub fn name(self) -> &'static str {
+    pub fn name(self) -> &'static str
+        ensures value { result.now ≡ severity_name self }
+    {
         match self {
             Severity::Note => "note",
             Severity::Warning => "warning",
             Severity::Error => "error",
+        }
+    }
+
+    // The more it matters the higher.
+    pub(crate) fn rank(self) -> u8
+        ensures value { result ≡ rank_of self }
+    {
+        match self {
+            Severity::Note => 0,
+            Severity::Warning => 1,
+            Severity::Error => 2,
         }
     }
 
@@ -48,7 +64,9 @@ pub(crate) struct Entry {
 }
 
 impl Entry {
-    pub(crate) fn error(name: &'static str, sentence: &'static str) -> Entry {
+    pub(crate) fn error(name: &'static str, sentence: &'static str) -> Entry
+        ensures value { seen result ≡ always Severity.Error name.now sentence.now }
+    {
         Entry {
             name,
             severity: Severity::Error,
@@ -58,7 +76,9 @@ impl Entry {
         }
     }
 
-    pub(crate) fn warning(name: &'static str, sentence: &'static str) -> Entry {
+    pub(crate) fn warning(name: &'static str, sentence: &'static str) -> Entry
+        ensures value { seen result ≡ always Severity.Warning name.now sentence.now }
+    {
         let entry = Entry::error(name, sentence);
         Entry {
             severity: Severity::Warning,
@@ -66,7 +86,9 @@ impl Entry {
         }
     }
 
-    pub(crate) fn note(name: &'static str, sentence: &'static str) -> Entry {
+    pub(crate) fn note(name: &'static str, sentence: &'static str) -> Entry
+        ensures value { seen result ≡ always Severity.Note name.now sentence.now }
+    {
         let entry = Entry::error(name, sentence);
         Entry {
             severity: Severity::Note,
@@ -75,7 +97,9 @@ impl Entry {
     }
 
     // The same, not looked for where nothing is said of kinds.
-    pub(crate) fn rare(self) -> Entry {
+    pub(crate) fn rare(self) -> Entry
+        ensures value { seen result ≡ rare (seen self) }
+    {
         Entry {
             is_usual: false,
             ..self
@@ -83,7 +107,9 @@ impl Entry {
     }
 
     // The same, with the text that it is about in front of the sentence.
-    pub(crate) fn with_quote(self) -> Entry {
+    pub(crate) fn with_quote(self) -> Entry
+        ensures value { seen result ≡ quoting (seen self) }
+    {
         Entry {
             quotes: true,
             ..self

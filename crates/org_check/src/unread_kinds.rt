@@ -1,5 +1,8 @@
 //! The kinds of findings that explain a mark: why what looks planned isn't read.
+ghost use Rattle.std.specs.Prelude.{◌≡◌};
+ghost use Rattle.org_check.specs.Kinds.{drawer_entry, minutes_entry, planning_entry, seen, stamp_entry};
 
+use crate::kind_sentences;
 use crate::table::Entry;
 
 /// Why what looks like a timestamp is none.
@@ -17,57 +20,47 @@ pub enum StampKind {
 }
 
 impl StampKind {
-    pub(crate) fn entry(self) -> Entry {
+    pub(crate) fn entry(self) -> Entry
+        ensures value { seen result ≡ stamp_entry self }
+    {
         match self {
-            StampKind::NoSuchDate => {
-                Entry::error(
-                    "no-such-date",
-                    "no timestamp, since there is no such day",
-                ).with_quote()
-            }
+            StampKind::NoSuchDate => Entry::error(
+                "no-such-date",
+                kind_sentences::NO_SUCH_DATE,
+            ).with_quote(),
             StampKind::NoSuchTime => Entry::error(
                 "no-such-time",
-                "no timestamp, since a time is 0:00 to 23:59, as 9:30 or 9:30-11:00",
-            )
-            .with_quote(),
+                kind_sentences::NO_SUCH_TIME,
+            ).with_quote(),
             StampKind::BadRepeater => Entry::error(
                 "bad-repeater",
-                "no timestamp; last stand at most one repeater and one warning, as +1w -3d",
-            )
-            .with_quote(),
+                kind_sentences::BAD_REPEATER,
+            ).with_quote(),
             StampKind::ShortDate => Entry::error(
                 "short-date",
-                "no timestamp, since a date has four, two and two digits, as 2024-02-09",
-            )
-            .with_quote(),
+                kind_sentences::SHORT_DATE,
+            ).with_quote(),
             StampKind::UnclosedStamp => Entry::error(
                 "unclosed-stamp",
-                "no timestamp, since its own bracket doesn't close it in this line",
-            )
-            .with_quote(),
+                kind_sentences::UNCLOSED_STAMP,
+            ).with_quote(),
             StampKind::SpaceInStamp => Entry::error(
                 "space-in-stamp",
-                "no timestamp, since what looks like a space in it is another character, as \
-                 U+00A0; write spaces",
-            )
-            .with_quote(),
+                kind_sentences::SPACE_IN_STAMP,
+            ).with_quote(),
             StampKind::UnreadStamp => Entry::error(
                 "unread-stamp",
-                "no timestamp; after the date come, each optional and in this order, the day's \
-                 name, a time, a repeater and a warning",
-            )
-            .with_quote(),
-            StampKind::UnreadInactiveStamp => {
-                Entry::note("unread-inactive-stamp", "no timestamp")
-                    .rare()
-                    .with_quote()
-            }
-            StampKind::QuotedStamp => Entry::note(
-                "quoted-stamp",
-                "no timestamp, as part of a link, of code or of an example",
+                kind_sentences::UNREAD_STAMP,
+            ).with_quote(),
+            StampKind::UnreadInactiveStamp => Entry::note(
+                "unread-inactive-stamp",
+                kind_sentences::UNREAD_INACTIVE_STAMP,
             )
             .rare()
             .with_quote(),
+            StampKind::QuotedStamp => Entry::note("quoted-stamp", kind_sentences::QUOTED_STAMP)
+                .rare()
+                .with_quote(),
         }
     }
 }
@@ -81,21 +74,22 @@ pub enum PlanningKind {
 }
 
 impl PlanningKind {
-    pub(crate) fn entry(self) -> Entry {
+    pub(crate) fn entry(self) -> Entry
+        ensures value { seen result ≡ planning_entry self }
+    {
         match self {
             PlanningKind::StrayPlanning => Entry::error(
                 "stray-planning",
-                "no planning line, and its stamps show on their days alone",
+                kind_sentences::STRAY_PLANNING,
             ),
             PlanningKind::PlanningWithoutStamp => Entry::error(
                 "planning-without-stamp",
-                "no planning line; after the word comes a timestamp, as <2024-02-09 Fri>",
+                kind_sentences::PLANNING_WITHOUT_STAMP,
             ),
             PlanningKind::PlanningUnread => Entry::note(
                 "planning-unread",
-                "no planning line, since its timestamp is none",
-            )
-            .rare(),
+                kind_sentences::PLANNING_UNREAD,
+            ).rare(),
         }
     }
 }
@@ -109,20 +103,15 @@ pub enum DrawerKind {
 }
 
 impl DrawerKind {
-    pub(crate) fn entry(self) -> Entry {
+    pub(crate) fn entry(self) -> Entry
+        ensures value { seen result ≡ drawer_entry self }
+    {
         match self {
-            DrawerKind::StrayDrawer => Entry::error(
-                "stray-drawer",
-                "none of its properties is read; write it directly under its heading or the \
-                 planning line",
-            ),
-            DrawerKind::DrawerLine => Entry::error(
-                "drawer-line",
-                "no property of the drawer is read, since this line isn't `:NAME: VALUE'",
-            ),
+            DrawerKind::StrayDrawer => Entry::error("stray-drawer", kind_sentences::STRAY_DRAWER),
+            DrawerKind::DrawerLine => Entry::error("drawer-line", kind_sentences::DRAWER_LINE),
             DrawerKind::UnclosedDrawer => Entry::error(
                 "unclosed-drawer",
-                "none of its properties is read, since it has no :END:",
+                kind_sentences::UNCLOSED_DRAWER,
             ),
         }
     }
@@ -138,24 +127,23 @@ pub enum MinutesKind {
 }
 
 impl MinutesKind {
-    pub(crate) fn entry(self) -> Entry {
+    pub(crate) fn entry(self) -> Entry
+        ensures value { seen result ≡ minutes_entry self }
+    {
         match self {
             MinutesKind::RunningClock => Entry::warning(
                 "running-clock",
-                "the clock has run for more than a day, and counts 0 until it has an end",
+                kind_sentences::RUNNING_CLOCK,
             ),
-            MinutesKind::OpenClock => Entry::note(
-                "open-clock",
-                "the clock runs, and counts 0 until it has an end",
-            )
-            .rare(),
+            MinutesKind::OpenClock => Entry::note("open-clock", kind_sentences::OPEN_CLOCK).rare(),
             MinutesKind::ReversedClock => Entry::error(
                 "reversed-clock",
-                "the clock ends before it begins, and counts 0",
+                kind_sentences::REVERSED_CLOCK,
             ),
-            MinutesKind::EmptyClock => {
-                Entry::note("empty-clock", "the clock ends when it begins, and counts 0").rare()
-            }
+            MinutesKind::EmptyClock => Entry::note(
+                "empty-clock",
+                kind_sentences::EMPTY_CLOCK,
+            ).rare(),
         }
     }
 }

@@ -7,7 +7,7 @@ use Rattle.org_entry.specs.declared.entry.Entry.{Entry}
 use Rattle.org_client.specs.Files.{NamedText}
 use Rattle.org_client.specs.HeadingMembers.{title_if, title_of}
 use Rattle.org_client.specs.Members.{MembersView}
-use Rattle.org_client.specs.RowMembers.{file_member, named_member}
+use Rattle.org_client.specs.PlaceMembers.{file_member, named_member}
 use Rattle.std.specs.List.{slice_get}
 
 pub no_file : (only : Option (List ℕ)) (files : List NamedText) (file : ℕ) → length files ≤ file → file_member only files file ≡ []

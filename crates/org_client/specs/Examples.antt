@@ -11,19 +11,38 @@ use Rattle.org_client.specs.EventTimes.{between, date_of, time_of, when_from}
 use Rattle.org_ical.specs.declared.date.When.TheVariants.{At, Day, Days}
 use Rattle.org_ical.specs.declared.rule.Frequency.TheVariants.{Monthly, Yearly}
 use Rattle.org_stamp.specs.declared.stamp.Stamp.{Stamp}
+use Rattle.org_trace.specs.declared.entry.LogEvent.TheVariants.{Clock}
 use Rattle.org_ical.specs.declared.component.Status.TheVariants.{Cancelled, Confirmed}
 use Rattle.org_client.specs.Clocks.{rows_of}
 use Rattle.org_client.specs.Json.{field_text, quoted, texts_member}
+use Rattle.org_client.specs.LogLabels.{log_label}
 use Rattle.org_client.specs.Members.{text_member_of, texts_member_of}
 use Rattle.org_client.specs.Objects.{day_object}
 use Rattle.org_client.specs.Reminders.{starts_between}
 use Rattle.org_client.specs.TitleWords.{words_or, words_text}
+use Rattle.org_client.specs.Urgency.{due_urgency, planned_urgency, urgency_of}
 
 -- a stamp of 2024-02-29 with these hours, and of a range its last day
 abbrev pub stamp_of : Option ℕ → Option ℕ → Option (ℕ × Option ℕ) → Stamp
 stamp_of start end last = record { active = true; day = 738_945; time = start; end_time = end; repeater = None; delay = None; last = last }
 
 pub record ExamplesHold : Type 0 where
+  -- a deadline: more than two weeks ahead, two weeks, on its day, a day late, a week late, a year late
+  pub urgency_far_ahead : due_urgency 100 400 ≡ 240
+  pub urgency_two_weeks : due_urgency 100 114 ≡ 240
+  pub urgency_two_weeks_less_one : due_urgency 100 113 ≡ 285
+  pub urgency_on_its_day : due_urgency 100 100 ≡ 880
+  pub urgency_day_late : due_urgency 100 99 ≡ 925
+  pub urgency_week_late : due_urgency 100 93 ≡ 1200
+  pub urgency_year_late : due_urgency 500 135 ≡ 1200
+  -- a scheduled day counts once it has come
+  pub urgency_planned_today : planned_urgency 100 100 ≡ 500
+  pub urgency_planned_tomorrow : planned_urgency 100 101 ≡ 0
+  -- A, B, C, D
+  pub urgency_most : urgency_of 100 (Some 93) (Some 100) 65 ≡ 2300
+  pub urgency_by_priority : urgency_of 100 None None 66 ≡ 390
+  pub urgency_low_priority : urgency_of 100 None None 67 ≡ 180
+  pub urgency_other_priority : urgency_of 100 None None 68 ≡ 0
   pub feed : quoted (codes "a\nb") ≡ codes "\"a\\u000ab\""
   pub field : field_text (codes "\"a,\r\"") ≡ codes "'a; \""
   pub own_minute : (until : Moment) → starts_between (record { day = 5; minute = 600 }) until 5 (Some 600) ≡ false
@@ -45,6 +64,9 @@ pub record ExamplesHold : Type 0 where
       record { file = 0; heading = 4; number = 0; from = 11_520; to = Some 11_580; minutes = 60 }
       ∷ record { file = 0; heading = 4; number = 1; from = 12_120; to = None; minutes = 0 }
       ∷ []
+  -- an hour from ten past ten on day 10, and a clock that runs
+  pub clocked_label : log_label [] (record { day = 10; time = Some 610; event = Clock (Some 13_630) }) (Clock (Some 13_630)) ≡ codes "Clocked:   (1:00)"
+  pub running_label : log_label [] (record { day = 10; time = Some 610; event = Clock None }) (Clock None) ≡ codes "Clocked:   (-)"
   -- an object's list, and the one value that is asked for
   pub list : texts_member (codes "tags") (codes "a" ∷ codes "b" ∷ []) ≡ codes ",\"tags\":[\"a\",\"b\"]"
   pub no_items : texts_member (codes "tags") [] ≡ codes ",\"tags\":[]"

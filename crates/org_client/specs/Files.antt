@@ -1,23 +1,36 @@
 -- Files under names, and what inheritance looks at in them (Org Syntax, "Headings and Sections").
-use Rattle.std.specs.Prelude.{◌≡◌, ◌≢◌, ◌<◌, ◌≤◌, ◌++◌, ◌∷◌, [], ℕ, List, length, map, take, slice_get, Some, Result, OnOk, String, string_bytes}
+use Rattle.std.specs.Prelude.{◌≡◌, ◌≢◌, ◌-◌, ◌<◌, ◌≤◌, ◌++◌, ◌∷◌, [], ℕ, List, length, map, take, slice_get, Some, Result, OnOk, String, string_bytes}
 use Rattle.std.specs.List.{All}
 use Rattle.org_agenda.specs.Headings.{AllHaveHeads}
+use Rattle.org_base.specs.Spans.{bytes_in}
 use Rattle.org_base.specs.declared.limits.TheConstants.{MOST_FILES}
+use Rattle.org_base.specs.declared.span.Span.{Span}
 use Rattle.org_inherit.specs.Scope.{Scope}
+use Rattle.org_store.specs.Begun.{section_of, section_start}
 use Rattle.org_store.specs.File.{FileView}
 use Rattle.org_store.specs.Outline.{OutlineView, outline_of, scope_in}
 use Rattle.org_sum.specs.Texts.{AreOfText}
 use Rattle.org_text.specs.Replace.{max_bytes}
 
--- a text under a name, and the path by which its file is told from others
+-- a text under a name, the path by which its file is told from others, and how many bytes of the text are the file's own: what
+-- stands behind them was read elsewhere
 pub record NamedText : Type 0 where
   pub name : List ℕ
   pub path : List ℕ
   pub text : List ℕ
+  pub own : ℕ
 
--- the same of strings
-abbrev pub named_text : {A : Type 0} → String A → String A → List ℕ → NamedText
-named_text name path text = record { name = string_bytes name; path = string_bytes path; text = text }
+-- the same of strings, where so many bytes at the end aren't the file's own
+abbrev pub named_text : {A : Type 0} → String A → String A → List ℕ → ℕ → NamedText
+named_text name path text behind = record { name = string_bytes name; path = string_bytes path; text = text; own = length text - behind }
+
+-- the section at a place, as far as it is the file's own
+abbrev pub own_section : NamedText → ℕ → List ℕ
+own_section file section = take (file.own - section_start file.text section) (section_of file.text section)
+
+-- a span of its text is that
+abbrev pub IsOwnSection : NamedText → ℕ → Span → Type 0
+IsOwnSection file section span = bytes_in file.text span ≡ own_section file section
 
 -- this is what a file says
 pub record IsRead (file : FileView) (outline : OutlineView) : Type 0 where
@@ -25,8 +38,8 @@ pub record IsRead (file : FileView) (outline : OutlineView) : Type 0 where
   pub short : length file.text ≤ max_bytes
 
 -- a text under a name after others
-abbrev pub with_file : List NamedText → List ℕ → List ℕ → List ℕ → List NamedText
-with_file files name path text = files ++ record { name = name; path = path; text = text } ∷ []
+abbrev pub with_file : List NamedText → List ℕ → List ℕ → List ℕ → ℕ → List NamedText
+with_file files name path text behind = files ++ record { name = name; path = path; text = text; own = length text - behind } ∷ []
 
 -- no file is of this path
 abbrev pub IsNew : List ℕ → List NamedText → Type 0
@@ -75,5 +88,5 @@ pub record AreFirst (f : NamedText → Scope) (files : List NamedText) (count : 
   pub texts : All (λ (scope : Scope). AreOfText scope.entries) scopes
 
 -- a text under a name is put after the files of a library, unless it's refused
-abbrev pub PutsFile : {T E : Type 0} → Result T E → FileSetView → FileSetView → List ℕ → List ℕ → List ℕ → Type 0
-PutsFile result old new name path text = OnOk result (new.files ≡ with_file old.files name path text)
+abbrev pub PutsFile : {T E A B : Type 0} → Result T E → FileSetView → FileSetView → String A → String B → List ℕ → ℕ → Type 0
+PutsFile result old new name path text behind = OnOk result (new.files ≡ with_file old.files (string_bytes name) (string_bytes path) text behind)

@@ -1,5 +1,6 @@
 -- The lines of bytes, by where lines begin (profile: lines and the bytes of a line count from 1).
 use Rattle.std.specs.Prelude.{◌≡◌, ℕ, ◌+◌, ◌-◌, ◌<◌, ◌≤◌, ◌==◌, ◌^◌, if◌then◌else◌, nat_le, nat_lt, List, [], ◌∷◌, Option, None, Some, get_or, length, slice_get}
+use Rattle.std.specs.Option.{option_map}
 use Rattle.org_client.specs.declared.line_starts.LinePlace.{LinePlace}
 
 -- places rise, from a place on
@@ -47,3 +48,7 @@ line_place_of (Some starts) at = line_place starts at
 -- the same in the file at a place; no text has so many bytes that the second condition fails
 abbrev pub line_place_in : List (List ℕ) → ℕ → ℕ → Option LinePlace
 line_place_in starts file at = if nat_lt at (2 ^ 32) then line_place_of (slice_get starts file) at else None
+
+-- the number of the line of a byte in a file whose lines are known
+abbrev pub line_of : Option (List ℕ) → ℕ → Option ℕ
+line_of starts at = option_map (λ (place : LinePlace). place.line) (line_place_of starts at)

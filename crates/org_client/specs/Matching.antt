@@ -28,6 +28,9 @@ heading_holds_at held file heading = file_holds_at (slice_get held file) heading
 abbrev pub is_of_matching : List (List Bool) → HeadingStamp → Bool
 is_of_matching held stamp = heading_holds_at held stamp.owner.file stamp.owner.heading
 
+abbrev pub is_row_matching : List (List Bool) → Row → Bool
+is_row_matching held row = heading_holds_at held row.file row.heading
+
 -- the expression holds of the heading at a place of the file at a place
 abbrev pub meets : Expr → Moment → List Scope → ℕ → ℕ → Bool
 meets expr moment scopes file heading = heading_holds_at (map (holds_of expr moment) scopes) file heading
@@ -55,3 +58,11 @@ meeting expr moment scopes stamps = filter (of_stamp (meets expr moment scopes))
 abbrev pub matching : List Expr → Moment → List Scope → List HeadingStamp → List HeadingStamp
 matching [] moment scopes stamps = stamps
 matching (expr ∷ exprs) moment scopes stamps = matching exprs moment scopes (meeting expr moment scopes stamps)
+
+-- the same of rows
+abbrev pub met_rows : Expr → Moment → List Scope → List Row → List Row
+met_rows expr moment scopes rows = filter (of_row (meets expr moment scopes)) rows
+
+abbrev pub all_meeting : List Expr → Moment → List Scope → List Row → List Row
+all_meeting [] moment scopes rows = rows
+all_meeting (expr ∷ exprs) moment scopes rows = all_meeting exprs moment scopes (met_rows expr moment scopes rows)

@@ -1,9 +1,10 @@
 -- Rows and days as objects of JSON (RFC 8259; names of members: profile).
 use Rattle.std.specs.Prelude.{ℕ, List, [], ◌∷◌, ◌++◌, Option, None, Some, codes, map}
 use Rattle.org_client.specs.Headings.{by_place}
-use Rattle.org_client.specs.Json.{begun, ended, items_with, object_member, pair_text}
+use Rattle.org_client.specs.Json.{begun, ended, items_with, object_member, pair_text, text_member}
 use Rattle.org_client.specs.Members.{date_member, text_member_of}
 use Rattle.org_client.specs.Report.{ReportView}
+use Rattle.org_client.specs.RowIds.{id_text}
 use Rattle.org_client.specs.RowMembers.{kind_of, members_of}
 use Rattle.org_client.specs.ViewRows.{heading_of}
 use Rattle.org_client.specs.declared.rows.ViewRow.{ViewRow}
@@ -59,14 +60,24 @@ pairs_of_found names h = pairs_text (pairs_of h.inherit.now h.place names)
 abbrev pub with_value : List ℕ → List ℕ → FoundHeading → List ℕ
 with_value pairs name h = with_pair pairs name (value_of h.inherit.now h.place name)
 
+-- the short id of a row's heading; nothing where it has none
+abbrev pub row_id : ReportView → ViewRow → List ℕ
+row_id report row = elim (heading_of row) [ None ↦ [] | Some at ↦ id_text report.ids (record { file = at.0; heading = at.1 }) 0 ]
+
+abbrev pub id_member_of : List ℕ → List ℕ
+id_member_of [] = []
+id_member_of (byte ∷ id) = text_member (codes "id") (byte ∷ id)
+
 -- the value of a row's member of a name, as a person is told it
 abbrev pub member_value : ReportView → ViewRow → List ℕ → List ℕ → List ℕ
 member_value report row text name =
-    text_member_of (Some name) (codes "kind") (kind_of row) ++ members_of (Some name) report row ++ text_member_of (Some name) (codes "text") text
+    text_member_of (Some name) (codes "kind") (kind_of row) ++ members_of (Some name) report row
+    ++ text_member_of (Some name) (codes "id") (row_id report row)
+    ++ text_member_of (Some name) (codes "text") text
 
 -- the object of a row, with the text of its line
 abbrev pub row_object : ReportView → ViewRow → List ℕ → List ℕ
-row_object report row text = begun (kind_of row) ++ members_of None report row ++ properties_at report (heading_of row) ++ ended text
+row_object report row text = begun (kind_of row) ++ members_of None report row ++ properties_at report (heading_of row) ++ id_member_of (row_id report row) ++ ended text
 
 -- the object of a day
 abbrev pub day_object : ℕ → List ℕ → List ℕ

@@ -1,14 +1,15 @@
 -- What the members of a row say (names of members: profile).
-use Rattle.std.specs.Prelude.{ℕ, ◌+◌, ◌-◌, ◌^◌, if◌then◌else◌, min, is_some, List, [], ◌++◌, Option, None, Some, codes, slice_get}
+use Rattle.std.specs.Prelude.{ℕ, ◌+◌, ◌-◌, ◌^◌, if◌then◌else◌, min, is_some, List, [], ◌++◌, Option, None, Some, codes}
 use Rattle.org_agenda.specs.declared.row.Row.{Row}
 use Rattle.org_agenda.specs.declared.row.RowKind.{RowKind}
 use Rattle.org_agenda.specs.declared.row.RowKind.TheVariants.{Listed, OnDay, InRange, OnSchedule, LateSchedule, OnDeadline, Warning, LateDeadline}
-use Rattle.org_client.specs.ClockTexts.{clock_minute_text}
 use Rattle.org_client.specs.Files.{NamedText}
 use Rattle.org_client.specs.HeadingMembers.{heading_members, whole_members}
 use Rattle.org_client.specs.Headings.{by_place}
 use Rattle.org_client.specs.LinePlaces.{line_place_in}
-use Rattle.org_client.specs.Members.{date_member, number_member_of, text_member_of, time_member}
+use Rattle.org_client.specs.Members.{date_member, number_member_of, time_member}
+use Rattle.org_client.specs.LogMembers.{event_name, log_members}
+use Rattle.org_client.specs.PlaceMembers.{file_member, minute_member}
 use Rattle.org_client.specs.Places.{place_in}
 use Rattle.org_client.specs.Report.{ReportView}
 use Rattle.org_client.specs.declared.line_starts.LinePlace.{LinePlace}
@@ -45,6 +46,7 @@ abbrev pub kind_of : ViewRow → List ℕ
 kind_of (view.Row shown) = kind_name shown.row.kind
 kind_of (view.Sum shown) = sum_name shown.row.of
 kind_of (view.Clock shown) = codes "clock"
+kind_of (view.Log row) = event_name row.entry.event
 
 -- the days of a late row or a warning, the numbers of a range
 abbrev pub number_members : Option (List ℕ) → RowKind → ℕ → ℕ → List ℕ
@@ -64,14 +66,6 @@ when_members only shown =
     ++ time_member only (codes "start") shown.row.start
     ++ time_member only (codes "end") shown.row.end
     ++ row_numbers only shown.row
-
--- the name of a file, if it is there
-abbrev pub named_member : Option (List ℕ) → Option NamedText → List ℕ
-named_member only None = []
-named_member only (Some named) = text_member_of only (codes "file") named.name
-
-abbrev pub file_member : Option (List ℕ) → List NamedText → ℕ → List ℕ
-file_member only files file = named_member only (slice_get files file)
 
 -- a place of a file
 abbrev pub line_members : Option (List ℕ) → List NamedText → ℕ → Place → List ℕ
@@ -150,11 +144,6 @@ minutes_members only row = number_member_of only (codes "clock") row.clock ++ nu
 abbrev pub sum_members : Option (List ℕ) → ReportView → ShownSum → List ℕ
 sum_members only report shown = step_members only shown ++ minutes_members only shown.row ++ of_members only report shown.row.of
 
--- a minute as a date and a time, if there is one
-abbrev pub minute_member : Option (List ℕ) → List ℕ → Option ℕ → List ℕ
-minute_member only name None = []
-minute_member only name (Some minute) = text_member_of only name (clock_minute_text minute)
-
 -- a clock line
 abbrev pub clock_members : Option (List ℕ) → ReportView → ShownClock → List ℕ
 clock_members only report shown =
@@ -169,3 +158,4 @@ abbrev pub members_of : Option (List ℕ) → ReportView → ViewRow → List �
 members_of only report (view.Row shown) = row_members only report shown
 members_of only report (view.Sum shown) = sum_members only report shown
 members_of only report (view.Clock shown) = clock_members only report shown
+members_of only report (view.Log row) = log_members only report row

@@ -7,6 +7,7 @@ use Rattle.org_client.specs.Fields.{next_field, row_fields, tags_field}
 use Rattle.org_client.specs.Files.{NamedText}
 use Rattle.org_client.specs.Headings.{by_place}
 use Rattle.org_client.specs.Json.{field_text}
+use Rattle.org_client.specs.LogFields.{log_fields}
 use Rattle.org_client.specs.Places.{place_in}
 use Rattle.org_client.specs.Report.{ReportView}
 use Rattle.org_client.specs.declared.rows.ShownClock.{ShownClock}
@@ -91,3 +92,4 @@ abbrev pub fields_of : ReportView → ViewRow → List ℕ → List ℕ
 fields_of report (view.Row shown) list = row_fields report.scopes shown list
 fields_of report (view.Sum shown) list = sum_fields report shown
 fields_of report (view.Clock shown) list = clock_fields report shown
+fields_of report (view.Log row) list = log_fields report.scopes row

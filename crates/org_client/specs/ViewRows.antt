@@ -16,3 +16,4 @@ abbrev pub heading_of : ViewRow → Option (ℕ × ℕ)
 heading_of (view.Row shown) = Some (shown.row.file, shown.row.heading)
 heading_of (view.Sum shown) = heading_in shown.row.of
 heading_of (view.Clock shown) = Some (shown.row.file, shown.row.heading)
+heading_of (view.Log row) = Some (row.file, row.heading)

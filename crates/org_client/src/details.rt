@@ -113,7 +113,7 @@ fn put_path(alloc: Global, to: &mut Members<'_>, heading: &Heading<'_, '_>) -> R
 }
 
 // The titles of the headings above one, the topmost first.
-fn titles_above(alloc: Global, outline: &Outline, place: usize) -> Result<Texts, Fault>
+pub(crate) fn titles_above(alloc: Global, outline: &Outline, place: usize) -> Result<Texts, Fault>
     requires within { place < length outline.now }
     ensures value { Gives result (titles_above outline.now place) }
 {

@@ -7,6 +7,7 @@ ghost use Rattle.org_client.specs.Json.{field_text};
 ghost use Rattle.org_client.specs.TableFields.{clock_fields, empty_fields, fields_of, line_text, minute_text, name_field, of_fields, place_fields, said_at, said_fields_of, sum_fields};
 
 use crate::clocks::push_clock_minute;
+use crate::log_fields::log_fields;
 use crate::one_line::OneLine;
 use crate::rows::{LoadReport, ShownClock, ShownSum, ViewRow};
 use org_agenda::{Row, RowKind};
@@ -23,7 +24,8 @@ use std::alloc::{AllocError, Global};
 /// keyword, tags, date, time, what stands before the heading, priority, its number, and the day; the kind of a list's rows is
 /// named by the caller. Those of a clock table are the first and the last day of the table, the file, and the line, the level,
 /// the title and the tags of its heading, each of which is empty where it doesn't apply; then the sums of clocks and of
-/// efforts in minutes. Those of a clock line are the same but for efforts, with its beginning and end and its own line.
+/// efforts in minutes. Those of a clock line are the same but for efforts, with its beginning and end and its own line; those of
+/// a log are those of a day.
 pub fn csv_line<T: Text>(
     alloc: Global,
     files: &LoadReport<'_, '_, T>,
@@ -36,6 +38,7 @@ pub fn csv_line<T: Text>(
         ViewRow::Row(shown) => row_fields(alloc, files, shown, list),
         ViewRow::Sum(shown) => sum_fields(alloc, files, shown),
         ViewRow::Clock(shown) => clock_fields(alloc, files, shown),
+        ViewRow::Log(row) => log_fields(alloc, files, row),
     }
 }
 
@@ -224,7 +227,7 @@ fn push_said(alloc: Global, line: &mut OneLine, heading: &Heading<'_, '_>) -> Re
 }
 
 // Appends one field more.
-fn next(line: &mut OneLine, text: &[u8]) -> Result<(), AllocError>
+pub(crate) fn next(line: &mut OneLine, text: &[u8]) -> Result<(), AllocError>
     ensures ok { OnOk result (line.new ≡ line.old ++ next_field text.now) }
 {
     line.push(b',')?;
@@ -246,7 +249,11 @@ fn kind_name(kind: RowKind, list: &str) -> &str
 }
 
 // All tags, with colons between them.
-fn push_tags(alloc: Global, line: &mut OneLine, heading: &Heading<'_, '_>) -> Result<(), Fault>
+pub(crate) fn push_tags(
+    alloc: Global,
+    line: &mut OneLine,
+    heading: &Heading<'_, '_>,
+) -> Result<(), Fault>
     ensures ok { OnOk result (line.new ≡ line.old ++ next_field (heading_tags heading.now)) }
 {
     let tags = heading.tags()?;
@@ -302,7 +309,11 @@ fn spoken_of(shown: &ShownRow) -> Option<Day>
     }
 }
 
-fn push_parts(alloc: Global, line: &mut OneLine, day: Option<Day>) -> Result<(), AllocError>
+pub(crate) fn push_parts(
+    alloc: Global,
+    line: &mut OneLine,
+    day: Option<Day>,
+) -> Result<(), AllocError>
     ensures ok { OnOk result (line.new ≡ line.old ++ next_field (parts_field day)) }
 {
     let Some(day) = day else {
@@ -338,7 +349,7 @@ fn label_of(alloc: Global, row: &Row) -> Result<String, AllocError>
 }
 
 // The priority, and a thousand for each step above C.
-fn push_priority(
+pub(crate) fn push_priority(
     alloc: Global,
     line: &mut OneLine,
     heading: &Heading<'_, '_>,

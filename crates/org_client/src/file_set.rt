@@ -86,7 +86,26 @@ impl<T: Text> FileSet<T> {
     pub fn add(&mut self, name: String, path: String, text: T) -> Result<(), Fault>
         ensures names { self.new.inherited ≡ self.old.inherited }
         ensures err { OnErr result (self.new ≡ self.old) }
-        ensures ok { PutsFile result self.old self.new (string_bytes name) (string_bytes path) (T.content text) }
+        ensures ok { PutsFile result self.old self.new name path (T.content text) 0 }
+        ensures new { OnOk result (IsNew (string_bytes path) self.old.files) }
+        ensures taken { ¬ IsNew (string_bytes path) self.old.files → result ≡ Err (Plain Taken) }
+        ensures full { IsFullFor (string_bytes path) self.old.files → result ≡ Err (Plain Files) }
+        ensures memory { CanAdd (string_bytes path) self.old.files → IsOkUnless result memory_fault }
+    {
+        self.add_behind(name, path, text, 0)
+    }
+
+    /// The same of a text of which so many bytes at its end aren't the file's own, but read behind it.
+    pub fn add_behind(
+        &mut self,
+        name: String,
+        path: String,
+        text: T,
+        behind: usize,
+    ) -> Result<(), Fault>
+        ensures names { self.new.inherited ≡ self.old.inherited }
+        ensures err { OnErr result (self.new ≡ self.old) }
+        ensures ok { PutsFile result self.old self.new name path (T.content text) behind }
         ensures new { OnOk result (IsNew (string_bytes path) self.old.files) }
         ensures taken { ¬ IsNew (string_bytes path) self.old.files → result ≡ Err (Plain Taken) }
         ensures full { IsFullFor (string_bytes path) self.old.files → result ≡ Err (Plain Files) }
@@ -98,7 +117,7 @@ impl<T: Text> FileSet<T> {
         if self.files.len() >= MOST_FILES {
             return Err(Fault::Plain(Code::Files));
         }
-        let file = ReadFile::new(self.alloc, name, path, text)?;
+        let file = ReadFile::new(self.alloc, name, path, text, behind)?;
         self.files.push(file)?;
         Ok(())
     }
@@ -116,6 +135,14 @@ impl<T: Text> FileSet<T> {
             inherits.push(inherit)?;
         }
         Ok(inherits)
+    }
+
+    /// The place of the section of a file that begins with a line; none where no heading stands there.
+    pub fn section_on(&self, file: usize, line: u64) -> Option<usize> {
+        if file >= self.count() {
+            return None;
+        }
+        self.file(file).section_on(line)
     }
 
     /// Where the section at a place of the file at another begins; none where it isn't there.

@@ -4,6 +4,7 @@ ghost use Rattle.org_base.specs.Results.{Gives};
 ghost use Rattle.org_client.specs.Json.{ended};
 ghost use Rattle.org_client.specs.Objects.{day_object, row_object};
 
+use crate::id_member::push_id_member;
 use crate::members::Members;
 use crate::one_line::OneLine;
 use crate::properties::push_properties;
@@ -28,6 +29,7 @@ pub fn json_line<T: Text>(
     put_members(alloc, &mut members, files, row)?;
     let mut line = members.into_line();
     push_properties(alloc, &mut line, files, row)?;
+    push_id_member(alloc, &mut line, files, row)?;
     end(&mut line, text)?;
     Ok(line)
 }
@@ -43,7 +45,8 @@ pub fn day_line(alloc: Global, day: Day, text: &[u8]) -> Result<OneLine, Fault>
     Ok(line)
 }
 
-fn end(line: &mut OneLine, text: &[u8]) -> Result<(), AllocError>
+/// Appends the text of a row's line as the last member of its object.
+pub(crate) fn end(line: &mut OneLine, text: &[u8]) -> Result<(), AllocError>
     ensures ok { OnOk result (line.new ≡ line.old ++ ended text.now) }
 {
     line.text("text", text)?;

@@ -13,7 +13,7 @@ use std::marker::Model;
 const SHORT: usize = 255;
 
 // A heading by its file and place, the words of its title, and what its planning line says.
-#[derive(Debug, Drop)]
+#[derive(Drop)]
 pub(crate) struct KeptHeading {
     file: usize,
     heading: usize,

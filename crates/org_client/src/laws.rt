@@ -2,6 +2,7 @@
 ghost use Rattle.org_client.specs.BarLaws.{BarsFollowSums, LengthsAreNearest, NothingHasNoBar, PartsAddUp};
 ghost use Rattle.org_client.specs.ClockLaws.{ClocksMakeTheTotal};
 ghost use Rattle.org_client.specs.Examples.{ExamplesHold};
+ghost use Rattle.org_client.specs.IdLaws.{IdsStandForWhatWasListed, SumsAreOfPlaced};
 ghost use Rattle.org_client.specs.Laws.{AgendasShowNext, NextIsFirst, NextLiesAhead, NoStampIsMissed, StampsComeOnce};
 ghost use Rattle.org_client.specs.MatchingLaws.{DaysAreFiltered, MatchingMeetsAll, NextIsFiltered};
 ghost use Rattle.org_client.specs.ReminderLaws.{RemindersJoin};
@@ -92,4 +93,15 @@ pub fn parts_add_up()
 /// The minutes of the listed clock lines of some days add up to the total of the clock table of the same days.
 pub fn clocks_make_the_total()
     ensures { ClocksMakeTheTotal }
+{}
+
+/// The sum of a heading of a file is that of what the laws of ids say is summed of it.
+#[tactic(auto, using(crate::proofs::IdLawLemmas::sums_are_of_placed))]
+pub fn sums_are_of_placed()
+    ensures { SumsAreOfPlaced }
+{}
+
+/// An id was printed for a heading: one for which it stands later was meant, whatever became of the files.
+pub fn ids_stand_for_what_was_listed()
+    ensures { IdsStandForWhatWasListed }
 {}

@@ -12,12 +12,14 @@
 //! let inherits = file_set.inherits()?;
 //! // ..
 //! let files = LoadReport::new(alloc, file_set, inherits, properties, has_stamps)?;
-//! let text = answer_bytes(alloc, &files, &answer, look)?;
+//! let files = files.with_ids(ids_of_lines(alloc, file_set, inherits, lines, look)?);
+//! let text = arranged_bytes(alloc, &files, &answer, question, look)?;
 //! ```
 //!
 //! Lines of `orgq/src/session.rt`. Tests: cases `tests/orgq/*`.
 #![tactic(auto)]
 
+mod asked;
 mod bars;
 mod calendar_names;
 mod clock_places;
@@ -27,11 +29,19 @@ mod details;
 mod event_rules;
 mod fields;
 mod file_set;
+mod found;
+mod grouped_lines;
 mod heading_component;
+mod heading_names;
+mod id_member;
 mod json;
 mod kept_headings;
 pub mod laws;
 mod line_starts;
+mod log_fields;
+mod log_labels;
+mod log_members;
+mod logged;
 mod matching;
 mod members;
 mod next;
@@ -39,10 +49,15 @@ mod one_line;
 mod properties;
 mod read_file;
 mod reminders;
+mod row_groups;
+mod row_ids;
 mod row_members;
+mod row_order;
 mod rows;
+mod sections;
 mod template;
 mod titles;
+mod urgency;
 mod when;
 
 pub use bars::{bar_eighths, hundredths, part_lengths};
@@ -52,14 +67,21 @@ pub use clocks::{ClockRow, clock_rows, push_clock_minute};
 pub use components::{CalendarDays, push_events, push_tasks, task_stamps};
 pub use fields::csv_line;
 pub use file_set::FileSet;
+pub use found::{found_line, found_rows, push_first_match};
+pub use grouped_lines::{GroupedText, grouped_json_line, grouped_template_line, push_group_field};
 pub use json::{day_line, json_line};
 pub use kept_headings::KeptHeadings;
 pub use line_starts::{LinePlace, LineStarts};
-pub use matching::matching_stamps;
+pub use log_labels::log_label;
+pub use logged::{LogChoice, log_rows};
+pub use matching::{matching_rows, matching_stamps};
 pub use next::{Upcoming, next_rows};
 pub use one_line::OneLine;
 pub use read_file::ReadFile;
 pub use reminders::{Window, rows_between};
+pub use row_groups::{GroupBy, group_names};
+pub use row_ids::{HeadingAt, RowIds, all_headings};
+pub use row_order::{SortBy, SortKey, ranks_of};
 pub use rows::{LoadReport, ShownClock, ShownSum, ViewRow};
 pub use template::{MEMBERS, Template, template_line};
 pub use when::{date_of, time_of};

@@ -1,11 +1,11 @@
-//! Stamps whose headings meet expressions.
+//! Stamps and rows whose headings meet expressions.
 ghost use Rattle.std.specs.Prelude.{◌≡◌, filter, map, IsOkUnless};
 ghost use Rattle.org_base.specs.Codes.{memory_fault};
 ghost use Rattle.org_base.specs.Results.{Gives, GivesItems};
 ghost use Rattle.org_agenda.specs.Holding.{holds_of};
-ghost use Rattle.org_client.specs.Matching.{holds_at, is_of_matching, matching, meeting};
+ghost use Rattle.org_client.specs.Matching.{all_meeting, heading_holds_at, holds_at, is_of_matching, is_row_matching, matching, meeting, met_rows};
 
-use org_agenda::{HeadingStamp, holds_of};
+use org_agenda::{HeadingStamp, Row, holds_of};
 use org_base::Fault;
 use org_cal::Moment;
 use org_inherit::{Inherit, Inherits};
@@ -49,8 +49,8 @@ fn stamps_meeting(
 }
 
 // Of each entry of a file whether an expression holds.
-#[derive(Debug, Drop)]
-struct HeldFile {
+#[derive(Drop)]
+pub(crate) struct HeldFile {
     held: Vec<bool>,
 }
 
@@ -63,7 +63,7 @@ impl Model for HeldFile {
 }
 
 // Of each entry of each file whether the expression holds of it.
-fn held_files(
+pub(crate) fn held_files(
     alloc: Global,
     inherits: &Inherits<'_>,
     expression: &Match,
@@ -127,13 +127,69 @@ fn stamps_held(
 fn is_held(held: &[HeldFile], stamp: &HeadingStamp) -> bool
     ensures value { result ≡ is_of_matching held.now stamp.now }
 {
-    match held.get(stamp.owner.file) {
-        Some(file) => holds_at(file, stamp.owner.heading),
+    heading_holds_at(held, stamp.owner.file, stamp.owner.heading)
+}
+
+// Whether it holds of the entry at a place of the file at a place.
+fn heading_holds_at(held: &[HeldFile], file: usize, heading: usize) -> bool
+    ensures value { result ≡ heading_holds_at held.now file heading }
+{
+    match held.get(file) {
+        Some(file) => holds_at(file, heading),
         None => false,
     }
 }
 
-fn holds_at(file: &HeldFile, heading: usize) -> bool
+/// Those of some rows whose headings meet each of these expressions at a moment (Org manual 9.6, "Matching tags and
+/// properties"), in their order.
+pub fn matching_rows(
+    alloc: Global,
+    inherits: &Inherits<'_>,
+    rows: Vec<Row>,
+    expressions: &[Match],
+    moment: &Moment,
+) -> Result<Vec<Row>, Fault>
+    ensures value { GivesItems result (all_meeting expressions.now moment.now inherits.now rows.items) }
+    ensures memory { IsOkUnless result memory_fault }
+{
+    let mut some = rows;
+    for expression in expressions {
+        some = rows_meeting(alloc, inherits, some.as_slice(), expression, moment)?;
+    }
+    Ok(some)
+}
+
+// Those of some rows whose headings meet an expression.
+fn rows_meeting(
+    alloc: Global,
+    inherits: &Inherits<'_>,
+    rows: &[Row],
+    expression: &Match,
+    moment: &Moment,
+) -> Result<Vec<Row>, Fault>
+    ensures value { GivesItems result (met_rows expression.now moment.now inherits.now rows.now) }
+    ensures memory { IsOkUnless result memory_fault }
+{
+    let held = held_files(alloc, inherits, expression, moment)?;
+    let some = rows_held(alloc, rows, held.as_slice())?;
+    Ok(some)
+}
+
+// Those of some rows of whose headings it holds.
+fn rows_held(alloc: Global, rows: &[Row], held: &[HeldFile]) -> Result<Vec<Row>, AllocError>
+    ensures value { GivesItems result (filter (is_row_matching held.now) rows.now) }
+{
+    let mut some = Vec::new(alloc);
+    for row in rows {
+        if heading_holds_at(held, row.file, row.heading) {
+            some.push(*row)?;
+        }
+    }
+    Ok(some)
+}
+
+/// Whether it holds of the entry at a place of a file.
+pub(crate) fn holds_at(file: &HeldFile, heading: usize) -> bool
     ensures value { result ≡ holds_at file.now heading }
 {
     match file.held.get(heading) {

@@ -1,10 +1,12 @@
 //! A file that was read.
-ghost use Rattle.std.specs.Prelude.{◌≡◌, IfOk, IsOkUnless};
+ghost use Rattle.std.specs.Prelude.{◌≡◌, ◌+◌, ◌≤◌, [], length, min, None, IfOk, IfSome, IsOkUnless};
 ghost use Rattle.org_agenda.specs.Headings.{HaveHeads};
 ghost use Rattle.org_base.specs.Codes.{memory_fault};
-ghost use Rattle.org_base.specs.Results.{Gives};
-ghost use Rattle.org_client.specs.Files.{named_text, scope_of};
+ghost use Rattle.org_base.specs.Results.{Gives, GivesItems};
+ghost use Rattle.org_base.specs.Spans.{bytes_in};
+ghost use Rattle.org_client.specs.Files.{IsOwnSection, named_text, own_section, scope_of};
 ghost use Rattle.org_lines.specs.Cuts.{lines, starts};
+ghost use Rattle.org_store.specs.Begun.{section_start};
 ghost use Rattle.org_store.specs.Places.{place_at};
 ghost use Rattle.org_sum.specs.Texts.{AreOfText};
 
@@ -12,35 +14,45 @@ use crate::clock_places::clock_places;
 use crate::line_starts::LineStarts;
 use org_base::{Fault, Meter, Span, Texts};
 use org_inherit::Inherit;
+use org_lines::Lines;
 use org_store::{File, ParsedFile, Place};
 use org_text::Text;
 use std::alloc::Global;
 use std::marker::Model;
 
-/// A file under a name, with what it says. Contracts see the name, the path and the text.
+/// A file under a name, with what it says. Contracts see the name, the path, the text and how much of it is the file's own.
 #[derive(Debug, Drop)]
 pub struct ReadFile<T: Text> {
     name: String,
     path: String,
     file: File<T>,
     outline: ParsedFile,
+    // How many bytes at the end of the text aren't the file's own, but read behind it.
+    behind: usize,
 }
 
 impl<T: Text> Model for ReadFile<T> {
-    ghost use Rattle.std.specs.Prelude.{string_bytes};
+    ghost use Rattle.std.specs.Prelude.{◌-◌, length, string_bytes};
     ghost use Rattle.org_client.specs.Files.{IsRead, NamedText};
 
     ghost Value = { NamedText };
 
-    ghost view = { λ f. record { name = string_bytes f.name; path = string_bytes f.path; text = f.file.text } };
+    ghost view = { λ f. record { name = string_bytes f.name; path = string_bytes f.path; text = f.file.text; own = length f.file.text - f.behind } };
 
     ghost invariant = { λ f. IsRead f.file f.outline };
 }
 
 impl<T: Text> ReadFile<T> {
-    /// A text under a name, read, of the file that is told from others by a path.
-    pub fn new(alloc: Global, name: String, path: String, text: T) -> Result<ReadFile<T>, Fault>
-        ensures value { Gives result (named_text name path (T.content text)) }
+    /// A text under a name, read, of the file that is told from others by a path; so many bytes at its end aren't the file's own,
+    /// but read behind it.
+    pub fn new(
+        alloc: Global,
+        name: String,
+        path: String,
+        text: T,
+        behind: usize,
+    ) -> Result<ReadFile<T>, Fault>
+        ensures value { Gives result (named_text name path (T.content text) behind) }
         ensures memory { IsOkUnless result memory_fault }
     {
         // For the proof alone: the text is no longer than texts may be.
@@ -53,6 +65,7 @@ impl<T: Text> ReadFile<T> {
             path,
             file,
             outline,
+            behind,
         })
     }
 
@@ -94,6 +107,12 @@ impl<T: Text> ReadFile<T> {
         self.file.place(heading)
     }
 
+    /// The place of the section that begins with a line; none where no heading stands there.
+    pub fn section_on(&self, line: u64) -> Option<usize> {
+        let place = self.file.begun_by(line)?;
+        Some(place as usize)
+    }
+
     /// Where the lines of the text begin.
     pub fn line_starts(&self, alloc: Global) -> Result<LineStarts, Fault>
         ensures value { Gives result (starts 0 (lines self.now.text)) }
@@ -104,22 +123,68 @@ impl<T: Text> ReadFile<T> {
 
     /// Where the clock lines of the section at a place begin, in order; none past the last section.
     pub fn clock_places(&self, alloc: Global, heading: usize) -> Result<Vec<Place>, Fault> {
-        let text = self.file.text();
-        let Some(begin) = self.place(heading) else {
+        let Some((section, line)) = self.section(heading) else {
             return Ok(Vec::new(alloc));
         };
-        let length = text.len() as u32;
-        let end = match self.place_behind(heading) {
-            Some(next) => next.at.min(length),
-            None => length,
-        };
+        clock_places(alloc, self.file.text(), section, line)
+    }
+
+    /// Where the section at a place stands in the file's own text, and the number of its first line; none past the last section.
+    pub(crate) fn section(&self, heading: usize) -> Option<(Span, u32)>
+        ensures within { IfSome result (λ found. found.0.at + found.0.len ≤ length self.now.text) }
+        ensures own { IfSome result (λ found. IsOwnSection self.now heading found.0) }
+        ensures none { result ≡ None → own_section self.now heading ≡ [] }
+    {
+        let begin = self.place(heading)?;
+        let own = self.file.text().len().saturating_sub(self.behind) as u32;
+        let end = self.end_within(heading, own);
         let at = begin.at.min(end);
-        let section = Span { at, len: end - at };
-        clock_places(alloc, text, section, begin.line)
+        Some((Span { at, len: end - at }, begin.line))
+    }
+
+    /// The file's own text of the section at a place; none past the last section.
+    pub fn own_text(&self, alloc: Global, heading: usize) -> Result<Vec<u8>, Fault>
+        ensures value { GivesItems result (own_section self.now heading) }
+    {
+        match self.section(heading) {
+            Some((section, _)) => bytes_of(alloc, self.file.text(), section),
+            None => Ok(Vec::new(alloc)),
+        }
+    }
+
+    // Where the section at a place ends, no further than the file's own bytes go.
+    fn end_within(&self, heading: usize, own: u32) -> u32
+        requires within { own ≤ length self.now.text }
+        ensures value { result ≡ min (section_start self.now.text (heading + 1)) own }
+    {
+        match self.place_behind(heading) {
+            Some(next) => next.at.min(own),
+            None => own,
+        }
     }
 
     // Where the section behind the one at a place begins.
-    fn place_behind(&self, heading: usize) -> Option<Place> {
-        self.place(heading.checked_add(1)?)
+    fn place_behind(&self, heading: usize) -> Option<Place>
+        ensures value { result ≡ place_at self.now.text (heading + 1) }
+    {
+        // For the proof alone: a text that is no longer than texts may be has no more sections.
+        let _text = self.file.text();
+        match heading.checked_add(1) {
+            Some(next) => self.place(next),
+            None => None,
+        }
     }
+}
+
+// The bytes of a part of a text.
+fn bytes_of<T: Text>(alloc: Global, text: &T, part: Span) -> Result<Vec<u8>, Fault>
+    requires within { part.at + part.len ≤ length (T.content text.now) }
+    ensures value { GivesItems result (bytes_in (T.content text.now) part) }
+{
+    let mut bytes = Vec::new(alloc);
+    for line in Lines::new(alloc, text, part) {
+        let line = line?;
+        bytes.extend_from_slice(line.bytes.as_slice())?;
+    }
+    Ok(bytes)
 }

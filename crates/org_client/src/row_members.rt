@@ -3,11 +3,13 @@ ghost use Rattle.std.specs.Prelude.{◌≡◌};
 ghost use Rattle.org_client.specs.HeadingMembers.{head_members_of, heading_members_of, keyword_members_of, whole_members_of};
 ghost use Rattle.org_client.specs.KeptHeadings.{StandsIn};
 ghost use Rattle.org_client.specs.Members.{Puts};
-ghost use Rattle.org_client.specs.RowMembers.{clock_members, file_member, members_at, kind_name, kind_of, line_members, members_of, minute_member, minutes_members, of_members, place_members, row_members, row_numbers, said_members, stamp_if, stamp_line_in, stamp_members, step_members, sum_members, when_members};
+ghost use Rattle.org_client.specs.PlaceMembers.{file_member, minute_member};
+ghost use Rattle.org_client.specs.RowMembers.{clock_members, members_at, kind_name, kind_of, line_members, members_of, minutes_members, of_members, place_members, row_members, row_numbers, said_members, stamp_if, stamp_line_in, stamp_members, step_members, sum_members, when_members};
 
 use crate::clocks::push_clock_minute;
 use crate::details::put_details;
 use crate::kept_headings::KeptHeadings;
+use crate::log_members::{event_name, put_log};
 use crate::members::Members;
 use crate::rows::{LoadReport, ShownClock, ShownSum, ViewRow};
 use org_agenda::{Row, RowKind};
@@ -31,6 +33,7 @@ pub(crate) fn kind_of(row: &ViewRow) -> &'static str
             Of::Heading(..) => "heading",
         },
         ViewRow::Clock(_) => "clock",
+        ViewRow::Log(row) => event_name(row.entry.event),
     }
 }
 
@@ -63,6 +66,7 @@ pub(crate) fn put_members<T: Text>(
         ViewRow::Row(shown) => put_row(alloc, to, files, shown),
         ViewRow::Sum(shown) => put_sum(to, files, shown),
         ViewRow::Clock(shown) => put_clock(alloc, to, files, shown),
+        ViewRow::Log(row) => put_log(alloc, to, files, row),
     }
 }
 
@@ -136,7 +140,8 @@ fn put_line<T: Text>(
     to.number("byte", u64::from(place.at))
 }
 
-fn put_file<T: Text>(
+/// Puts the name of a file, if it is there.
+pub(crate) fn put_file<T: Text>(
     to: &mut Members<'_>,
     files: &LoadReport<'_, '_, T>,
     file: usize,
@@ -209,8 +214,8 @@ fn put_said<T: Text>(
     Ok(())
 }
 
-// What a heading's line says, and what stands beside it.
-fn put_whole(
+/// Puts what a heading's line says, and what stands beside it.
+pub(crate) fn put_whole(
     alloc: Global,
     to: &mut Members<'_>,
     kept: &KeptHeadings<'_, '_>,
@@ -336,7 +341,8 @@ fn put_clock<T: Text>(
     put_heading_at(to, files, row.file, row.heading)
 }
 
-fn put_minute(
+/// Puts a minute as a date and a time, if there is one.
+pub(crate) fn put_minute(
     alloc: Global,
     to: &mut Members<'_>,
     name: &str,

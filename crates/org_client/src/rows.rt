@@ -2,7 +2,7 @@
 ghost use Rattle.std.specs.Prelude.{◌≡◌, map, slice_get, IsOkUnless};
 ghost use Rattle.org_base.specs.Codes.{memory_fault};
 ghost use Rattle.org_base.specs.Results.{Gives, GivesItems};
-ghost use Rattle.org_client.specs.LinePlaces.{line_place_in, line_place_of};
+ghost use Rattle.org_client.specs.LinePlaces.{line_of, line_place_in, line_place_of};
 ghost use Rattle.org_client.specs.Report.{report_of, starts_of};
 ghost use Rattle.org_client.specs.ViewRows.{heading_of};
 
@@ -10,6 +10,7 @@ use crate::clocks::ClockRow;
 use crate::file_set::FileSet;
 use crate::kept_headings::KeptHeadings;
 use crate::line_starts::{LinePlace, LineStarts};
+use crate::row_ids::RowIds;
 use org_base::{Fault, Texts};
 use org_cal::Day;
 use org_clocktable::{Of, TableRow};
@@ -17,6 +18,7 @@ use org_inherit::Inherits;
 use org_layout::ShownRow;
 use org_store::Place;
 use org_text::Text;
+use org_trace::LogRow;
 use std::alloc::Global;
 use std::marker::Model;
 
@@ -31,6 +33,8 @@ pub struct LoadReport<'a, 'b, T: Text> {
     pub(crate) kept: KeptHeadings<'a, 'b>,
     // Of each file; none where no row needs them.
     starts: Vec<LineStarts>,
+    // The short ids of rows, where they have any.
+    ids: RowIds,
 }
 
 impl<'a, 'b, T: Text> Model for LoadReport<'a, 'b, T> {
@@ -39,7 +43,7 @@ impl<'a, 'b, T: Text> Model for LoadReport<'a, 'b, T> {
 
     ghost Value = { ReportView };
 
-    ghost view = { λ r. record { files = r.file_set.now.files; scopes = r.inherits.now; properties = r.properties; starts = r.starts.items } };
+    ghost view = { λ r. record { files = r.file_set.now.files; scopes = r.inherits.now; properties = r.properties; starts = r.starts.items; ids = r.ids } };
 
     ghost invariant = { λ r. r.kept ≡ r.inherits.now };
 }
@@ -68,7 +72,21 @@ impl<'a, 'b, T: Text> LoadReport<'a, 'b, T> {
             properties,
             kept,
             starts,
+            ids: RowIds::none(alloc),
         })
+    }
+
+    /// The same with short ids of rows.
+    pub fn with_ids(mut self, ids: RowIds) -> LoadReport<'a, 'b, T> {
+        self.ids = ids;
+        self
+    }
+
+    /// The short ids of rows.
+    pub fn ids(&self) -> &RowIds
+        ensures value { result.now ≡ self.now.ids }
+    {
+        &self.ids
     }
 
     // The line of a file's byte, and the byte of that line, where lines are known.
@@ -78,6 +96,16 @@ impl<'a, 'b, T: Text> LoadReport<'a, 'b, T> {
         match u32::try_from(at) {
             Ok(at) => self.place_of(file, at),
             Err(_) => None,
+        }
+    }
+
+    /// The number of the line of a file's byte, where lines are known.
+    pub fn line_of(&self, file: usize, at: u32) -> Option<usize>
+        ensures value { result ≡ line_of (slice_get self.now.starts file) at }
+    {
+        match self.place_of(file, at) {
+            Some(place) => Some(place.line),
+            None => None,
         }
     }
 
@@ -124,6 +152,8 @@ pub enum ViewRow {
     Sum(ShownSum),
     /// A clock line.
     Clock(ShownClock),
+    /// Of a log.
+    Log(LogRow),
 }
 
 impl ViewRow {
@@ -138,6 +168,7 @@ impl ViewRow {
                 Of::All | Of::File(_) => None,
             },
             ViewRow::Clock(shown) => Some((shown.row.file, shown.row.heading)),
+            ViewRow::Log(row) => Some((row.file, row.heading)),
         }
     }
 }

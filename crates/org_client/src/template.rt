@@ -3,6 +3,7 @@ ghost use Rattle.std.specs.Prelude.{◌≡◌};
 ghost use Rattle.org_base.specs.Results.{Gives};
 ghost use Rattle.org_client.specs.Objects.{member_value};
 
+use crate::id_member::id_text;
 use crate::members::Members;
 use crate::one_line::OneLine;
 use crate::row_members::{kind_of, put_members};
@@ -12,7 +13,7 @@ use org_text::Text;
 use std::alloc::Global;
 
 /// The names of the members that rows have, but for `properties`.
-pub const MEMBERS: [&str; 31] = [
+pub const MEMBERS: [&str; 35] = [
     "kind",
     "day",
     "start",
@@ -43,18 +44,22 @@ pub const MEMBERS: [&str; 31] = [
     "to",
     "clock",
     "minutes",
+    "group",
+    "state",
+    "state_before",
+    "id",
     "text",
 ];
 
 /// A line in which a name of a member in braces stands for its value; `{{` and `}}` stand for braces.
 #[derive(Clone, Copy, Debug, PartialEq, Eq)]
 pub struct Template<'a> {
-    text: &'a str,
+    pub(crate) text: &'a str,
 }
 
 // A part of a template.
-#[derive(Clone, Copy, Debug)]
-enum Part<'a> {
+#[derive(Clone, Copy)]
+pub(crate) enum Part<'a> {
     Text(&'a str),
     Name(&'a str),
     // A brace that is alone.
@@ -77,6 +82,29 @@ impl<'a> Template<'a> {
         }
         Some(Template { text })
     }
+
+    /// Whether a member is named.
+    pub fn names(&self, member: &str) -> bool {
+        let mut rest = self.text;
+        for _part in 0..self.text.len() {
+            if rest.is_empty() {
+                return false;
+            }
+            let (part, behind) = first_part(rest);
+            if is_named(part, member) {
+                return true;
+            }
+            rest = behind;
+        }
+        false
+    }
+}
+
+fn is_named(part: Part<'_>, member: &str) -> bool {
+    match part {
+        Part::Name(name) => name == member,
+        Part::Text(_) | Part::Brace => false,
+    }
 }
 
 fn is_known(part: Part<'_>) -> bool {
@@ -88,7 +116,7 @@ fn is_known(part: Part<'_>) -> bool {
 }
 
 // The first part of a text, and what stands behind it; of an empty text it is empty.
-fn first_part(text: &str) -> (Part<'_>, &str) {
+pub(crate) fn first_part(text: &str) -> (Part<'_>, &str) {
     if let Some(behind) = text.strip_prefix("{{") {
         return (Part::Text("{"), behind);
     }
@@ -141,7 +169,7 @@ pub fn template_line<T: Text>(
 }
 
 // The value of a row's member; nothing where the row lacks it.
-fn value_of<T: Text>(
+pub(crate) fn value_of<T: Text>(
     alloc: Global,
     files: &LoadReport<'_, '_, T>,
     row: &ViewRow,
@@ -153,6 +181,8 @@ fn value_of<T: Text>(
     let mut value = Members::of_name(alloc, name);
     value.text("kind", kind_of(row).as_bytes())?;
     put_members(alloc, &mut value, files, row)?;
+    let id = id_text(alloc, files, row)?;
+    value.text("id", id.as_slice())?;
     value.text("text", text)?;
     Ok(value.into_line())
 }

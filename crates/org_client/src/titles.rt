@@ -19,8 +19,8 @@ pub(crate) fn title_words(alloc: Global, title: &[u8]) -> Result<Vec<u8>, AllocE
     }
 }
 
-// A title with a space in place of each active stamp.
-fn beside_stamps(alloc: Global, title: &[u8]) -> Result<Vec<u8>, AllocError>
+/// A title with a space in place of each active stamp.
+pub(crate) fn beside_stamps(alloc: Global, title: &[u8]) -> Result<Vec<u8>, AllocError>
     ensures value { GivesItems result (beside_stamps title.now 0 (stamps_of title.now)) }
 {
     let mut out = Vec::new(alloc);

@@ -16,7 +16,7 @@ use org_text::Text;
 use std::alloc::{AllocError, Global};
 
 /// A chart of days, the minutes of today, and the sums of the month by headings.
-#[derive(Debug, Drop)]
+#[derive(Drop)]
 pub(crate) struct Clocked {
     pub(crate) chart: Chart,
     pub(crate) today: u64,
@@ -39,7 +39,7 @@ pub(crate) fn clocked_of<T: Text>(alloc: Global, seen: &Linked<'_, '_, T>) -> Re
 }
 
 // A chart of days, and the minutes of the last one.
-#[derive(Debug, Drop)]
+#[derive(Drop)]
 pub(crate) struct Charted {
     pub(crate) chart: Chart,
     pub(crate) today: u64,

@@ -19,7 +19,7 @@ use org_text::Text;
 use std::alloc::Global;
 
 /// Today with what is late and due soon, the days that come, and the month.
-#[derive(Debug, Drop)]
+#[derive(Drop)]
 pub(crate) struct Dated {
     pub(crate) here: Here,
     pub(crate) days: Vec<PageDay>,

@@ -12,7 +12,7 @@ use org_text::Text;
 use std::alloc::Global;
 
 /// What a page shows of today.
-#[derive(Debug, Drop)]
+#[derive(Drop)]
 pub(crate) struct Here {
     pub(crate) today: Today,
     pub(crate) late: Vec<PageRow>,

@@ -12,24 +12,26 @@ use crate::tasks::open_groups;
 use crate::words::{date_of, whole_day_words};
 use org_base::Fault;
 use org_cal::push_time;
-use org_client::{FileSet, KeptHeadings};
+use org_client::{FileSet, KeptHeadings, RowIds};
 use org_inherit::Inherits;
 use org_page::{Page, TaskGroup, html};
 use org_text::Text;
 use std::alloc::{AllocError, Global};
 
-/// The page that is asked for over files and what their headings inherit, as one file of HTML.
+/// The page that is asked for over files and what their headings inherit, as one file of HTML. Rows whose headings have short ids
+/// show these behind their places.
 pub fn overview_text<T: Text>(
     alloc: Global,
     file_set: &FileSet<T>,
     inherits: &Inherits<'_>,
+    ids: &RowIds,
     wish: &Wish<'_>,
 ) -> Result<String, Fault>
     requires read { AreRead inherits.now }
     ensures value { GivesPageText result file_set.now.files inherits.now wish.now }
     ensures memory { IsOkUnless result memory_fault }
 {
-    let page = overview(alloc, file_set, inherits, wish)?;
+    let page = overview(alloc, file_set, inherits, ids, wish)?;
     let text = html(alloc, &page)?;
     Ok(text)
 }
@@ -39,6 +41,7 @@ pub fn overview<T: Text>(
     alloc: Global,
     file_set: &FileSet<T>,
     inherits: &Inherits<'_>,
+    ids: &RowIds,
     wish: &Wish<'_>,
 ) -> Result<Page, Fault>
     requires read { AreRead inherits.now }
@@ -50,6 +53,7 @@ pub fn overview<T: Text>(
         files: file_set,
         scopes: inherits,
         titles: &titles,
+        ids,
         wish,
     };
     page_of(alloc, &seen)
@@ -68,7 +72,7 @@ fn page_of<T: Text>(alloc: Global, seen: &Linked<'_, '_, T>) -> Result<Page, Fau
 }
 
 // What a page is called, and what stands at its end.
-#[derive(Debug, Drop)]
+#[derive(Drop)]
 struct Named {
     title: String,
     footer: String,

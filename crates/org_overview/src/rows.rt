@@ -10,7 +10,7 @@ use crate::words::push_name;
 use org_agenda::{Row, RowKind};
 use org_base::{Fault, Texts};
 use org_cal::TimeOfDay;
-use org_client::{FileSet, KeptHeadings, ReadFile};
+use org_client::{FileSet, HeadingAt, KeptHeadings, ReadFile, RowIds};
 use org_inherit::{Heading, Inherits};
 use org_page::{Hours, LinkPlace, Row as PageRow, StampPlace, Stand};
 use org_store::Place;
@@ -21,12 +21,14 @@ use std::str;
 // What stands in place of a path where a text came from standard input.
 const STANDARD_INPUT: &str = "-";
 
-/// Files of which rows are shown, what their headings inherit, the words of their titles, and the page that is asked for.
+/// Files of which rows are shown, what their headings inherit, the words of their titles, the short ids of those that show them, and
+/// the page that is asked for.
 #[derive(Drop)]
 pub(crate) struct Linked<'a, 'b, T: Text> {
     pub(crate) files: &'a FileSet<T>,
     pub(crate) scopes: &'a Inherits<'b>,
     pub(crate) titles: &'a KeptHeadings<'a, 'b>,
+    pub(crate) ids: &'a RowIds,
     pub(crate) wish: &'a Wish<'a>,
 }
 
@@ -72,7 +74,7 @@ pub(crate) fn page_row<T: Text>(
 {
     let place = seen.files.place(row.file, row.heading);
     let mut shown = bare_row(alloc, row, byte_of(place, row.stamp_at));
-    put_place(alloc, &mut shown, seen, row.file, place)?;
+    put_place(alloc, &mut shown, seen, row, place)?;
     put_heading(alloc, &mut shown, seen.titles, row)?;
     Ok(shown)
 }
@@ -142,12 +144,12 @@ fn minutes_of(time: Option<TimeOfDay>) -> Option<u16>
     }
 }
 
-// Puts the name of a row's file with its line, and where its link leads.
+// Puts the name of a row's file with its line and its heading's short id, if it has one, and where its link leads.
 fn put_place<T: Text>(
     alloc: Global,
     shown: &mut PageRow,
     seen: &Linked<'_, '_, T>,
-    file: usize,
+    row: &Row,
     place: Option<Place>,
 ) -> Result<(), AllocError>
     ensures same { OnOk result (shown_mark shown.new ≡ shown_mark shown.old) }
@@ -155,19 +157,34 @@ fn put_place<T: Text>(
     let Some(place) = place else {
         return Ok(());
     };
-    if file >= seen.files.count() {
+    if row.file >= seen.files.count() {
         return Ok(());
     }
-    let file = seen.files.file(file);
+    let file = seen.files.file(row.file);
     let line = place.line;
     push_name(&mut shown.place, file.name())?;
     write!(shown.place, ":{line}")?;
+    push_id(alloc, &mut shown.place, seen.ids, row)?;
     let path = link_path(file);
     shown.link = seen
         .wish
         .template
         .address(alloc, &LinkPlace { path, line })?;
     Ok(())
+}
+
+// Appends the short id of a row's heading behind a sign, if it has one.
+fn push_id(alloc: Global, place: &mut String, ids: &RowIds, row: &Row) -> Result<(), AllocError> {
+    let at = HeadingAt {
+        file: row.file,
+        heading: row.heading,
+    };
+    let mut id = Vec::new(alloc);
+    ids.push(&mut id, at, 0)?;
+    match str::from_utf8(id.as_slice()) {
+        Ok(id) if !id.is_empty() => write!(place, "@{id}"),
+        _ => Ok(()),
+    }
 }
 
 // What a link to a file leads to: its path, or of standard input, which has none, the name that it was given.

@@ -4,6 +4,7 @@ use Rattle.org_page.specs.Characters.{part_text}
 use Rattle.org_page.specs.Links.{encoded}
 use Rattle.org_page.specs.Reader.{read, Marked, Said, Valued}
 use Rattle.org_page.specs.Sums.{blocks_from, column_sum, columns_sum}
+use Rattle.org_page.specs.Values.{duration_bytes, time_bytes}
 use Rattle.org_page.specs.declared.character.Part.TheVariants.{Name, Words}
 
 pub record ExamplesHold : Type 0 where
@@ -24,6 +25,12 @@ pub record ExamplesHold : Type 0 where
   pub scheme : encoded (codes "javascript:1") ≡ codes "javascript%3A1"
   -- 195 182 is an o with two dots
   pub umlaut : encoded (195 ∷ 182 ∷ []) ≡ codes "%C3%B6"
+  -- five past one, and a minute to midnight
+  pub early : time_bytes 65 ≡ codes "01:05"
+  pub late : time_bytes 1439 ≡ codes "23:59"
+  -- five minutes, and a hundred and one hours
+  pub short : duration_bytes 5 ≡ codes "0:05"
+  pub long : duration_bytes 6060 ≡ codes "101:00"
   -- parts of a bar stand upon one another, one of nothing too
   pub blocks : blocks_from 0 (60 ∷ 0 ∷ 30 ∷ []) ≡ record { below = 0; minutes = 60 } ∷ record { below = 60; minutes = 0 } ∷ record { below = 60; minutes = 30 } ∷ []
   -- the second of two files, and both

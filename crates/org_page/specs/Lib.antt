@@ -1,6 +1,7 @@
 pub mod Characters
 pub mod Results
 pub mod Pieces
+pub mod Values
 pub mod Drafts
 pub mod Titles
 pub mod Rows

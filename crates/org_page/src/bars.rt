@@ -1,11 +1,11 @@
 //! Ranges as bars over the days of a week.
 ghost use Rattle.std.specs.Prelude.{◌∷◌, [], ◌<◌};
 ghost use Rattle.org_page.specs.Drafts.{AddsTitles, KeepsTitles};
-ghost use Rattle.org_page.specs.Rows.{row_title, rows_titles};
+ghost use Rattle.org_page.specs.Rows.{row_title};
 
 use crate::coming::put_day_of;
 use crate::day::MonthDay;
-use crate::draft::Lent::{Tag, Text, With};
+use crate::draft::Lent::{Number, Pair, Tag, Text, With};
 use crate::draft::{Draft, with};
 use crate::heading::put_title;
 use crate::row::{Row, StampPlace, Stand, color_class};
@@ -16,7 +16,7 @@ use std::alloc::{AllocError, Global};
 const MOST_LANES: usize = 8;
 
 /// A bar of a week: the stamp of its range, the column in which it begins, and its lane.
-#[derive(Clone, Copy, Debug)]
+#[derive(Clone, Copy)]
 pub(crate) struct Bar {
     stamp: StampPlace,
     first: usize,
@@ -24,7 +24,7 @@ pub(crate) struct Bar {
 }
 
 /// The bars of a week that have lanes.
-#[derive(Debug, Drop)]
+#[derive(Drop)]
 pub(crate) struct Bars {
     list: Vec<Bar>,
 }
@@ -53,7 +53,7 @@ pub(crate) fn bars_of(alloc: Global, days: &[MonthDay]) -> Result<Bars, AllocErr
 }
 
 // A range that begins in a week: its stamp and its columns.
-#[derive(Clone, Copy, Debug)]
+#[derive(Clone, Copy)]
 struct Begun {
     stamp: StampPlace,
     span: Span,
@@ -120,38 +120,13 @@ fn bars_with(alloc: Global, begun: &[Begun], lanes: &[usize]) -> Result<Vec<Bar>
     Ok(bars)
 }
 
-/// Puts the days of ranges of a day, each as a part of its bar, or as a row where that has no lane.
-pub(crate) fn put_ranges(
+/// Puts a day of a range as a part of its bar, or as a row where that has no lane.
+pub(crate) fn put_range(
     draft: &mut Draft,
-    rows: &[Row],
+    row: &Row,
     bars: &Bars,
     column: usize,
 ) -> Result<(), AllocError>
-    ensures titles { AddsTitles result draft.old draft.new (rows_titles rows.now) }
-{
-    if rows.is_empty() {
-        return Ok(());
-    }
-    draft.put(&[With("ul", "class", "bars")])?;
-    put_range_rows(draft, rows, bars, column)?;
-    draft.put(&[Tag("/ul")])
-}
-
-fn put_range_rows(
-    draft: &mut Draft,
-    rows: &[Row],
-    bars: &Bars,
-    column: usize,
-) -> Result<(), AllocError>
-    ensures titles { AddsTitles result draft.old draft.new (rows_titles rows.now) }
-{
-    for row in rows {
-        put_range(draft, row, bars, column)?;
-    }
-    Ok(())
-}
-
-fn put_range(draft: &mut Draft, row: &Row, bars: &Bars, column: usize) -> Result<(), AllocError>
     ensures titles { AddsTitles result draft.old draft.new (row_title row.now ∷ []) }
 {
     let Stand::Range(day, of) = row.stand else {
@@ -222,10 +197,11 @@ fn put_bar_begin(draft: &mut Draft, row: &Row, piece: &Piece) -> Result<(), Allo
     let line = piece.lane.saturating_add(1);
     let days = piece.seen.unwrap_or(1);
     let style = format!(in draft.alloc(); "--row:{line};--days:{days}")?;
-    draft.open(
+    draft.put(&[Pair(
         "li",
-        &[with("class", class.as_str()), with("style", style.as_str())],
-    )
+        with("class", class.as_str()),
+        with("style", style.as_str()),
+    )])
 }
 
 fn put_bar_title(draft: &mut Draft, row: &Row, is_seen: bool) -> Result<(), AllocError>
@@ -245,16 +221,12 @@ fn put_bar_end(draft: &mut Draft, stand: Stand) -> Result<(), AllocError>
     let Stand::Range(day, of) = stand else {
         return draft.put(&[Tag("/li")]);
     };
-    let text = format!(in draft.alloc(); ", day {day} of {of}")?;
-    put_hidden_end(draft, text.as_str())
-}
-
-fn put_hidden_end(draft: &mut Draft, words: &str) -> Result<(), AllocError>
-    ensures titles { KeepsTitles result draft.old draft.new }
-{
     draft.put(&[
         With("span", "class", "hidden"),
-        Text(words),
+        Text(", day "),
+        Number(u64::from(day)),
+        Text(" of "),
+        Number(u64::from(of)),
         Tag("/span"),
         Tag("/li"),
     ])

@@ -35,7 +35,7 @@ pub struct ChartDay {
 }
 
 /// A part of a bar: upon how many minutes it stands, and its own.
-#[derive(Clone, Copy, Debug, PartialEq, Eq)]
+#[derive(Clone, Copy, PartialEq, Eq)]
 pub(crate) struct Block {
     pub(crate) below: u64,
     pub(crate) minutes: u64,

@@ -4,12 +4,11 @@ ghost use Rattle.org_page.specs.Clocked.{of_titles, one_title, sum_titles, sums_
 ghost use Rattle.org_page.specs.Drafts.{AddsTitles, KeepsTitles};
 
 use crate::chart::{Chart, ChartFile, ChartWeek, days_sum, file_sum, file_total, total};
-use crate::draft::Lent::{Tag, Text, With};
-use crate::draft::{Draft, with};
-use crate::heading::duration_text;
-use crate::list::{NUMBER_HEAD, put_number, put_number_head};
+use crate::draft::Lent::{Duration, Number, Pair, Tag, Text, With};
+use crate::draft::{Draft, with, with_property};
+use crate::list::NUMBER_HEAD;
 use crate::plot::put_plot;
-use crate::row::color_class;
+use crate::row::{class_of, color_class};
 use std::alloc::AllocError;
 
 /// Puts a chart with its numbers.
@@ -33,15 +32,11 @@ fn put_chart_head(draft: &mut Draft, chart: &Chart) -> Result<(), AllocError>
         Tag("h3"),
         Text(chart.span.as_str()),
         Text(": "),
-    ])?;
-    let sum = duration_text(draft.alloc(), total(chart.weeks.as_slice()))?;
-    put_total(draft, sum.as_str())
-}
-
-fn put_total(draft: &mut Draft, sum: &str) -> Result<(), AllocError>
-    ensures titles { KeepsTitles result draft.old draft.new }
-{
-    draft.put(&[Text(sum), Text(" hours"), Tag("/h3"), Tag("figure")])
+        Duration(total(chart.weeks.as_slice())),
+        Text(" hours"),
+        Tag("/h3"),
+        Tag("figure"),
+    ])
 }
 
 fn put_legend(draft: &mut Draft, chart: &Chart) -> Result<(), AllocError>
@@ -69,9 +64,9 @@ fn put_legend_item(draft: &mut Draft, file: &ChartFile, minutes: u64) -> Result<
         With("li", "class", color_class(file.color)),
         Text(file.name.as_str()),
         Text(" "),
-    ])?;
-    let sum = duration_text(draft.alloc(), minutes)?;
-    draft.close(sum.as_str(), "/li")
+        Duration(minutes),
+        Tag("/li"),
+    ])
 }
 
 // Puts the numbers of a chart by weeks.
@@ -99,8 +94,8 @@ fn put_numbers_head(draft: &mut Draft, files: &[ChartFile]) -> Result<(), AllocE
         Tag("/th"),
     ])?;
     put_file_heads(draft, files)?;
-    draft.open("th", &NUMBER_HEAD)?;
     draft.put(&[
+        NUMBER_HEAD,
         Text("All"),
         Tag("/th"),
         Tag("/tr"),
@@ -113,7 +108,7 @@ fn put_file_heads(draft: &mut Draft, files: &[ChartFile]) -> Result<(), AllocErr
     ensures titles { KeepsTitles result draft.old draft.new }
 {
     for file in files {
-        put_number_head(draft, file.name.as_str())?;
+        draft.put(&[NUMBER_HEAD, Text(file.name.as_str()), Tag("/th")])?;
     }
     Ok(())
 }
@@ -130,31 +125,38 @@ fn put_weeks(draft: &mut Draft, chart: &Chart) -> Result<(), AllocError>
 fn put_week(draft: &mut Draft, week: &ChartWeek, files: usize) -> Result<(), AllocError>
     ensures titles { KeepsTitles result draft.old draft.new }
 {
+    put_week_name(draft, week.name.as_str())?;
+    put_week_sums(draft, week, files)?;
+    draft.put(&[
+        With("td", "class", "number"),
+        Duration(days_sum(week.days.as_slice())),
+        Tag("/td"),
+        Tag("/tr"),
+    ])
+}
+
+fn put_week_name(draft: &mut Draft, name: &str) -> Result<(), AllocError>
+    ensures titles { KeepsTitles result draft.old draft.new }
+{
     draft.put(&[
         Tag("tr"),
         With("th", "scope", "row"),
-        Text(week.name.as_str()),
+        Text(name),
         Tag("/th"),
-    ])?;
-    put_week_sums(draft, week, files)?;
-    put_sum(draft, days_sum(week.days.as_slice()))?;
-    draft.put(&[Tag("/tr")])
+    ])
 }
 
 fn put_week_sums(draft: &mut Draft, week: &ChartWeek, files: usize) -> Result<(), AllocError>
     ensures titles { KeepsTitles result draft.old draft.new }
 {
     for file in 0..files {
-        put_sum(draft, file_sum(week.days.as_slice(), file))?;
+        draft.put(&[
+            With("td", "class", "number"),
+            Duration(file_sum(week.days.as_slice(), file)),
+            Tag("/td"),
+        ])?;
     }
     Ok(())
-}
-
-fn put_sum(draft: &mut Draft, minutes: u64) -> Result<(), AllocError>
-    ensures titles { KeepsTitles result draft.old draft.new }
-{
-    let sum = duration_text(draft.alloc(), minutes)?;
-    put_number(draft, sum.as_str())
 }
 
 /// What a sum is of: all files, a file by its name, or a heading by its title, its link and its level.
@@ -200,11 +202,10 @@ fn put_sums_head(draft: &mut Draft, title: &str) -> Result<(), AllocError>
         With("table", "class", "list sums"),
         Tag("thead"),
         Tag("tr"),
-    ])?;
-    draft.open("th", &NUMBER_HEAD)?;
-    draft.put(&[Text("Hours"), Tag("/th")])?;
-    draft.open("th", &NUMBER_HEAD)?;
-    draft.put(&[
+        NUMBER_HEAD,
+        Text("Hours"),
+        Tag("/th"),
+        NUMBER_HEAD,
         Text("Part"),
         Tag("/th"),
         With("th", "scope", "col"),
@@ -232,32 +233,45 @@ fn put_sum_row(draft: &mut Draft, row: &Sum) -> Result<(), AllocError>
     ensures titles { AddsTitles result draft.old draft.new (sum_titles row.now) }
 {
     put_sum_begin(draft, row)?;
-    put_sum(draft, row.minutes)?;
-    put_part(draft, row.part)?;
     put_sum_name(draft, &row.of)?;
     put_part_bar(draft, row)
 }
 
+// Puts the cells of a sum's minutes and of its part of the total in hundredths, and begins its name.
 fn put_sum_begin(draft: &mut Draft, row: &Sum) -> Result<(), AllocError>
     ensures titles { KeepsTitles result draft.old draft.new }
 {
-    let color = color_class(row.color);
     let class = match &row.of {
-        SumOf::All => String::from_str(draft.alloc(), "total")?,
-        SumOf::File(_) => format!(in draft.alloc(); "file {color}")?,
-        SumOf::Heading(..) => format!(in draft.alloc(); "heading {color}")?,
+        SumOf::All => "total",
+        SumOf::File(_) => class_of(&FILES, row.color),
+        SumOf::Heading(..) => class_of(&HEADINGS, row.color),
     };
-    draft.open("tr", &[with("class", class.as_str())])
+    draft.put(&[
+        With("tr", "class", class),
+        With("td", "class", "number"),
+        Duration(row.minutes),
+        Tag("/td"),
+        With("td", "class", "number"),
+        Number(u64::from(row.part)),
+        Text(" %"),
+        Tag("/td"),
+        With("td", "class", "name"),
+    ])
 }
 
-// Puts a part of the total in hundredths, and begins the name of a sum.
-fn put_part(draft: &mut Draft, part: u32) -> Result<(), AllocError>
-    ensures titles { KeepsTitles result draft.old draft.new }
-{
-    let text = format!(in draft.alloc(); "{part} %")?;
-    put_number(draft, text.as_str())?;
-    draft.put(&[With("td", "class", "name")])
-}
+// The classes of the files' colors in rows of files, and in rows of headings.
+const FILES: [&str; 6] = [
+    "file c0", "file c1", "file c2", "file c3", "file c4", "file c5",
+];
+
+const HEADINGS: [&str; 6] = [
+    "heading c0",
+    "heading c1",
+    "heading c2",
+    "heading c3",
+    "heading c4",
+    "heading c5",
+];
 
 fn put_sum_name(draft: &mut Draft, of: &SumOf) -> Result<(), AllocError>
     ensures titles { AddsTitles result draft.old draft.new (of_titles of.now) }
@@ -291,23 +305,25 @@ fn put_sum_title(
 fn put_spaces(draft: &mut Draft, level: u32) -> Result<(), AllocError>
     ensures titles { KeepsTitles result draft.old draft.new }
 {
-    let mut spaces = String::new(draft.alloc());
-    for _level in 0..level.min(99) {
-        spaces.push('\u{2003}')?;
-    }
-    draft.words(spaces.as_str())
+    let spaces = "\u{2003}".repeat(draft.alloc(), level.min(99) as usize)?;
+    draft.put(&[Text(spaces.as_str())])
 }
 
 // Ends the name of a sum, and puts the bar of its part of the total.
 fn put_part_bar(draft: &mut Draft, row: &Sum) -> Result<(), AllocError>
     ensures titles { KeepsTitles result draft.old draft.new }
 {
-    let style = format!(in draft.alloc(); "--part:{}", row.part)?;
     let class = if row.minutes > 0 { "some" } else { "none" };
-    draft.put(&[Tag("/td"), With("td", "class", "bar")])?;
-    draft.open(
-        "span",
-        &[with("class", class), with("style", style.as_str())],
-    )?;
-    draft.put(&[Tag("/span"), Tag("/td"), Tag("/tr")])
+    draft.put(&[
+        Tag("/td"),
+        With("td", "class", "bar"),
+        Pair(
+            "span",
+            with("class", class),
+            with_property("--part", u64::from(row.part)),
+        ),
+        Tag("/span"),
+        Tag("/td"),
+        Tag("/tr"),
+    ])
 }

@@ -7,9 +7,10 @@ ghost use Rattle.org_page.specs.Rows.{row_title, rows_titles};
 
 use crate::day::Day;
 use crate::draft::Draft;
-use crate::draft::Lent::{Tag, Text, With};
+use crate::draft::Lent::{Number, Tag, Text, With};
 use crate::heading::{put_heading, put_sign, put_start};
 use crate::row::{Row, Stand, color_class};
+use crate::rows::{Form, put_listed};
 use std::alloc::AllocError;
 
 /// Puts the days that come, each with its rows.
@@ -24,24 +25,18 @@ pub(crate) fn put_coming(draft: &mut Draft, days: &[Day]) -> Result<(), AllocErr
 fn put_coming_head(draft: &mut Draft, count: usize) -> Result<(), AllocError>
     ensures titles { KeepsTitles result draft.old draft.new }
 {
-    let text = if count == 1 {
-        String::from_str(draft.alloc(), "The next day")?
-    } else {
-        format!(in draft.alloc(); "The next {count} days")?
-    };
-    put_coming_begin(draft, text.as_str())
+    draft.put(&[Tag("section"), With("h2", "id", "coming")])?;
+    put_count(draft, count)?;
+    draft.put(&[Tag("/h2"), With("div", "class", "days")])
 }
 
-fn put_coming_begin(draft: &mut Draft, words: &str) -> Result<(), AllocError>
+fn put_count(draft: &mut Draft, count: usize) -> Result<(), AllocError>
     ensures titles { KeepsTitles result draft.old draft.new }
 {
-    draft.put(&[
-        Tag("section"),
-        With("h2", "id", "coming"),
-        Text(words),
-        Tag("/h2"),
-        With("div", "class", "days"),
-    ])
+    if count == 1 {
+        return draft.put(&[Text("The next day")]);
+    }
+    draft.put(&[Text("The next "), Number(count as u64), Text(" days")])
 }
 
 fn put_days(draft: &mut Draft, days: &[Day]) -> Result<(), AllocError>
@@ -56,6 +51,14 @@ fn put_days(draft: &mut Draft, days: &[Day]) -> Result<(), AllocError>
 fn put_day(draft: &mut Draft, day: &Day) -> Result<(), AllocError>
     ensures titles { AddsTitles result draft.old draft.new (day_titles day.now) }
 {
+    put_day_begin(draft, day)?;
+    put_day_rows(draft, day.rows.as_slice())?;
+    draft.put(&[Tag("/section")])
+}
+
+fn put_day_begin(draft: &mut Draft, day: &Day) -> Result<(), AllocError>
+    ensures titles { KeepsTitles result draft.old draft.new }
+{
     draft.put(&[
         Tag("section"),
         Tag("h3"),
@@ -63,9 +66,7 @@ fn put_day(draft: &mut Draft, day: &Day) -> Result<(), AllocError>
         Text(day.name.as_str()),
         Tag("/time"),
         Tag("/h3"),
-    ])?;
-    put_day_rows(draft, day.rows.as_slice())?;
-    draft.put(&[Tag("/section")])
+    ])
 }
 
 fn put_day_rows(draft: &mut Draft, rows: &[Row]) -> Result<(), AllocError>
@@ -74,21 +75,11 @@ fn put_day_rows(draft: &mut Draft, rows: &[Row]) -> Result<(), AllocError>
     if rows.is_empty() {
         return draft.put(&[Tag("p"), Text("nothing"), Tag("/p")]);
     }
-    draft.put(&[Tag("ul")])?;
-    put_rows(draft, rows)?;
-    draft.put(&[Tag("/ul")])
+    put_listed(draft, Tag("ul"), rows, Form::Coming)
 }
 
-fn put_rows(draft: &mut Draft, rows: &[Row]) -> Result<(), AllocError>
-    ensures titles { AddsTitles result draft.old draft.new (rows_titles rows.now) }
-{
-    for row in rows {
-        put_row(draft, row)?;
-    }
-    Ok(())
-}
-
-fn put_row(draft: &mut Draft, row: &Row) -> Result<(), AllocError>
+/// Puts a row of a day that comes.
+pub(crate) fn put_row(draft: &mut Draft, row: &Row) -> Result<(), AllocError>
     ensures titles { AddsTitles result draft.old draft.new (row_title row.now ∷ []) }
 {
     draft.put(&[With("li", "class", color_class(row.color))])?;
@@ -117,19 +108,14 @@ fn put_front(draft: &mut Draft, row: &Row) -> Result<(), AllocError>
 pub(crate) fn put_day_of(draft: &mut Draft, day: u32, of: u32) -> Result<(), AllocError>
     ensures titles { KeepsTitles result draft.old draft.new }
 {
-    let text = format!(in draft.alloc(); "{day}/{of}")?;
-    put_day_sign(draft, text.as_str())
-}
-
-fn put_day_sign(draft: &mut Draft, words: &str) -> Result<(), AllocError>
-    ensures titles { KeepsTitles result draft.old draft.new }
-{
     draft.put(&[
         With("span", "class", "sign"),
         With("span", "class", "hidden"),
         Text("day "),
         Tag("/span"),
-        Text(words),
+        Number(u64::from(day)),
+        Text("/"),
+        Number(u64::from(of)),
         Tag("/span"),
         Text(" "),
     ])

@@ -3,9 +3,8 @@ ghost use Rattle.std.specs.Prelude.{◌≡◌};
 ghost use Rattle.org_page.specs.Drafts.{KeepsTitles};
 ghost use Rattle.org_page.specs.Fronts.{is_page};
 
-use crate::draft::Lent::{Tag, Text, With};
+use crate::draft::Lent::{Number, Pair, Tag, Text, Time, With};
 use crate::draft::{Draft, with};
-use crate::heading::time_text;
 use crate::page::Page;
 use crate::style::STYLE;
 use std::alloc::AllocError;
@@ -26,10 +25,27 @@ pub(crate) fn put_head(draft: &mut Draft, page: &Page) -> Result<(), AllocError>
     ensures titles { KeepsTitles result draft.old draft.new }
 {
     put_metas(draft, page.title.as_str())?;
-    draft.put(&[Text("\n"), Tag("body"), Text("\n")])?;
-    draft.open("a", &[with("class", "skip"), with("href", "#today")])?;
-    draft.put(&[Text("To today"), Tag("/a"), Text("\n")])?;
-    put_header(draft, page)
+    draft.put(&[
+        Text("\n"),
+        Tag("body"),
+        Text("\n"),
+        Pair("a", with("class", "skip"), with("href", "#today")),
+        Text("To today"),
+        Tag("/a"),
+        Text("\n"),
+        Tag("header"),
+        Tag("h1"),
+        Text(page.title.as_str()),
+        Text(" "),
+        Tag("small"),
+        Text("Week "),
+        Number(u64::from(page.week)),
+        Text(", "),
+        Time(page.today.minute),
+        Tag("/small"),
+        Tag("/h1"),
+    ])?;
+    put_parts(draft, !page.late.is_empty())
 }
 
 // What a page may fetch and run: nothing but its own style.
@@ -47,28 +63,23 @@ fn put_metas(draft: &mut Draft, title: &str) -> Result<(), AllocError>
         Text("\n"),
         With("meta", "charset", "utf-8"),
         Text("\n"),
-    ])?;
-    draft.open(
-        "meta",
-        &[with("name", "generator"), with("content", "orgq page")],
-    )?;
-    draft.put(&[Text("\n")])?;
-    draft.open(
-        "meta",
-        &[
+        Pair(
+            "meta",
+            with("name", "generator"),
+            with("content", "orgq page"),
+        ),
+        Text("\n"),
+        Pair(
+            "meta",
             with("name", "viewport"),
             with("content", "width=device-width, initial-scale=1"),
-        ],
-    )?;
-    draft.put(&[Text("\n")])?;
-    draft.open(
-        "meta",
-        &[
+        ),
+        Text("\n"),
+        Pair(
+            "meta",
             with("http-equiv", "Content-Security-Policy"),
             with("content", POLICY),
-        ],
-    )?;
-    draft.put(&[
+        ),
         Text("\n"),
         Tag("title"),
         Text(title),
@@ -81,29 +92,6 @@ fn put_metas(draft: &mut Draft, title: &str) -> Result<(), AllocError>
         Text("\n"),
         Tag("/head"),
     ])
-}
-
-fn put_header(draft: &mut Draft, page: &Page) -> Result<(), AllocError>
-    ensures titles { KeepsTitles result draft.old draft.new }
-{
-    draft.put(&[
-        Tag("header"),
-        Tag("h1"),
-        Text(page.title.as_str()),
-        Text(" "),
-        Tag("small"),
-    ])?;
-    put_week(draft, page.week, page.today.minute)?;
-    put_parts(draft, !page.late.is_empty())
-}
-
-fn put_week(draft: &mut Draft, week: u32, minute: u16) -> Result<(), AllocError>
-    ensures titles { KeepsTitles result draft.old draft.new }
-{
-    let time = time_text(draft.alloc(), minute)?;
-    let text = format!(in draft.alloc(); "Week {week}, {}", time.as_str())?;
-    draft.close(text.as_str(), "/small")?;
-    draft.put(&[Tag("/h1")])
 }
 
 // Puts links to the parts of the page, and begins these.

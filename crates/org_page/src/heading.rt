@@ -3,10 +3,10 @@ ghost use Rattle.std.specs.Prelude.{◌∷◌, []};
 ghost use Rattle.org_page.specs.Drafts.{AddsTitles, KeepsTitles};
 ghost use Rattle.org_page.specs.Rows.{row_title};
 
-use crate::draft::Lent::{Tag, Text, With};
-use crate::draft::{Draft, with};
+use crate::draft::Lent::{Pair, Tag, Text, With};
+use crate::draft::{Draft, time_text, with};
 use crate::row::{Row, Stand};
-use std::alloc::{AllocError, Global};
+use std::alloc::AllocError;
 
 /// Puts a row's keyword, its priority and its title.
 pub(crate) fn put_heading(draft: &mut Draft, row: &Row) -> Result<(), AllocError>
@@ -81,11 +81,8 @@ pub(crate) fn put_sign(draft: &mut Draft, row: &Row) -> Result<(), AllocError>
         (Stand::Planned, true) => ("✓", "planned "),
         _ => return Ok(()),
     };
-    draft.open(
-        "span",
-        &[with("class", "sign"), with("aria-hidden", "true")],
-    )?;
     draft.put(&[
+        Pair("span", with("class", "sign"), with("aria-hidden", "true")),
         Text(sign),
         Tag("/span"),
         Text(" "),
@@ -102,30 +99,14 @@ pub(crate) fn put_start(draft: &mut Draft, row: &Row) -> Result<(), AllocError>
     let Some(hours) = row.time else {
         return Ok(());
     };
-    let start = time_text(draft.alloc(), hours.start)?;
-    put_time(draft, start.as_str())
+    put_time_begin(draft, hours.start)?;
+    draft.put(&[Tag("/time"), Text(" ")])
 }
 
-/// Puts a time of the day with a space behind it.
-pub(crate) fn put_time(draft: &mut Draft, time: &str) -> Result<(), AllocError>
+/// Begins a time with the minute of a day.
+pub(crate) fn put_time_begin(draft: &mut Draft, minute: u16) -> Result<(), AllocError>
     ensures titles { KeepsTitles result draft.old draft.new }
 {
-    draft.put(&[
-        With("time", "datetime", time),
-        Text(time),
-        Tag("/time"),
-        Text(" "),
-    ])
-}
-
-/// Hours and minutes of a day.
-pub(crate) fn time_text(alloc: Global, minute: u16) -> Result<String, AllocError> {
-    let (hour, minute) = (minute / 60, minute % 60);
-    format!(in alloc; "{hour:02}:{minute:02}")
-}
-
-/// A sum of minutes as hours and minutes.
-pub(crate) fn duration_text(alloc: Global, minutes: u64) -> Result<String, AllocError> {
-    let (hours, minutes) = (minutes / 60, minutes % 60);
-    format!(in alloc; "{hours}:{minutes:02}")
+    let time = time_text(draft.alloc(), minute)?;
+    draft.put(&[With("time", "datetime", time.as_str()), Text(time.as_str())])
 }

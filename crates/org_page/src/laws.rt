@@ -51,7 +51,7 @@ pub fn blocks_add_up()
     ensures { BlocksAddUp }
 {}
 
-/// Texts, tags, paths and sums.
+/// Texts, tags, paths, times and sums.
 pub fn examples_hold()
     ensures { ExamplesHold }
 {}

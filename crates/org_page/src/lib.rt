@@ -34,6 +34,7 @@ mod piece;
 mod place;
 mod plot;
 mod row;
+mod rows;
 mod style;
 mod task;
 mod today;

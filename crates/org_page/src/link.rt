@@ -25,7 +25,7 @@ pub struct LinkPlace<'a> {
 }
 
 // A part of a template.
-#[derive(Clone, Copy, Debug)]
+#[derive(Clone, Copy)]
 enum LinkPart<'a> {
     Text(&'a str),
     Name(&'a str),

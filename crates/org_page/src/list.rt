@@ -3,14 +3,15 @@ ghost use Rattle.org_page.specs.Drafts.{AddsTitles, KeepsTitles};
 ghost use Rattle.org_page.specs.Rows.{row_title, rows_titles};
 ghost use Rattle.std.specs.Prelude.{◌∷◌, []};
 
-use crate::draft::Lent::{Tag, Text, With};
-use crate::draft::{Draft, Given};
+use crate::draft::Lent::{Number, Pair, Tag, Text, With};
+use crate::draft::{Draft, Given, Lent, Value};
 use crate::heading::{put_heading, put_tags};
 use crate::row::{Row, Stand};
+use crate::rows::{Form, put_rows};
 use std::alloc::AllocError;
 
 /// Which list of rows of today.
-#[derive(Clone, Copy, Debug, PartialEq, Eq)]
+#[derive(Clone, Copy, PartialEq, Eq)]
 pub(crate) enum List {
     Late,
     Soon,
@@ -34,7 +35,7 @@ pub(crate) fn put_list(draft: &mut Draft, rows: &[Row], list: List) -> Result<()
         return Ok(());
     }
     put_list_head(draft, list)?;
-    put_list_rows(draft, rows)?;
+    put_rows(draft, rows, Form::Table)?;
     draft.put(&[Tag("/tbody"), Tag("/table"), Tag("/section")])
 }
 
@@ -50,9 +51,7 @@ fn put_list_head(draft: &mut Draft, list: List) -> Result<(), AllocError>
         With("table", "class", "list"),
         Tag("thead"),
         Tag("tr"),
-    ])?;
-    draft.open("th", &NUMBER_HEAD)?;
-    draft.put(&[
+        NUMBER_HEAD,
         Text(head),
         Tag("/th"),
         With("th", "scope", "col"),
@@ -67,36 +66,21 @@ fn put_list_head(draft: &mut Draft, list: List) -> Result<(), AllocError>
     ])
 }
 
-/// The attributes of the head of a column of numbers.
-pub(crate) const NUMBER_HEAD: [Given<'static>; 2] = [
+/// The tag of the head of a column of numbers.
+pub(crate) const NUMBER_HEAD: Lent<'static> = Pair(
+    "th",
     Given {
         name: "scope",
-        value: "col",
+        value: Value::Plain("col"),
     },
     Given {
         name: "class",
-        value: "number",
+        value: Value::Plain("number"),
     },
-];
+);
 
-/// Puts the head of a column of numbers.
-pub(crate) fn put_number_head(draft: &mut Draft, words: &str) -> Result<(), AllocError>
-    ensures titles { KeepsTitles result draft.old draft.new }
-{
-    draft.open("th", &NUMBER_HEAD)?;
-    draft.put(&[Text(words), Tag("/th")])
-}
-
-fn put_list_rows(draft: &mut Draft, rows: &[Row]) -> Result<(), AllocError>
-    ensures titles { AddsTitles result draft.old draft.new (rows_titles rows.now) }
-{
-    for row in rows {
-        put_list_row(draft, row)?;
-    }
-    Ok(())
-}
-
-fn put_list_row(draft: &mut Draft, row: &Row) -> Result<(), AllocError>
+/// Puts a row of a table.
+pub(crate) fn put_row(draft: &mut Draft, row: &Row) -> Result<(), AllocError>
     ensures titles { AddsTitles result draft.old draft.new (row_title row.now ∷ []) }
 {
     put_days(draft, row.stand)?;
@@ -113,27 +97,14 @@ fn put_days(draft: &mut Draft, stand: Stand) -> Result<(), AllocError>
         Stand::Late(days) | Stand::Soon(days) => days,
         Stand::Own | Stand::Due | Stand::Planned | Stand::Range(..) => 0,
     };
-    let text = format!(in draft.alloc(); "{days} d.")?;
-    put_row_begin(draft, text.as_str())
-}
-
-fn put_row_begin(draft: &mut Draft, days: &str) -> Result<(), AllocError>
-    ensures titles { KeepsTitles result draft.old draft.new }
-{
     draft.put(&[
         Tag("tr"),
         With("td", "class", "number"),
-        Text(days),
+        Number(u64::from(days)),
+        Text(" d."),
         Tag("/td"),
         Tag("td"),
     ])
-}
-
-/// Puts a cell of a column of numbers.
-pub(crate) fn put_number(draft: &mut Draft, words: &str) -> Result<(), AllocError>
-    ensures titles { KeepsTitles result draft.old draft.new }
-{
-    draft.put(&[With("td", "class", "number"), Text(words), Tag("/td")])
 }
 
 /// Ends a cell, puts one that says where a row's heading stands and leads there, and ends the row.

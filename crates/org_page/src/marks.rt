@@ -1,13 +1,12 @@
 //! The full hours of a day, and the minute that is now.
 ghost use Rattle.org_page.specs.Drafts.{KeepsTitles};
 
-use crate::draft::Lent::{Tag, Text, With};
-use crate::draft::{Draft, with};
-use crate::heading::time_text;
+use crate::draft::Lent::{Open, Pair, Tag, Text, Time, With};
+use crate::draft::{Draft, with, with_property};
 use std::alloc::{AllocError, Global};
 
 /// A mark beside the boxes of a day: of a full hour, or of the minute that is now.
-#[derive(Clone, Copy, Debug, PartialEq, Eq)]
+#[derive(Clone, Copy, PartialEq, Eq)]
 pub(crate) enum Mark {
     Hour(u16),
     Now(u16),
@@ -76,34 +75,25 @@ fn put_mark(draft: &mut Draft, mark: Mark) -> Result<(), AllocError>
 fn put_hour(draft: &mut Draft, minute: u16) -> Result<(), AllocError>
     ensures titles { KeepsTitles result draft.old draft.new }
 {
-    let style = format!(in draft.alloc(); "--from:{minute}")?;
-    let text = time_text(draft.alloc(), minute % MOST)?;
-    draft.open(
-        "li",
-        &[
-            with("class", "hour"),
-            with("style", style.as_str()),
-            with("aria-hidden", "true"),
-        ],
-    )?;
-    draft.close(text.as_str(), "/li")
+    let givens = [
+        with("class", "hour"),
+        with_property("--from", u64::from(minute)),
+        with("aria-hidden", "true"),
+    ];
+    draft.put(&[Open("li", &givens), Time(minute % MOST), Tag("/li")])
 }
 
 fn put_now(draft: &mut Draft, minute: u16) -> Result<(), AllocError>
     ensures titles { KeepsTitles result draft.old draft.new }
 {
-    let style = format!(in draft.alloc(); "--from:{minute}")?;
-    let text = time_text(draft.alloc(), minute)?;
-    draft.open("li", &[with("class", "now"), with("style", style.as_str())])?;
-    put_now_end(draft, text.as_str())
-}
-
-fn put_now_end(draft: &mut Draft, time: &str) -> Result<(), AllocError>
-    ensures titles { KeepsTitles result draft.old draft.new }
-{
     draft.put(&[
+        Pair(
+            "li",
+            with("class", "now"),
+            with_property("--from", u64::from(minute)),
+        ),
         Tag("span"),
-        Text(time),
+        Time(minute),
         With("span", "class", "hidden"),
         Text(" now"),
         Tag("/span"),

@@ -2,14 +2,15 @@
 ghost use Rattle.std.specs.Prelude.{◌∷◌, []};
 ghost use Rattle.org_page.specs.Days.{cell_titles, cells_titles, week_titles, weeks_titles};
 ghost use Rattle.org_page.specs.Drafts.{AddsTitles, KeepsTitles};
-ghost use Rattle.org_page.specs.Rows.{row_title, rows_titles};
+ghost use Rattle.org_page.specs.Rows.{row_title};
 
-use crate::bars::{Bars, LAST_COLUMN, bars_of, put_ranges};
+use crate::bars::{Bars, LAST_COLUMN, bars_of};
 use crate::day::{Month, MonthDay, Week};
-use crate::draft::Lent::{Tag, Text, With};
-use crate::draft::{Draft, with};
+use crate::draft::Lent::{Number, Open, Pair, Tag, Text, With};
+use crate::draft::{Draft, Given, Value, with};
 use crate::heading::{put_sign, put_start, put_title};
 use crate::row::{Row, color_class};
+use crate::rows::{Form, put_listed};
 use std::alloc::AllocError;
 
 /// Puts a month as a table, a row for each week.
@@ -30,17 +31,7 @@ fn put_month_begin(draft: &mut Draft, title: &str) -> Result<(), AllocError>
         With("h2", "id", "month"),
         Text(title),
         Tag("/h2"),
-    ])?;
-    draft.open(
-        "div",
-        &[
-            with("class", "scroll"),
-            with("role", "region"),
-            with("aria-labelledby", "month"),
-            with("tabindex", "0"),
-        ],
-    )?;
-    draft.put(&[
+        Open("div", &SCROLL),
         With("table", "class", "month"),
         With("caption", "class", "hidden"),
         Text(title),
@@ -59,6 +50,26 @@ fn put_month_begin(draft: &mut Draft, title: &str) -> Result<(), AllocError>
         Tag("/th"),
     ])
 }
+
+// The attributes of the part of a page in which a month that is too wide scrolls.
+static SCROLL: [Given<'static>; 4] = [
+    Given {
+        name: "class",
+        value: Value::Plain("scroll"),
+    },
+    Given {
+        name: "role",
+        value: Value::Plain("region"),
+    },
+    Given {
+        name: "aria-labelledby",
+        value: Value::Plain("month"),
+    },
+    Given {
+        name: "tabindex",
+        value: Value::Plain("0"),
+    },
+];
 
 const NAMES: [&str; 7] = [
     "Monday",
@@ -103,25 +114,18 @@ fn put_weeks(draft: &mut Draft, weeks: &[Week]) -> Result<(), AllocError>
 fn put_week(draft: &mut Draft, week: &Week) -> Result<(), AllocError>
     ensures titles { AddsTitles result draft.old draft.new (week_titles week.now) }
 {
-    put_week_number(draft, week.number)?;
-    let bars = bars_of(draft.alloc(), week.days.as_slice())?;
-    put_cells(draft, week.days.as_slice(), &bars)?;
-    draft.put(&[Tag("/tr")])
-}
-
-fn put_week_number(draft: &mut Draft, number: u32) -> Result<(), AllocError>
-    ensures titles { KeepsTitles result draft.old draft.new }
-{
-    let text = format!(in draft.alloc(); "{number}")?;
     draft.put(&[
         Tag("tr"),
         With("th", "scope", "row"),
         With("span", "class", "hidden"),
         Text("Week "),
         Tag("/span"),
-        Text(text.as_str()),
+        Number(u64::from(week.number)),
         Tag("/th"),
-    ])
+    ])?;
+    let bars = bars_of(draft.alloc(), week.days.as_slice())?;
+    put_cells(draft, week.days.as_slice(), &bars)?;
+    draft.put(&[Tag("/tr")])
 }
 
 fn put_cells(draft: &mut Draft, days: &[MonthDay], bars: &Bars) -> Result<(), AllocError>
@@ -139,14 +143,25 @@ fn put_cell(draft: &mut Draft, day: &MonthDay, bars: &Bars, column: usize) -> Re
     ensures titles { AddsTitles result draft.old draft.new (cell_titles day.now) }
 {
     put_cell_begin(draft, day)?;
+    put_date(draft, day)?;
+    put_listed(
+        draft,
+        With("ul", "class", "bars"),
+        day.ranges.as_slice(),
+        Form::Range(bars, column),
+    )?;
+    put_listed(draft, Tag("ul"), day.rows.as_slice(), Form::Month)?;
+    draft.put(&[Tag("/td")])
+}
+
+fn put_date(draft: &mut Draft, day: &MonthDay) -> Result<(), AllocError>
+    ensures titles { KeepsTitles result draft.old draft.new }
+{
     draft.put(&[
         With("time", "datetime", day.date.as_str()),
         Text(day.number.as_str()),
         Tag("/time"),
-    ])?;
-    put_ranges(draft, day.ranges.as_slice(), bars, column)?;
-    put_list(draft, day.rows.as_slice())?;
-    draft.put(&[Tag("/td")])
+    ])
 }
 
 fn put_cell_begin(draft: &mut Draft, day: &MonthDay) -> Result<(), AllocError>
@@ -154,38 +169,20 @@ fn put_cell_begin(draft: &mut Draft, day: &MonthDay) -> Result<(), AllocError>
 {
     let weekend = if day.is_weekend { "weekend " } else { "" };
     let other = if day.is_other { "other " } else { "" };
+    let name = if day.is_today { "today" } else { "day" };
+    let class = format!(in draft.alloc(); "{weekend}{other}{name}")?;
     if day.is_today {
-        let class = format!(in draft.alloc(); "{weekend}{other}today")?;
-        return draft.open(
+        return draft.put(&[Pair(
             "td",
-            &[with("class", class.as_str()), with("aria-current", "date")],
-        );
+            with("class", class.as_str()),
+            with("aria-current", "date"),
+        )]);
     }
-    let class = format!(in draft.alloc(); "{weekend}{other}day")?;
-    draft.open("td", &[with("class", class.as_str())])
+    draft.put(&[With("td", "class", class.as_str())])
 }
 
-fn put_list(draft: &mut Draft, rows: &[Row]) -> Result<(), AllocError>
-    ensures titles { AddsTitles result draft.old draft.new (rows_titles rows.now) }
-{
-    if rows.is_empty() {
-        return Ok(());
-    }
-    draft.put(&[Tag("ul")])?;
-    put_rows(draft, rows)?;
-    draft.put(&[Tag("/ul")])
-}
-
-fn put_rows(draft: &mut Draft, rows: &[Row]) -> Result<(), AllocError>
-    ensures titles { AddsTitles result draft.old draft.new (rows_titles rows.now) }
-{
-    for row in rows {
-        put_row(draft, row)?;
-    }
-    Ok(())
-}
-
-fn put_row(draft: &mut Draft, row: &Row) -> Result<(), AllocError>
+/// Puts a row of a day of a month.
+pub(crate) fn put_row(draft: &mut Draft, row: &Row) -> Result<(), AllocError>
     ensures titles { AddsTitles result draft.old draft.new (row_title row.now ∷ []) }
 {
     draft.put(&[With("li", "class", color_class(row.color))])?;

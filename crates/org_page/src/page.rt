@@ -9,9 +9,8 @@ use crate::clocked::{Sums, put_clocked, put_sums};
 use crate::coming::put_coming;
 use crate::day::{Day, Month, Today};
 use crate::draft::Draft;
-use crate::draft::Lent::{Tag, Text, With};
+use crate::draft::Lent::{Duration, Number, Tag, Text, With};
 use crate::head::{put_end, put_head};
-use crate::heading::duration_text;
 use crate::list::{List, put_list};
 use crate::month::put_month;
 use crate::row::Row;
@@ -86,63 +85,53 @@ fn put_clocks(draft: &mut Draft, page: &Page) -> Result<(), AllocError>
 fn put_counts(draft: &mut Draft, page: &Page) -> Result<(), AllocError>
     ensures titles { KeepsTitles result draft.old draft.new }
 {
-    draft.put(&[With("ul", "class", "counts")])?;
-    put_number(draft, "day", today_count(&page.today), "today")?;
-    put_number(draft, "late", page.late.len(), "late")?;
-    put_number(draft, "soon", page.soon.len(), "due soon")?;
-    put_number(
-        draft,
-        "open",
-        task_count(page.groups.as_slice()),
-        "open tasks",
-    )?;
-    let sum = duration_text(draft.alloc(), page.clocked)?;
-    put_count(draft, "clocked", sum.as_str(), "clocked today")?;
-    draft.put(&[Tag("/ul")])
+    draft.put(&[
+        With("ul", "class", "counts"),
+        With("li", "class", "day"),
+        Tag("b"),
+        Number(today_count(&page.today)),
+        Tag("/b"),
+        Text(" today"),
+        Tag("/li"),
+        With("li", "class", "late"),
+        Tag("b"),
+        Number(page.late.len() as u64),
+        Tag("/b"),
+        Text(" late"),
+        Tag("/li"),
+        With("li", "class", "soon"),
+        Tag("b"),
+        Number(page.soon.len() as u64),
+        Tag("/b"),
+        Text(" due soon"),
+        Tag("/li"),
+        With("li", "class", "open"),
+        Tag("b"),
+        Number(task_count(page.groups.as_slice())),
+        Tag("/b"),
+        Text(" open tasks"),
+        Tag("/li"),
+        With("li", "class", "clocked"),
+        Tag("b"),
+        Duration(page.clocked),
+        Tag("/b"),
+        Text(" clocked today"),
+        Tag("/li"),
+        Tag("/ul"),
+    ])
 }
 
-fn today_count(today: &Today) -> usize {
+fn today_count(today: &Today) -> u64 {
     let whole = today.whole.len();
     whole
         .saturating_add(today.boxes.len())
-        .saturating_add(today.beside.len())
+        .saturating_add(today.beside.len()) as u64
 }
 
-fn task_count(groups: &[TaskGroup]) -> usize {
-    let mut count: usize = 0;
+fn task_count(groups: &[TaskGroup]) -> u64 {
+    let mut count: u64 = 0;
     for group in groups {
-        count = count.saturating_add(group.tasks.len());
+        count = count.saturating_add(group.tasks.len() as u64);
     }
     count
-}
-
-fn put_number(
-    draft: &mut Draft,
-    class: &'static str,
-    number: usize,
-    words: &'static str,
-) -> Result<(), AllocError>
-    ensures titles { KeepsTitles result draft.old draft.new }
-{
-    let text = format!(in draft.alloc(); "{number}")?;
-    put_count(draft, class, text.as_str(), words)
-}
-
-fn put_count(
-    draft: &mut Draft,
-    class: &'static str,
-    number: &str,
-    words: &'static str,
-) -> Result<(), AllocError>
-    ensures titles { KeepsTitles result draft.old draft.new }
-{
-    draft.put(&[
-        With("li", "class", class),
-        Tag("b"),
-        Text(number),
-        Tag("/b"),
-        Text(" "),
-        Text(words),
-        Tag("/li"),
-    ])
 }

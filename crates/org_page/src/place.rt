@@ -1,5 +1,4 @@
 //! Rows with hours in boxes beside one another.
-ghost use Rattle.std.specs.Prelude.{◌≡◌, vec_len};
 ghost use Rattle.org_page.specs.Places.{GivesDealt, GivesDealtUp, PutsRow};
 
 use crate::day::Boxed;
@@ -48,7 +47,7 @@ fn placed_up(alloc: Global, rows: Vec<Row>, spots: &[Spot]) -> Result<Placed, Al
 }
 
 // Where a box stands: its minutes, its lane, and how many lanes there are beside one another.
-#[derive(Clone, Copy, Debug)]
+#[derive(Clone, Copy)]
 struct Spot {
     from: u16,
     to: u16,
@@ -141,9 +140,7 @@ fn set_lanes(spots: &mut Vec<Spot>) {
 }
 
 // The group with a box more, which begins one of its own where the group has ended.
-fn next_group(spots: &mut Vec<Spot>, group: Group, place: usize, spot: Spot) -> Group
-    ensures len { vec_len spots.new ≡ vec_len spots.old }
-{
+fn next_group(spots: &mut Vec<Spot>, group: Group, place: usize, spot: Spot) -> Group {
     if spot.from < group.end {
         return Group {
             place: group.place,
@@ -159,9 +156,7 @@ fn next_group(spots: &mut Vec<Spot>, group: Group, place: usize, spot: Spot) -> 
     }
 }
 
-fn fill(spots: &mut Vec<Spot>, group: Group, end: usize)
-    ensures len { vec_len spots.new ≡ vec_len spots.old }
-{
+fn fill(spots: &mut Vec<Spot>, group: Group, end: usize) {
     for place in group.place..end {
         if place < spots.len() {
             spots[place].lanes = group.lanes;

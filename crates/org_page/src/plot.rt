@@ -2,10 +2,9 @@
 ghost use Rattle.org_page.specs.Drafts.{KeepsTitles};
 
 use crate::chart::{Block, Chart, ChartDay, ChartFile, ChartWeek, blocks_of, most_of_day, sum_of};
-use crate::draft::Lent::{Tag, Text};
-use crate::draft::{Draft, with};
-use crate::heading::duration_text;
-use crate::row::COLORS;
+use crate::draft::Lent::{Duration, Number, Open, Tag, Text};
+use crate::draft::{Draft, Given, Value, with, with_number, with_word};
+use crate::row::class_of;
 use std::alloc::AllocError;
 
 // The columns of a day, those before the first one, the lines above the bars, and those of the longest bar.
@@ -72,18 +71,23 @@ fn put_plot_begin(draft: &mut Draft, span: &str, scale: &Scale) -> Result<(), Al
 {
     let width = scale.width().saturating_add(LEFT + 4);
     let height = TOP + HEIGHT + 22;
-    let room = format!(in draft.alloc(); "0 0 {width} {height}")?;
     let said = format!(in draft.alloc();
         "Hours by day, stacked by file, {span}. The table below has the numbers."
     )?;
-    draft.open(
-        "svg",
-        &[
-            with("viewBox", room.as_str()),
-            with("role", "img"),
-            with("aria-label", said.as_str()),
-        ],
-    )
+    let givens = [
+        view_box(width, height),
+        with("role", "img"),
+        with("aria-label", said.as_str()),
+    ];
+    draft.put(&[Open("svg", &givens)])
+}
+
+// The area that an image shows, by its width and its height.
+fn view_box<'a>(width: u64, height: u64) -> Given<'a> {
+    Given {
+        name: "viewBox",
+        value: Value::Area(width, height),
+    }
 }
 
 fn put_lines(draft: &mut Draft, scale: &Scale) -> Result<(), AllocError>
@@ -114,8 +118,8 @@ fn put_line(draft: &mut Draft, scale: &Scale, hour: u64) -> Result<(), AllocErro
             y2: y,
         },
     )?;
-    let text = format!(in draft.alloc(); "{hour} h")?;
-    put_text(draft, LEFT - 6, y.saturating_add(4), "end", text.as_str())
+    put_text_begin(draft, LEFT - 6, y.saturating_add(4), "end")?;
+    draft.put(&[Number(hour), Text(" h"), Tag("/text")])
 }
 
 // A straight line.
@@ -127,48 +131,28 @@ struct Rule {
     y2: u64,
 }
 
-fn put_rule(draft: &mut Draft, class: &str, rule: Rule) -> Result<(), AllocError>
+fn put_rule(draft: &mut Draft, class: &'static str, rule: Rule) -> Result<(), AllocError>
     ensures titles { KeepsTitles result draft.old draft.new }
 {
-    let class = String::from_str(draft.alloc(), class)?;
-    let x1 = format!(in draft.alloc(); "{}", rule.x1)?;
-    let x2 = format!(in draft.alloc(); "{}", rule.x2)?;
-    let y1 = format!(in draft.alloc(); "{}", rule.y1)?;
-    let y2 = format!(in draft.alloc(); "{}", rule.y2)?;
-    draft.open(
-        "line",
-        &[
-            with("class", class.as_str()),
-            with("x1", x1.as_str()),
-            with("x2", x2.as_str()),
-            with("y1", y1.as_str()),
-            with("y2", y2.as_str()),
-        ],
-    )?;
-    draft.put(&[Tag("/line")])
+    let givens = [
+        with_word("class", class),
+        with_number("x1", rule.x1),
+        with_number("x2", rule.x2),
+        with_number("y1", rule.y1),
+        with_number("y2", rule.y2),
+    ];
+    draft.put(&[Open("line", &givens), Tag("/line")])
 }
 
-fn put_text(draft: &mut Draft, x: u64, y: u64, anchor: &str, words: &str) -> Result<(), AllocError>
+fn put_text_begin(draft: &mut Draft, x: u64, y: u64, anchor: &'static str) -> Result<(), AllocError>
     ensures titles { KeepsTitles result draft.old draft.new }
 {
-    put_text_begin(draft, x, y, anchor)?;
-    draft.put(&[Text(words), Tag("/text")])
-}
-
-fn put_text_begin(draft: &mut Draft, x: u64, y: u64, anchor: &str) -> Result<(), AllocError>
-    ensures titles { KeepsTitles result draft.old draft.new }
-{
-    let anchor = String::from_str(draft.alloc(), anchor)?;
-    let x = format!(in draft.alloc(); "{x}")?;
-    let y = format!(in draft.alloc(); "{y}")?;
-    draft.open(
-        "text",
-        &[
-            with("x", x.as_str()),
-            with("y", y.as_str()),
-            with("text-anchor", anchor.as_str()),
-        ],
-    )
+    let givens = [
+        with_number("x", x),
+        with_number("y", y),
+        with_word("text-anchor", anchor),
+    ];
+    draft.put(&[Open("text", &givens)])
 }
 
 fn put_labels(draft: &mut Draft, weeks: &[ChartWeek]) -> Result<(), AllocError>
@@ -195,32 +179,23 @@ fn put_label(draft: &mut Draft, label: &str, x: u64) -> Result<(), AllocError>
             y2: TOP + HEIGHT + 16,
         },
     )?;
-    put_text(
-        draft,
-        x.saturating_add(4),
-        TOP + HEIGHT + 14,
-        "start",
-        label,
-    )
+    put_text_begin(draft, x.saturating_add(4), TOP + HEIGHT + 14, "start")?;
+    draft.put(&[Text(label), Tag("/text")])
 }
 
 // Begins the bars, whose unit is a minute.
 fn put_bars_begin(draft: &mut Draft, scale: &Scale) -> Result<(), AllocError>
     ensures titles { KeepsTitles result draft.old draft.new }
 {
-    let width = format!(in draft.alloc(); "{}", scale.width())?;
-    let room = format!(in draft.alloc(); "0 0 {} {}", scale.width(), scale.minutes())?;
-    draft.open(
-        "svg",
-        &[
-            with("x", "30"),
-            with("y", "8"),
-            with("width", width.as_str()),
-            with("height", "170"),
-            with("viewBox", room.as_str()),
-            with("preserveAspectRatio", "none"),
-        ],
-    )
+    let givens = [
+        with_number("x", LEFT),
+        with_number("y", TOP),
+        with_number("width", scale.width()),
+        with_number("height", HEIGHT),
+        view_box(scale.width(), scale.minutes()),
+        with("preserveAspectRatio", "none"),
+    ];
+    draft.put(&[Open("svg", &givens)])
 }
 
 fn put_weeks(draft: &mut Draft, chart: &Chart, scale: &Scale) -> Result<(), AllocError>
@@ -307,12 +282,21 @@ fn put_block(
     ensures titles { KeepsTitles result draft.old draft.new }
 {
     put_rect(draft, block, file.color, spot)?;
-    draft.put(&[Tag("title")])?;
-    draft.words(spot.day)?;
-    draft.put(&[Text(": "), Text(file.name.as_str()), Text(" ")])?;
-    let sum = duration_text(draft.alloc(), block.minutes)?;
-    draft.close(sum.as_str(), "/title")?;
-    draft.put(&[Tag("/rect")])
+    put_block_day(draft, spot.day)?;
+    draft.put(&[
+        Text(file.name.as_str()),
+        Text(" "),
+        Duration(block.minutes),
+        Tag("/title"),
+        Tag("/rect"),
+    ])
+}
+
+// Begins the title of a part of a bar with the name of its day.
+fn put_block_day(draft: &mut Draft, day: &str) -> Result<(), AllocError>
+    ensures titles { KeepsTitles result draft.old draft.new }
+{
+    draft.put(&[Tag("title"), Text(day), Text(": ")])
 }
 
 fn put_rect(
@@ -324,19 +308,14 @@ fn put_rect(
     ensures titles { KeepsTitles result draft.old draft.new }
 {
     let above = spot.top.saturating_sub(block.below);
-    let x = format!(in draft.alloc(); "{}", spot.x)?;
-    let y = format!(in draft.alloc(); "{}", above.saturating_sub(block.minutes))?;
-    let height = format!(in draft.alloc(); "{}", block.minutes)?;
-    draft.open(
-        "rect",
-        &[
-            with("class", FILLS[color % COLORS.len()]),
-            with("x", x.as_str()),
-            with("y", y.as_str()),
-            with("width", "10"),
-            with("height", height.as_str()),
-        ],
-    )
+    let givens = [
+        with_word("class", class_of(&FILLS, color)),
+        with_number("x", spot.x),
+        with_number("y", above.saturating_sub(block.minutes)),
+        with_number("width", 10),
+        with_number("height", block.minutes),
+    ];
+    draft.put(&[Open("rect", &givens)])
 }
 
 // The classes of the files' colors as fillings.

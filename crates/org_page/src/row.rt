@@ -50,7 +50,12 @@ pub struct Row {
 
 /// The class of a file's color.
 pub(crate) fn color_class(color: usize) -> &'static str {
-    COLORS[color % COLORS.len()]
+    class_of(&COLORS, color)
+}
+
+/// The class of a color, from those of all colors.
+pub(crate) fn class_of(classes: &[&'static str; 6], color: usize) -> &'static str {
+    classes[color % classes.len()]
 }
 
 /// How many colors files have; from the next file on they come again.

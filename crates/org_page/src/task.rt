@@ -5,7 +5,7 @@ ghost use Rattle.org_page.specs.Rows.{row_title};
 ghost use Rattle.org_page.specs.Tasks.{groups_titles, tasks_titles};
 
 use crate::draft::Draft;
-use crate::draft::Lent::{Tag, Text, With};
+use crate::draft::Lent::{Number, Tag, Text, With};
 use crate::heading::{put_tags, put_title};
 use crate::list::put_row_end;
 use crate::row::Row;
@@ -73,17 +73,8 @@ fn put_group_begin(draft: &mut Draft, keyword: &str, count: usize) -> Result<(),
         Tag("b"),
         Text(keyword),
         Tag("/b"),
-    ])?;
-    let text = format!(in draft.alloc(); ", {count}")?;
-    put_heads(draft, text.as_str())
-}
-
-// Ends the name of a group, and puts the heads of its columns.
-fn put_heads(draft: &mut Draft, count: &str) -> Result<(), AllocError>
-    ensures titles { KeepsTitles result draft.old draft.new }
-{
-    draft.put(&[
-        Text(count),
+        Text(", "),
+        Number(count as u64),
         Tag("/caption"),
         Tag("thead"),
         Tag("tr"),
@@ -141,20 +132,16 @@ fn put_due(draft: &mut Draft, due: &Option<Due>) -> Result<(), AllocError>
     ensures titles { KeepsTitles result draft.old draft.new }
 {
     match due {
-        Some(due) => put_due_date(draft, due),
+        Some(due) => {
+            let class = if due.is_late { "where late" } else { "where" };
+            draft.put(&[
+                Tag("/td"),
+                With("td", "class", class),
+                With("time", "datetime", due.date.as_str()),
+                Text(due.name.as_str()),
+                Tag("/time"),
+            ])
+        }
         None => draft.put(&[Tag("/td"), Tag("td")]),
     }
-}
-
-fn put_due_date(draft: &mut Draft, due: &Due) -> Result<(), AllocError>
-    ensures titles { KeepsTitles result draft.old draft.new }
-{
-    let class = if due.is_late { "where late" } else { "where" };
-    draft.put(&[
-        Tag("/td"),
-        With("td", "class", class),
-        With("time", "datetime", due.date.as_str()),
-        Text(due.name.as_str()),
-        Tag("/time"),
-    ])
 }

@@ -6,11 +6,12 @@ ghost use Rattle.org_page.specs.Rows.{row_title, rows_titles};
 
 use crate::coming::put_day_of;
 use crate::day::{Boxed, Today};
-use crate::draft::Lent::{Tag, Text, With};
-use crate::draft::{Draft, with};
-use crate::heading::{put_heading, put_sign, put_start, put_time, time_text};
+use crate::draft::Lent::{Open, Pair, Tag, Text, Time, With};
+use crate::draft::{Draft, Given, Value, with, with_word};
+use crate::heading::{put_heading, put_sign, put_start, put_time_begin};
 use crate::marks::{Mark, marks_of, put_marks};
-use crate::row::{Hours, Row, Stand, color_class};
+use crate::row::{Row, Stand, class_of, color_class};
+use crate::rows::{Form, put_listed};
 use std::alloc::AllocError;
 
 /// Puts today: rows without hours above, the others by their hours.
@@ -23,34 +24,22 @@ pub(crate) fn put_today(draft: &mut Draft, today: &Today) -> Result<(), AllocErr
         Text("Today"),
         Tag("/h2"),
     ])?;
-    put_list(draft, today.whole.as_slice(), "All day")?;
+    put_whole(draft, today.whole.as_slice(), "All day")?;
     put_day(draft, today)?;
-    put_list(draft, today.beside.as_slice(), "Beside these")?;
+    put_whole(draft, today.beside.as_slice(), "Beside these")?;
     draft.put(&[Tag("/section")])
 }
 
 // Puts rows one below the other, if there are any.
-fn put_list(draft: &mut Draft, rows: &[Row], name: &str) -> Result<(), AllocError>
+fn put_whole(draft: &mut Draft, rows: &[Row], name: &str) -> Result<(), AllocError>
     ensures titles { AddsTitles result draft.old draft.new (rows_titles rows.now) }
 {
-    if rows.is_empty() {
-        return Ok(());
-    }
-    draft.open("ul", &[with("class", "whole"), with("aria-label", name)])?;
-    put_rows(draft, rows)?;
-    draft.put(&[Tag("/ul")])
+    let begin = Pair("ul", with("class", "whole"), with("aria-label", name));
+    put_listed(draft, begin, rows, Form::Today)
 }
 
-fn put_rows(draft: &mut Draft, rows: &[Row]) -> Result<(), AllocError>
-    ensures titles { AddsTitles result draft.old draft.new (rows_titles rows.now) }
-{
-    for row in rows {
-        put_row(draft, row)?;
-    }
-    Ok(())
-}
-
-fn put_row(draft: &mut Draft, row: &Row) -> Result<(), AllocError>
+/// Puts a row of today that has no box.
+pub(crate) fn put_row(draft: &mut Draft, row: &Row) -> Result<(), AllocError>
     ensures titles { AddsTitles result draft.old draft.new (row_title row.now ∷ []) }
 {
     draft.put(&[With("li", "class", color_class(row.color))])?;
@@ -75,49 +64,73 @@ fn put_day(draft: &mut Draft, today: &Today) -> Result<(), AllocError>
     ensures titles { AddsTitles result draft.old draft.new (boxes_titles today.now.boxes.items) }
 {
     let boxes = today.boxes.as_slice();
-    let first = first_hour(boxes);
-    let last = last_hour(boxes);
-    put_day_begin(draft, first, last, most_lanes(boxes))?;
-    let marks = marks_of(draft.alloc(), first, last, today.minute)?;
+    let frame = Frame::of(boxes);
+    put_day_begin(draft, &frame)?;
+    let marks = marks_of(draft.alloc(), frame.first, frame.last, today.minute)?;
     put_boxes(draft, boxes, marks.as_slice())?;
     draft.put(&[Tag("/ol"), Tag("/div")])
 }
 
-fn put_day_begin(draft: &mut Draft, first: u16, last: u16, lanes: usize) -> Result<(), AllocError>
+fn put_day_begin(draft: &mut Draft, frame: &Frame) -> Result<(), AllocError>
     ensures titles { KeepsTitles result draft.old draft.new }
 {
+    let (first, last, lanes) = (frame.first, frame.last, frame.lanes);
     let style = format!(in draft.alloc(); "--first:{first};--last:{last};--most:{lanes}")?;
-    draft.open(
-        "div",
-        &[
-            with("class", "scroll"),
-            with("role", "region"),
-            with("aria-label", "Today by its hours"),
-            with("tabindex", "0"),
-        ],
-    )?;
-    draft.open(
-        "ol",
-        &[with("class", "hours"), with("style", style.as_str())],
-    )
+    draft.put(&[
+        Open("div", &SCROLL),
+        Pair("ol", with("class", "hours"), with("style", style.as_str())),
+    ])
 }
 
-// The minute of the full hour at which the hours begin: at 8 o'clock, or where the first box does.
-fn first_hour(boxes: &[Boxed]) -> u16 {
-    let mut first = FIRST;
-    for boxed in boxes {
-        first = first.min(boxed.from);
-    }
-    first / 60 * 60
+// The attributes of the part of a page in which a day with many lanes scrolls.
+static SCROLL: [Given<'static>; 4] = [
+    Given {
+        name: "class",
+        value: Value::Plain("scroll"),
+    },
+    Given {
+        name: "role",
+        value: Value::Plain("region"),
+    },
+    Given {
+        name: "aria-label",
+        value: Value::Plain("Today by its hours"),
+    },
+    Given {
+        name: "tabindex",
+        value: Value::Plain("0"),
+    },
+];
+
+// From which full hour to which the hours of a day go, by their minutes, and how many lanes its boxes take.
+#[derive(Clone, Copy)]
+struct Frame {
+    first: u16,
+    last: u16,
+    lanes: usize,
 }
 
-// The minute of the full hour at which they end: at 18 o'clock, or where the last box does.
-fn last_hour(boxes: &[Boxed]) -> u16 {
-    let mut last = LAST;
-    for boxed in boxes {
-        last = last.max(boxed.to);
+impl Frame {
+    // From 8 o'clock, or where the first box begins, to 18 o'clock, or where the last one ends.
+    fn of(boxes: &[Boxed]) -> Frame {
+        let mut frame = Frame {
+            first: FIRST,
+            last: LAST,
+            lanes: 1,
+        };
+        for boxed in boxes {
+            frame = Frame {
+                first: frame.first.min(boxed.from),
+                last: frame.last.max(boxed.to),
+                lanes: frame.lanes.max(boxed.lanes),
+            };
+        }
+        Frame {
+            first: frame.first / 60 * 60,
+            last: (frame.last.min(DAY) + 59) / 60 * 60,
+            lanes: frame.lanes,
+        }
     }
-    (last.min(DAY) + 59) / 60 * 60
 }
 
 const FIRST: u16 = 8 * 60;
@@ -125,14 +138,6 @@ const FIRST: u16 = 8 * 60;
 const LAST: u16 = 18 * 60;
 
 const DAY: u16 = 24 * 60;
-
-fn most_lanes(boxes: &[Boxed]) -> usize {
-    let mut most = 1;
-    for boxed in boxes {
-        most = boxed.lanes.max(most);
-    }
-    most
-}
 
 fn put_boxes(draft: &mut Draft, boxes: &[Boxed], marks: &[Mark]) -> Result<(), AllocError>
     ensures titles { AddsTitles result draft.old draft.new (boxes_titles boxes.now) }
@@ -162,12 +167,17 @@ fn put_box_begin(draft: &mut Draft, boxed: &Boxed) -> Result<(), AllocError>
     let (from, to) = (boxed.from, boxed.to);
     let (lane, lanes) = (boxed.lane, boxed.lanes);
     let style = format!(in draft.alloc(); "--from:{from};--to:{to};--lane:{lane};--lanes:{lanes}")?;
-    let class = format!(in draft.alloc(); "entry {}", color_class(boxed.row.color))?;
-    draft.open(
+    draft.put(&[Pair(
         "li",
-        &[with("class", class.as_str()), with("style", style.as_str())],
-    )
+        with_word("class", class_of(&ENTRIES, boxed.row.color)),
+        with("style", style.as_str()),
+    )])
 }
+
+// The classes of the files' colors on boxes.
+const ENTRIES: [&str; 6] = [
+    "entry c0", "entry c1", "entry c2", "entry c3", "entry c4", "entry c5",
+];
 
 // Puts from when to when a row goes, with a space behind it.
 fn put_hours(draft: &mut Draft, row: &Row) -> Result<(), AllocError>
@@ -176,19 +186,9 @@ fn put_hours(draft: &mut Draft, row: &Row) -> Result<(), AllocError>
     let Some(hours) = row.time else {
         return Ok(());
     };
-    let start = time_text(draft.alloc(), hours.start)?;
+    put_time_begin(draft, hours.start)?;
     match hours.end {
-        Some(end) => put_span(draft, start.as_str(), end),
-        None => put_time(draft, start.as_str()),
+        Some(end) => draft.put(&[Text("–"), Time(end), Tag("/time"), Text(" ")]),
+        None => draft.put(&[Tag("/time"), Text(" ")]),
     }
-}
-
-fn put_span(draft: &mut Draft, start: &str, end: u16) -> Result<(), AllocError>
-    ensures titles { KeepsTitles result draft.old draft.new }
-{
-    let end = time_text(draft.alloc(), end)?;
-    let words = format!(in draft.alloc(); "{start}–{}", end.as_str())?;
-    draft.put(&[With("time", "datetime", start)])?;
-    draft.close(words.as_str(), "/time")?;
-    draft.put(&[Text(" ")])
 }

@@ -7,11 +7,10 @@ use orgq_args::without_rows;
 use orgq_files::{CheckedFiles, Reading, load_all, paths, report_of};
 use orgq_messages::{BAD_ARGUMENTS, Problem, check_status, print_all, say};
 use std::alloc::{AllocError, Global};
-use std::rt::{Env, Files};
 
 /// Checks the files that the arguments name, and gives the exit status; `own` are the words of the command itself.
-pub fn check_files<R: AllocGlobal + Files + Env + Input + Print + Eprint + Clone + Drop>(
-    rt: &R,
+pub fn check_files(
+    rt: &HostRuntime,
     matches: &ArgMatches<'_>,
     own: &ArgMatches<'_>,
     now: &Moment,
@@ -50,7 +49,7 @@ fn unknown_of<'a>(lists: Option<&[&'a str]>) -> Option<&'a str> {
 }
 
 // Says that there is no such kind, and which there are.
-fn refuse_kind<R: AllocGlobal + Eprint>(rt: &R, name: &str) -> Result<u8, AllocError> {
+fn refuse_kind(rt: &HostRuntime, name: &str) -> Result<u8, AllocError> {
     let names = kind_names(rt.alloc())?;
     let text = format!(in rt.alloc(); "no such kind: {name}; there are {names}")?;
     say(rt, text.as_str());

@@ -1,5 +1,7 @@
 //! What a status bar shows of the clock that runs.
 
+use crate::call::Call;
+use crate::clocks::clock_ids;
 use clap::ArgMatches;
 use org_answer::{PrintOptions, running_clocks, running_lines};
 use org_base::Fault;
@@ -7,31 +9,27 @@ use org_cal::Moment;
 use org_client::{FileSet, LoadReport};
 use org_text::Whole;
 use orgq_args::property_names;
-use orgq_files::{Asked, asked_files};
-use orgq_messages::{Problem, print_all, status_of};
+use orgq_messages::{Problem, status_of};
 use std::alloc::Global;
-use std::mem::forget;
-use std::rt::{Env, Files};
 
 /// Prints the clocks that run at a moment, and gives the exit status.
-pub fn print_status<R: AllocGlobal + Files + Env + Input + Print + Eprint + Clone + Drop>(
-    rt: &R,
+pub fn print_status(
+    rt: &HostRuntime,
     matches: &ArgMatches<'_>,
+    call: &mut Call,
     moment: Moment,
     look: &PrintOptions<'_, '_>,
 ) -> Result<u8, Problem> {
     if matches.get_one::<u32>("days").is_some() {
         return Err(Problem::DaysOf);
     }
-    let Asked { file_set, left_out } = asked_files(rt, matches)?;
-    let lines = status_bytes(rt.alloc(), &file_set, moment, look)?;
-    // The program ends soon.
-    forget(file_set);
-    let status = status_of(!lines.is_empty(), left_out);
+    let asked = call.files(rt, matches)?;
+    let lines = status_bytes(rt.alloc(), &asked.file_set, moment, look)?;
+    let status = status_of(!lines.is_empty(), asked.left_out);
     if matches.get_flag("quiet") {
         return Ok(status);
     }
-    Ok(print_all(rt, lines.as_slice(), status))
+    Ok(call.print(rt, lines.as_slice(), status))
 }
 
 fn status_bytes(
@@ -44,5 +42,6 @@ fn status_bytes(
     let clocks = running_clocks(alloc, file_set, &inherits, moment)?;
     let properties = property_names(alloc, look.properties)?;
     let files = LoadReport::new(alloc, file_set, &inherits, properties, false)?;
+    let files = files.with_ids(clock_ids(alloc, file_set, &inherits, clocks.as_slice(), look)?);
     running_lines(alloc, &files, clocks.as_slice(), look)
 }

@@ -1,36 +1,39 @@
 //! The command that lists clock lines.
 
+use crate::call::Call;
 use clap::ArgMatches;
 use org_answer::{PrintOptions, clock_lines};
 use org_base::Fault;
 use org_cal::{Day, Period};
-use org_client::{FileSet, LoadReport, clock_rows, shown_clocks};
+use org_client::{FileSet, HeadingAt, LoadReport, RowIds, ShownClock, clock_rows, shown_clocks};
+use org_inherit::Inherits;
 use org_text::Whole;
 use orgq_args::{asked_period, property_names};
-use orgq_files::{Asked, asked_files};
-use orgq_messages::{Problem, print_all, status_of};
-use std::alloc::Global;
-use std::rt::{Env, Files};
+use orgq_messages::{Problem, status_of};
+use std::alloc::{AllocError, Global};
 
 /// Prints the clock lines of the days that the command's own words name, and gives the exit status.
-pub fn print_clocks<R: AllocGlobal + Files + Env + Input + Print + Eprint + Clone + Drop>(
-    rt: &R,
+pub fn print_clocks(
+    rt: &HostRuntime,
     matches: &ArgMatches<'_>,
-    own: &ArgMatches<'_>,
+    call: &mut Call,
     today: Day,
     look: &PrintOptions<'_, '_>,
 ) -> Result<u8, Problem> {
+    let Some(("clocks", own)) = matches.subcommand() else {
+        return Err(Problem::Option);
+    };
     if matches.get_one::<u32>("days").is_some() {
         return Err(Problem::DaysOf);
     }
     let period = asked_period(own, today)?;
-    let Asked { file_set, left_out } = asked_files(rt, matches)?;
-    let lines = clock_bytes(rt.alloc(), &file_set, &period, look)?;
-    let status = status_of(!lines.is_empty(), left_out);
+    let asked = call.files(rt, matches)?;
+    let lines = clock_bytes(rt.alloc(), &asked.file_set, &period, look)?;
+    let status = status_of(!lines.is_empty(), asked.left_out);
     if matches.get_flag("quiet") {
         return Ok(status);
     }
-    Ok(print_all(rt, lines.as_slice(), status))
+    Ok(call.print(rt, lines.as_slice(), status))
 }
 
 // What is printed of the clock lines of some days.
@@ -45,5 +48,32 @@ fn clock_bytes(
     let clocks = shown_clocks(alloc, file_set, rows.as_slice())?;
     let properties = property_names(alloc, look.properties)?;
     let files = LoadReport::new(alloc, file_set, &inherits, properties, false)?;
+    let files = files.with_ids(clock_ids(alloc, file_set, &inherits, clocks.as_slice(), look)?);
     clock_lines(alloc, &files, clocks.as_slice(), look)
+}
+
+// The short ids of the headings of clocks, if rows tell them.
+pub fn clock_ids(
+    alloc: Global,
+    file_set: &FileSet<Whole>,
+    inherits: &Inherits<'_>,
+    clocks: &[ShownClock],
+    look: &PrintOptions<'_, '_>,
+) -> Result<RowIds, Fault> {
+    if !look.tells_ids() {
+        return Ok(RowIds::none(alloc));
+    }
+    let headings = headings_of(alloc, clocks)?;
+    RowIds::of(alloc, file_set, inherits, headings.as_slice())
+}
+
+fn headings_of(alloc: Global, clocks: &[ShownClock]) -> Result<Vec<HeadingAt>, AllocError> {
+    let mut headings = Vec::new(alloc);
+    for clock in clocks {
+        headings.push(HeadingAt {
+            file: clock.row.file,
+            heading: clock.row.heading,
+        })?;
+    }
+    Ok(headings)
 }

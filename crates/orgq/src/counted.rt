@@ -3,18 +3,20 @@
 use crate::session::run;
 use crate::shown_config::show_config;
 use clap::ArgMatches;
-use orgq_args::{command, joined_values, parser_said};
+use orgq_args::{command, environment_columns, joined_values, parser_said};
 use orgq_files::{Choice, Config, NamedChoices, Unread, no_config, read_config, words_with};
 use orgq_messages::{BAD_ARGUMENTS, Problem, Variable, report_problem, say_of, value_of};
 use std::fs;
 use std::fs::File;
-use std::rt::{Env, Files};
-use std::time::Clock;
+use std::rt::Files;
 
 /// Answers what the arguments ask for with the settings of the file that count, and gives the exit status.
-pub fn run_with_config<
-    R: AllocGlobal + Files<File = File> + Env + Clock + Input + Print + Eprint + Clone + Drop,
->(rt: &R, words: &[String], matches: &ArgMatches<'_>, on_terminal: bool) -> u8 {
+pub fn run_with_config(
+    rt: &HostRuntime,
+    words: &[String],
+    matches: &ArgMatches<'_>,
+    on_terminal: bool,
+) -> u8 {
     let config = if matches.get_flag("no-config") {
         Ok(no_config(rt.alloc()))
     } else {
@@ -30,10 +32,8 @@ pub fn run_with_config<
     }
 }
 
-fn with_settings<
-    R: AllocGlobal + Files<File = File> + Env + Clock + Input + Print + Eprint + Clone + Drop,
->(
-    rt: &R,
+fn with_settings(
+    rt: &HostRuntime,
     words: &[String],
     matches: &ArgMatches<'_>,
     config: &Config,
@@ -55,24 +55,46 @@ fn with_settings<
 }
 
 // Which options are named by the command line, or by the environment, which names files.
-fn named_choices<R: AllocGlobal + Env + Files>(
-    rt: &R,
+fn named_choices(
+    rt: &HostRuntime,
     matches: &ArgMatches<'_>,
     config: &Config,
 ) -> Result<NamedChoices, Problem> {
     let is_named = names_file(matches) || value_of(rt, Variable::Files)?.is_some();
     Ok(NamedChoices {
+        background: matches.get_str("background").is_some(),
+        columns: !takes_columns(rt, matches),
         color: matches.get_str("color").is_some(),
         file: is_named || !takes_files(rt, matches, config),
         inherit: matches.get_strs("inherit").is_some(),
         keywords: matches.get_str("keywords").is_some(),
+        log_done: matches.get_str("log-done").is_some(),
+        log_into_drawer: matches.get_str("log-into-drawer").is_some(),
+        log_repeat: matches.get_str("log-repeat").is_some(),
         profile: matches.get_one::<u32>("profile").is_some(),
     })
 }
 
+// Whether a command takes the columns that the settings name: one that shows a day, where neither the command line nor the
+// environment names any.
+fn takes_columns(rt: &HostRuntime, matches: &ArgMatches<'_>) -> bool {
+    match matches.subcommand() {
+        None | Some(("config", _)) => names_no_columns(rt, matches, matches),
+        Some(("agenda", own)) => names_no_columns(rt, matches, own),
+        Some(_) => false,
+    }
+}
+
+// Whether neither a command's own words, nor those in front of it, nor the environment name columns.
+fn names_no_columns<'a>(rt: &HostRuntime, front: &ArgMatches<'a>, own: &ArgMatches<'a>) -> bool {
+    own.get_one::<u32>("columns").is_none()
+        && front.get_one::<u32>("columns").is_none()
+        && !matches!(environment_columns(rt), Ok(Some(_)))
+}
+
 // Whether a command takes the files that the settings name. One that adds a heading takes a single one, where it isn't to go
 // below a heading of another.
-fn takes_files<R: Files>(rt: &R, matches: &ArgMatches<'_>, config: &Config) -> bool {
+fn takes_files(rt: &HostRuntime, matches: &ArgMatches<'_>, config: &Config) -> bool {
     match matches.subcommand() {
         Some(("add", own)) => own.get_str("under").is_none() && has_one_file(rt, config),
         _ => true,
@@ -80,7 +102,7 @@ fn takes_files<R: Files>(rt: &R, matches: &ArgMatches<'_>, config: &Config) -> b
 }
 
 // Whether the settings name one file, and no folder.
-fn has_one_file<R: Files>(rt: &R, config: &Config) -> bool {
+fn has_one_file(rt: &HostRuntime, config: &Config) -> bool {
     let mut count = 0u64;
     for setting in config.settings.as_slice() {
         if setting.choice == Choice::File {
@@ -111,7 +133,7 @@ fn names_own_file(matches: &ArgMatches<'_>) -> bool {
         }
 }
 
-fn report_unread<R: AllocGlobal + Eprint>(rt: &R, unread: &Unread) -> u8 {
+fn report_unread(rt: &HostRuntime, unread: &Unread) -> u8 {
     match unread {
         Unread::Problem(problem) => report_problem(rt, *problem, ""),
         Unread::Line(place, why) => {

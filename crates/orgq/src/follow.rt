@@ -1,14 +1,13 @@
 //! The command that shows a view anew whenever a file changed or a minute passed.
 
+use crate::call::Call;
 use crate::session::answer_query;
 use clap::ArgMatches;
-use orgq_args::{Filters, is_command};
+use orgq_args::{Filters, has_order, is_command, names_day_option};
 use orgq_files::{INPUT, paths, push_paths};
 use orgq_messages::{BAD_ARGUMENTS, Problem, STOPPED};
 use std::alloc::AllocError;
-use std::fs::File;
 use std::io::{Write, writer};
-use std::rt::{Env, Files};
 use std::time::{Clock, Duration, SystemTime, UNIX_EPOCH};
 use std::{fs, thread};
 
@@ -23,10 +22,8 @@ const FORM_FEED: &[u8] = b"\x0c\n";
 
 /// Shows what the command's own words ask for, and again after each change, as many times as they say, or until the program
 /// is stopped. Gives the status of the last view; one that is refused or can't be printed is the last.
-pub fn follow<
-    R: AllocGlobal + Files<File = File> + Env + Clock + Input + Print + Eprint + Clone + Drop,
->(
-    rt: &R,
+pub fn follow(
+    rt: &HostRuntime,
     matches: &ArgMatches<'_>,
     own: &ArgMatches<'_>,
     on_terminal: bool,
@@ -53,7 +50,7 @@ pub fn follow<
         if !begin_view(rt, number > 0, on_terminal) {
             return Ok(STOPPED);
         }
-        let status = answer_query(rt, own, on_terminal, false)?;
+        let status = answer_query(rt, own, &mut Call::new(on_terminal, false))?;
         if number + 1 == times || status == BAD_ARGUMENTS || status == STOPPED {
             return Ok(status);
         }
@@ -65,13 +62,15 @@ pub fn follow<
 fn has_own_options(matches: &ArgMatches<'_>) -> bool {
     let front = Filters::of(matches);
     front.chooses()
+        || has_order(matches)
         || front.limit.is_some()
         || matches.get_one::<u32>("days").is_some()
+        || names_day_option(matches)
         || matches.get_strs("PATH").is_some()
 }
 
 // Writes what stands in front of a view, and gives whether it was written.
-fn begin_view<R: AllocGlobal + Print>(rt: &R, is_later: bool, on_terminal: bool) -> bool {
+fn begin_view(rt: &HostRuntime, is_later: bool, on_terminal: bool) -> bool {
     let front = if on_terminal {
         CLEAR
     } else if is_later {
@@ -84,11 +83,7 @@ fn begin_view<R: AllocGlobal + Print>(rt: &R, is_later: bool, on_terminal: bool)
 }
 
 // What views depend on, as soon as it isn't what it was.
-fn next_state<R: AllocGlobal + Files + Env + Clock + Clone + Drop>(
-    rt: &R,
-    own: &ArgMatches<'_>,
-    before: String,
-) -> Result<String, Problem> {
+fn next_state(rt: &HostRuntime, own: &ArgMatches<'_>, before: String) -> Result<String, Problem> {
     for _look in 0..u64::MAX {
         thread::sleep(rt, Duration::from_millis(PAUSE_MILLIS));
         let state = state_of(rt, own)?;
@@ -100,10 +95,7 @@ fn next_state<R: AllocGlobal + Files + Env + Clock + Clone + Drop>(
 }
 
 // What views depend on: the minute, unless it is named, and of each file its path, its size and when it changed.
-fn state_of<R: AllocGlobal + Files + Env + Clock + Clone + Drop>(
-    rt: &R,
-    own: &ArgMatches<'_>,
-) -> Result<String, Problem> {
+fn state_of(rt: &HostRuntime, own: &ArgMatches<'_>) -> Result<String, Problem> {
     let mut state = String::new(rt.alloc());
     if own.get_str("at").is_none() {
         push_minute(rt, &mut state)?;
@@ -115,7 +107,7 @@ fn state_of<R: AllocGlobal + Files + Env + Clock + Clone + Drop>(
     Ok(state)
 }
 
-fn push_minute<R: Clock>(rt: &R, state: &mut String) -> Result<(), AllocError> {
+fn push_minute(rt: &HostRuntime, state: &mut String) -> Result<(), AllocError> {
     let Ok(time) = SystemTime::now(rt) else {
         return Ok(());
     };
@@ -133,11 +125,7 @@ fn since_1970(time: SystemTime) -> (u64, u32) {
 }
 
 // Puts what is known of the files that a path stands for after others.
-fn push_path<R: AllocGlobal + Files + Clone + Drop>(
-    rt: &R,
-    state: &mut String,
-    path: &str,
-) -> Result<(), AllocError> {
+fn push_path(rt: &HostRuntime, state: &mut String, path: &str) -> Result<(), AllocError> {
     let mut files = Vec::new(rt.alloc());
     // What can't be read now may be read later: then it is known by other files.
     let _ = push_paths(rt, &mut files, path);
@@ -147,11 +135,7 @@ fn push_path<R: AllocGlobal + Files + Clone + Drop>(
     Ok(())
 }
 
-fn push_file<R: AllocGlobal + Files>(
-    rt: &R,
-    state: &mut String,
-    file: &str,
-) -> Result<(), AllocError> {
+fn push_file(rt: &HostRuntime, state: &mut String, file: &str) -> Result<(), AllocError> {
     let Ok(metadata) = fs::metadata(rt, file) else {
         return write!(state, "{file}\n");
     };

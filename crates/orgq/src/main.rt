@@ -2,14 +2,20 @@
 //! The program `orgq`: agendas, lists and clock tables of one's own files, and what in them will not show.
 #![tactic(auto)]
 
+mod call;
 mod check;
 mod clock_status;
 mod clocks;
 mod counted;
 mod follow;
+mod head;
+mod log;
 mod page;
+mod search;
 mod session;
 mod shown_config;
+mod view;
+mod views;
 mod words;
 
 use crate::counted::run_with_config;
@@ -17,11 +23,8 @@ use org_save::hold_streams;
 use orgq_args::{command, joined_values, parser_said};
 use orgq_messages::{BAD_ARGUMENTS, out_of_memory, say};
 use std::env;
-use std::fs::File;
 use std::io::{ErrorKind, IsTerminal};
 use std::process::ExitCode;
-use std::rt::{Env, Files};
-use std::time::Clock;
 
 fn main(rt: HostRuntime) -> ExitCode {
     let _held = hold_streams(&rt);
@@ -43,11 +46,7 @@ fn main(rt: HostRuntime) -> ExitCode {
 }
 
 // Reads the arguments, and gives the exit status.
-fn start<R: AllocGlobal + Files<File = File> + Env + Clock + Input + Print + Eprint + Clone + Drop>(
-    rt: &R,
-    words: &[String],
-    on_terminal: bool,
-) -> u8 {
+fn start(rt: &HostRuntime, words: &[String], on_terminal: bool) -> u8 {
     let Ok(command) = command(rt.alloc()) else {
         return out_of_memory(rt);
     };

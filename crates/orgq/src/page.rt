@@ -5,14 +5,15 @@ use clap::ArgMatches;
 use org_answer::{Form, PrintOptions};
 use org_base::Fault;
 use org_cal::Moment;
-use org_client::FileSet;
+use org_client::{FileSet, RowIds, all_headings};
+use org_inherit::Inherits;
 use org_overview::{Look, Wish, overview_text};
 use org_page::{LinkTemplate, PLAIN_LINK, is_page};
 use org_save::{
     Access, Cause, Disk, Meanwhile, Name, Saved, Store, Unfit, make_file, open, replace,
 };
 use org_text::Whole;
-use orgq_args::profile;
+use orgq_args::{has_ids, profile};
 use orgq_files::{Asked, INPUT, asked_files};
 use orgq_messages::{
     Problem, UNWRITTEN, out_of_memory, print_all, report_unfit, report_unmade, say_of, say_saved,
@@ -20,9 +21,7 @@ use orgq_messages::{
 };
 use std::alloc::Global;
 use std::fs;
-use std::fs::File;
-use std::rt::{Env, Files};
-use std::time::Clock;
+use std::rt::Files;
 
 // How many days after today a page shows where none are named.
 const DAYS: u32 = 7;
@@ -31,10 +30,8 @@ const DAYS: u32 = 7;
 const STANDARD_OUTPUT: &str = "-";
 
 /// Prints the page that a command's own words ask for, or writes it into a file, and gives the exit status.
-pub fn print_page<
-    R: AllocGlobal + Clock + Env + Files<File = File> + Input + Print + Eprint + Clone + Drop,
->(
-    rt: &R,
+pub fn print_page(
+    rt: &HostRuntime,
     matches: &ArgMatches<'_>,
     own: &ArgMatches<'_>,
     moment: Moment,
@@ -66,11 +63,14 @@ fn days_ahead(matches: &ArgMatches<'_>, own: &ArgMatches<'_>) -> u32 {
 }
 
 // Prints the page of the files that are named, or writes it, and gives the exit status.
-fn print_files<
-    R: AllocGlobal + Clock + Env + Files<File = File> + Input + Print + Eprint + Clone + Drop,
->(rt: &R, matches: &ArgMatches<'_>, own: &ArgMatches<'_>, wish: &Wish<'_>) -> Result<u8, Problem> {
+fn print_files(
+    rt: &HostRuntime,
+    matches: &ArgMatches<'_>,
+    own: &ArgMatches<'_>,
+    wish: &Wish<'_>,
+) -> Result<u8, Problem> {
     let Asked { file_set, left_out } = asked_files(rt, matches)?;
-    let text = page_text(rt.alloc(), &file_set, wish)?;
+    let text = page_text(rt.alloc(), &file_set, wish, has_ids(matches))?;
     let status = status_of(true, left_out);
     let output = own.get_str("output").unwrap_or(STANDARD_OUTPUT);
     if output != STANDARD_OUTPUT {
@@ -87,9 +87,29 @@ fn print_files<
     Ok(print_all(rt, text.as_bytes(), status))
 }
 
-fn page_text(alloc: Global, file_set: &FileSet<Whole>, wish: &Wish<'_>) -> Result<String, Fault> {
+fn page_text(
+    alloc: Global,
+    file_set: &FileSet<Whole>,
+    wish: &Wish<'_>,
+    has_ids: bool,
+) -> Result<String, Fault> {
     let inherits = file_set.inherits()?;
-    overview_text(alloc, file_set, &inherits, wish)
+    let ids = page_ids(alloc, file_set, &inherits, has_ids)?;
+    overview_text(alloc, file_set, &inherits, &ids, wish)
+}
+
+// The short ids of all headings, if the page shows them.
+fn page_ids(
+    alloc: Global,
+    file_set: &FileSet<Whole>,
+    inherits: &Inherits<'_>,
+    has_ids: bool,
+) -> Result<RowIds, Fault> {
+    if !has_ids {
+        return Ok(RowIds::none(alloc));
+    }
+    let all = all_headings(alloc, inherits)?;
+    RowIds::of(alloc, file_set, inherits, all.as_slice())
 }
 
 // A page that is written into a file: its text, the bits that the group and all others may have of it, and the exit status where
@@ -103,7 +123,7 @@ struct Page<'a> {
 
 // The bits that the group and all others may have of what is made of these files: those that all others have of each. What
 // standard input says is for nobody else.
-fn shared_bits<R: Files>(rt: &R, file_set: &FileSet<Whole>) -> u32 {
+fn shared_bits(rt: &HostRuntime, file_set: &FileSet<Whole>) -> u32 {
     let mut bits = ALL_BITS;
     for place in 0..file_set.count() {
         bits &= bits_of(rt, file_set.file(place).path());
@@ -112,7 +132,7 @@ fn shared_bits<R: Files>(rt: &R, file_set: &FileSet<Whole>) -> u32 {
 }
 
 // The same of one file.
-fn bits_of<R: Files>(rt: &R, path: &str) -> u32 {
+fn bits_of(rt: &HostRuntime, path: &str) -> u32 {
     if path == INPUT {
         return 0;
     }
@@ -123,11 +143,7 @@ fn bits_of<R: Files>(rt: &R, path: &str) -> u32 {
 }
 
 // Writes a page in the place of an older one, or into a new file, and gives the exit status.
-fn write_page<R: AllocGlobal + Clock + Env + Files<File = File> + Eprint>(
-    rt: &R,
-    path: &str,
-    page: &Page<'_>,
-) -> u8 {
+fn write_page(rt: &HostRuntime, path: &str, page: &Page<'_>) -> u8 {
     match open(rt, path) {
         Ok(mut opened) => replace_page(rt, path, &mut opened.disk, page),
         Err(Unfit::Missing) => write_new(rt, path, page),
@@ -137,11 +153,7 @@ fn write_page<R: AllocGlobal + Clock + Env + Files<File = File> + Eprint>(
 
 // Writes a page into a file that isn't there: whoever looks finds none, or the page, whole. Where another program made one
 // meanwhile, that one is replaced if it is a page.
-fn write_new<R: AllocGlobal + Clock + Env + Files<File = File> + Eprint>(
-    rt: &R,
-    path: &str,
-    page: &Page<'_>,
-) -> u8 {
+fn write_new(rt: &HostRuntime, path: &str, page: &Page<'_>) -> u8 {
     match make_file(rt, path, page.text.as_bytes(), page.bits) {
         Ok(durable) => {
             if !durable {
@@ -154,21 +166,17 @@ fn write_new<R: AllocGlobal + Clock + Env + Files<File = File> + Eprint>(
     }
 }
 
-fn replace_made<R: AllocGlobal + Clock + Env + Files<File = File> + Eprint>(
-    rt: &R,
-    path: &str,
-    page: &Page<'_>,
-) -> u8 {
+fn replace_made(rt: &HostRuntime, path: &str, page: &Page<'_>) -> u8 {
     match open(rt, path) {
         Ok(mut opened) => replace_page(rt, path, &mut opened.disk, page),
         Err(why) => report_unfit(rt, path, &why),
     }
 }
 
-fn replace_page<R: AllocGlobal + Files<File = File> + Eprint>(
-    rt: &R,
+fn replace_page(
+    rt: &HostRuntime,
     path: &str,
-    disk: &mut Disk<'_, R>,
+    disk: &mut Disk<'_, HostRuntime>,
     page: &Page<'_>,
 ) -> u8 {
     let mut old = Vec::new(rt.alloc());

@@ -8,15 +8,15 @@ use orgq_args::{named_form, without_rows};
 use orgq_files::{Choice, Config, NamedChoices, listed_word, path_of, read_list};
 use orgq_messages::{Problem, Variable, print_all, status_of, value_of};
 use std::alloc::{AllocError, Global};
-use std::rt::{Env, Files};
+use std::rt::Files;
 
 // What stands for the command line in a line.
 const COMMAND_LINE: &str = "command line";
 
 /// Prints a line for each option that counts, with where it is from: the command line, a variable of the environment, or the
 /// line of a file. Gives the exit status, which is 1 where nothing counts.
-pub fn show_config<R: AllocGlobal + Files + Env + Print + Eprint>(
-    rt: &R,
+pub fn show_config(
+    rt: &HostRuntime,
     matches: &ArgMatches<'_>,
     config: &Config,
     named: &NamedChoices,
@@ -61,10 +61,22 @@ fn push_named(
         let profile = format!(in alloc; "{profile}")?;
         push_line(alloc, lines, COMMAND_LINE, "profile", profile.as_str())?;
     }
-    match matches.get_str("color") {
-        Some(color) => push_line(alloc, lines, COMMAND_LINE, "color", color),
-        None => Ok(()),
+    if let Some(columns) = matches.get_one::<u32>("columns") {
+        let columns = format!(in alloc; "{columns}")?;
+        push_line(alloc, lines, COMMAND_LINE, "columns", columns.as_str())?;
     }
+    for option in [
+        "background",
+        "color",
+        "log-done",
+        "log-repeat",
+        "log-into-drawer",
+    ] {
+        if let Some(value) = matches.get_str(option) {
+            push_line(alloc, lines, COMMAND_LINE, option, value)?;
+        }
+    }
+    Ok(())
 }
 
 fn push_each(
@@ -80,8 +92,8 @@ fn push_each(
 }
 
 // The files that the environment names, where the command line names none.
-fn push_environment<R: AllocGlobal + Env>(
-    rt: &R,
+fn push_environment(
+    rt: &HostRuntime,
     lines: &mut Vec<u8>,
     matches: &ArgMatches<'_>,
 ) -> Result<(), Problem> {
@@ -125,7 +137,7 @@ fn has_files(config: &Config) -> bool {
 }
 
 // The files of the configuration folder's list.
-fn push_list<R: AllocGlobal + Files + Env>(rt: &R, lines: &mut Vec<u8>) -> Result<(), Problem> {
+fn push_list(rt: &HostRuntime, lines: &mut Vec<u8>) -> Result<(), Problem> {
     let list = read_list(rt)?;
     let mut number: usize = 0;
     for part in list.text.as_str().split('\n') {

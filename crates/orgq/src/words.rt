@@ -8,12 +8,11 @@ use org_text::Whole;
 use orgq_args::named_form;
 use orgq_files::{Reading, load_all, paths};
 use orgq_messages::{Problem, print_all, status_of};
-use std::rt::{Env, Files};
 
 /// Prints the words of the files that the arguments name, each once, and gives the exit status; control characters so that
 /// they can be seen, if that is wanted.
-pub fn print_words<R: AllocGlobal + Files + Env + Input + Print + Eprint + Clone + Drop>(
-    rt: &R,
+pub fn print_words(
+    rt: &HostRuntime,
     matches: &ArgMatches<'_>,
     kind: WordKind,
     is_seen: bool,

@@ -1,1 +1,2 @@
 pub mod Amending
+pub mod Found

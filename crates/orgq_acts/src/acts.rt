@@ -2,18 +2,20 @@
 //! heading is written.
 
 use crate::all_matches::{Found, all_matches};
-use crate::amending::{carry_out_change, try_out};
+use crate::amending::{Ending, carry_out_change, report_unamended, try_out};
 use crate::clock_act::clock_act;
+use crate::found::{named_heading, named_headings};
 use crate::heading::{HeadingText, read_heading};
 use crate::one_match::{Search, one_match};
-use crate::several::{change_all, named_headings};
+use crate::several::change_all;
 use clap::ArgMatches;
+use org_act::Unamended;
 use org_cal::{Day, Moment};
 use org_save::{Disk, Opened, open};
 use orgq_args::{
-    ActWords, HeadingPlace, Wish, WishedAct, added_place, date_words, done_keyword, keyword_words,
-    lend, planning_keyword, read_body, read_place, read_wish, set_keyword, typed_words,
-    wished_heading, wished_planning,
+    ActWords, HeadingPlace, Look, TypedPlace, Wish, WishedAct, added_place, date_words,
+    done_keyword, keyword_words, lend, planning_keyword, read_body, read_wish, set_keyword,
+    typed_words, wished_heading, wished_planning,
 };
 use orgq_files::{LeftOut, refuse_words};
 use orgq_messages::{
@@ -22,6 +24,7 @@ use orgq_messages::{
 use std::alloc::Global;
 use std::fs::File;
 use std::rt::{Env, Files};
+use std::slice;
 use std::time::Clock;
 
 /// Does what a command that changes a file asks for, and gives the exit status; none where the command is another.
@@ -87,7 +90,7 @@ fn wished_act<'a>(
 }
 
 // Does what `add` asks for.
-fn add<R: AllocGlobal + Clock + Env + Files<File = File> + Input + Print + Eprint>(
+fn add<R: AllocGlobal + Clock + Env + Files<File = File> + Input + Print + Eprint + Clone + Drop>(
     rt: &R,
     matches: &ArgMatches<'_>,
     own: &ArgMatches<'_>,
@@ -95,8 +98,33 @@ fn add<R: AllocGlobal + Clock + Env + Files<File = File> + Input + Print + Eprin
     is_seen: bool,
 ) -> Result<u8, Problem> {
     refuse_words(matches)?;
-    let place = added_place(rt.alloc(), matches, own)?;
-    let mut heading = wished_heading(rt.alloc(), own, &place, moment.day)?;
+    let look = Look {
+        has_place: true,
+        is_quiet: matches.get_flag("quiet"),
+        is_seen,
+    };
+    match added_place(rt.alloc(), matches, own)? {
+        TypedPlace::At(place) => add_at(rt, matches, own, &place, (moment, is_seen)),
+        TypedPlace::AtWithId(..) | TypedPlace::Id(_) => {
+            let word = own.get_str("under").unwrap_or("");
+            match named_heading(rt, matches, word, look)? {
+                Search::One(place) => add_at(rt, matches, own, &place, (moment, is_seen)),
+                Search::Ended(status) => Ok(status),
+            }
+        }
+    }
+}
+
+// The same at a place, at a moment, with control characters so that they can be seen, if that is wanted.
+fn add_at<R: AllocGlobal + Clock + Env + Files<File = File> + Input + Print + Eprint>(
+    rt: &R,
+    matches: &ArgMatches<'_>,
+    own: &ArgMatches<'_>,
+    place: &HeadingPlace,
+    asked: (Moment, bool),
+) -> Result<u8, Problem> {
+    let (moment, is_seen) = asked;
+    let mut heading = wished_heading(rt.alloc(), own, place, moment.day)?;
     match read_body(rt, own) {
         Ok(body) => heading.body = body,
         Err(LeftOut::Memory) => return Ok(out_of_memory(rt)),
@@ -108,7 +136,7 @@ fn add<R: AllocGlobal + Clock + Env + Files<File = File> + Input + Print + Eprin
     let asked = WishedAct::Addition(heading);
     let mut wish = read_wish(rt.alloc(), matches, own, asked, moment)?;
     wish.look.is_seen = is_seen;
-    Ok(change_at(rt, &place, &wish))
+    Ok(change_at(rt, place, &wish))
 }
 
 // Finds the headings that are meant, and changes them.
@@ -124,28 +152,26 @@ fn by_wish<
     let has_all = own.get_flag("all");
     match own.get_str("match") {
         None if has_all => Err(Problem::All),
-        None => at_places(rt, places, wish),
+        None => at_places(rt, matches, places, wish),
         Some(expression) if has_all => by_all_matches(rt, matches, expression, wish),
         Some(expression) => by_one_match(rt, matches, expression, wish),
     }
 }
 
 // Changes the headings that words name.
-fn at_places<R: AllocGlobal + Clock + Env + Files<File = File> + Print + Eprint>(
-    rt: &R,
-    places: &[&str],
-    wish: &Wish,
-) -> Result<u8, Problem> {
+fn at_places<
+    R: AllocGlobal + Clock + Env + Files<File = File> + Input + Print + Eprint + Clone + Drop,
+>(rt: &R, matches: &ArgMatches<'_>, places: &[&str], wish: &Wish) -> Result<u8, Problem> {
     match places {
         [] => Err(Problem::Place),
-        [word] => {
-            let place = read_place(rt.alloc(), word)?;
-            Ok(change_at(rt, &place, wish))
-        }
-        words => {
-            let headings = named_headings(rt, words)?;
-            change_all(rt, &headings, wish)
-        }
+        [word] => match named_heading(rt, matches, word, wish.look)? {
+            Search::One(place) => Ok(change_at(rt, &place, wish)),
+            Search::Ended(status) => Ok(status),
+        },
+        words => match named_headings(rt, matches, words, wish.look)? {
+            Found::All(headings) => change_all(rt, &headings, wish),
+            Found::Ended(status) => Ok(status),
+        },
     }
 }
 
@@ -210,15 +236,35 @@ fn change_opened<R: AllocGlobal + Clock + Env + Files<File = File> + Print + Epr
 
 fn try_heading<R: AllocGlobal + Print + Eprint>(rt: &R, heading: &HeadingText) -> u8 {
     match &heading.act {
-        WishedAct::Keyword(keyword) => try_out(rt, heading, &heading.completion(keyword)),
-        WishedAct::Planning(keyword, date) => {
-            try_out(rt, heading, &heading.planning(*keyword, *date))
-        }
+        WishedAct::Keyword(_) | WishedAct::Planning(..) => try_traced(rt, heading),
         WishedAct::Addition(added) => match lend(rt.alloc(), added.tags.as_slice()) {
             Ok(tags) => try_out(rt, heading, &heading.addition(added, tags.as_slice())),
             Err(_) => out_of_memory(rt),
         },
         WishedAct::Clock(step) => try_out(rt, heading, &heading.clocking(*step)),
+    }
+}
+
+// Says what a keyword or a date would change, with what is logged of it.
+fn try_traced<R: AllocGlobal + Print + Eprint>(rt: &R, heading: &HeadingText) -> u8 {
+    match heading.traced_text(rt, slice::from_ref(&heading.line)) {
+        Ok(new) => try_out(rt, heading, &heading.rewriting(new.as_str())),
+        Err(why) => report_unamended(rt, heading, Unamended::Refused(why)),
+    }
+}
+
+// Gives a heading a keyword or a date, with what is logged of it.
+fn change_traced<R: AllocGlobal + Clock + Env + Files<File = File> + Print + Eprint>(
+    rt: &R,
+    heading: &HeadingText,
+    disk: &mut Disk<'_, R>,
+) -> Ending {
+    match heading.traced_text(rt, slice::from_ref(&heading.line)) {
+        Ok(new) => carry_out_change(rt, disk, heading, &heading.rewriting(new.as_str())),
+        Err(why) => Ending {
+            status: report_unamended(rt, heading, Unamended::Refused(why)),
+            saved: None,
+        },
     }
 }
 
@@ -228,12 +274,7 @@ fn change_heading<R: AllocGlobal + Clock + Env + Files<File = File> + Print + Ep
     disk: &mut Disk<'_, R>,
 ) -> u8 {
     let ending = match &heading.act {
-        WishedAct::Keyword(keyword) => {
-            carry_out_change(rt, disk, heading, &heading.completion(keyword))
-        }
-        WishedAct::Planning(keyword, date) => {
-            carry_out_change(rt, disk, heading, &heading.planning(*keyword, *date))
-        }
+        WishedAct::Keyword(_) | WishedAct::Planning(..) => change_traced(rt, heading, disk),
         WishedAct::Addition(added) => match lend(rt.alloc(), added.tags.as_slice()) {
             Ok(tags) => carry_out_change(
                 rt,

@@ -2,6 +2,7 @@
 
 use crate::acts::{change_at, heading_at};
 use crate::amending::report_refusal;
+use crate::found::named_heading;
 use crate::heading::HeadingText;
 use crate::one_match::{Search, one_match};
 use crate::running::{Running, RunningPlace, find_beside, find_running};
@@ -10,7 +11,7 @@ use clap::ArgMatches;
 use org_act::{Act, ClockAct, ClockStep, with_change};
 use org_answer::Form;
 use org_cal::Moment;
-use orgq_args::{HeadingPlace, Wish, WishedAct, named_form, read_place, read_wish};
+use orgq_args::{HeadingPlace, Wish, WishedAct, named_form, read_wish};
 use orgq_files::{file_number, real_path, refuse_words};
 use orgq_messages::{BAD_ARGUMENTS, NO_MATCH, Problem, UNTOLD, out_of_memory, say};
 use std::alloc::{AllocError, Global};
@@ -95,14 +96,23 @@ fn begin<R: AllocGlobal + Clock + Env + Files<File = File> + Input + Print + Epr
 ) -> Result<u8, Problem> {
     refuse_words(asked.matches)?;
     let wish = asked.wish(rt.alloc(), ClockStep::In(asked.moment))?;
-    if let Some(place) = typed_place(rt.alloc(), asked.own)? {
-        return begin_at(rt, asked, place, &wish);
-    }
-    let expression = asked.own.get_str("match").unwrap_or("");
-    match one_match(rt, asked.matches, expression, &wish)? {
+    match find_heading(rt, asked, &wish)? {
         Search::One(place) => begin_at(rt, asked, place, &wish),
         Search::Ended(status) => Ok(status),
     }
+}
+
+// The heading that is named.
+fn find_heading<R: AllocGlobal + Files + Env + Input + Print + Eprint + Clone + Drop>(
+    rt: &R,
+    asked: &Asked<'_, '_>,
+    wish: &Wish,
+) -> Result<Search, Problem> {
+    if let Some(word) = typed_word(asked.own)? {
+        return named_heading(rt, asked.matches, word, wish.look);
+    }
+    let expression = asked.own.get_str("match").unwrap_or("");
+    one_match(rt, asked.matches, expression, wish)
 }
 
 // The same at a place.
@@ -118,11 +128,11 @@ fn begin_at<
     }
 }
 
-// The place that is typed; none where an expression stands for it.
-fn typed_place(alloc: Global, own: &ArgMatches<'_>) -> Result<Option<HeadingPlace>, Problem> {
+// The word for a place; none where an expression stands for it.
+fn typed_word<'a>(own: &ArgMatches<'a>) -> Result<Option<&'a str>, Problem> {
     match own.get_str("PLACE") {
         Some(_) if own.get_str("match").is_some() => Err(Problem::PlaceBeside),
-        Some(word) => Ok(Some(read_place(alloc, word)?)),
+        Some(word) => Ok(Some(word)),
         None if own.get_str("match").is_some() => Ok(None),
         None => Err(Problem::Place),
     }

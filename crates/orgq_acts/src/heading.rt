@@ -1,12 +1,15 @@
 //! A heading that is changed, with the text of its file.
 
-use org_act::{Acts, Addition, ClockAct, ClockStep, Completion, Planning};
+use org_act::{
+    Addition, ClockAct, ClockStep, Completion, Planning, Refusal, Rewriting, traced_completions,
+    traced_plannings,
+};
 use org_amend::TypedDate;
 use org_base::Fault;
 use org_cal::Moment;
 use org_stamp::PlanningKeyword;
-use orgq_args::{HeadingPlace, Look, Wish, WishedAct, WishedHeading, WishedKeyword};
-use orgq_files::{LeftOut, line_behind, read_text};
+use orgq_args::{HeadingPlace, Look, Wish, WishedAct, WishedHeading, WishedKeyword, WishedTrace};
+use orgq_files::{LeftOut, line_behind, read_text, real_path};
 use std::alloc::{AllocError, Global};
 use std::rt::Files;
 
@@ -15,6 +18,8 @@ use std::rt::Files;
 pub struct HeadingText {
     /// The file's name.
     pub name: String,
+    /// The path by which it is told from others.
+    pub path: String,
     /// The heading's line. Lines count from 1.
     pub line: u64,
     /// The file's text.
@@ -25,14 +30,17 @@ pub struct HeadingText {
     /// When it is done.
     pub moment: Moment,
     pub look: Look,
+    /// What is logged.
+    pub trace: WishedTrace,
 }
 
 impl HeadingText {
-    // The heading at a place of a text.
+    // The heading at a place of a text, which is that of the file of a path.
     fn new(
         alloc: Global,
         place: &HeadingPlace,
         wish: &Wish,
+        path: String,
         text: String,
     ) -> Result<HeadingText, Fault> {
         let behind = match &wish.keywords {
@@ -41,17 +49,19 @@ impl HeadingText {
         };
         Ok(HeadingText {
             name: String::from_str(alloc, place.name.as_str())?,
+            path,
             line: place.line,
             text,
             behind,
             act: wish.act.copy(alloc)?,
             moment: wish.moment,
             look: wish.look,
+            trace: wish.trace.copy(alloc)?,
         })
     }
 
     /// The act that completes it, or gives it another keyword.
-    pub fn completion<'a>(&'a self, keyword: &'a WishedKeyword) -> Completion<'a> {
+    fn completion<'a>(&'a self, keyword: &'a WishedKeyword) -> Completion<'a> {
         Completion {
             line: self.line,
             keyword: keyword.choice(),
@@ -60,15 +70,52 @@ impl HeadingText {
         }
     }
 
-    /// The same of the headings on some lines.
-    pub fn completions<'a>(
-        &'a self,
-        keyword: &'a WishedKeyword,
-        lines: &'a [u64],
-    ) -> Acts<'a, Completion<'a>> {
-        Acts {
-            act: self.completion(keyword),
+    /// The text that is made of the file's where the headings on some lines get a keyword or a date, with what is logged of it.
+    /// The lowest line comes first.
+    pub fn traced_text<R: AllocGlobal>(&self, rt: &R, lines: &[u64]) -> Result<String, Refusal> {
+        match &self.act {
+            WishedAct::Keyword(keyword) => self.completed_text(rt, lines, keyword),
+            WishedAct::Planning(keyword, date) => self.planned_text(rt, lines, *keyword, *date),
+            WishedAct::Addition(_) | WishedAct::Clock(_) => Err(Refusal::Misread),
+        }
+    }
+
+    fn completed_text<R: AllocGlobal>(
+        &self,
+        rt: &R,
+        lines: &[u64],
+        keyword: &WishedKeyword,
+    ) -> Result<String, Refusal> {
+        traced_completions(
+            rt.alloc(),
+            self.text.as_str(),
             lines,
+            &self.completion(keyword),
+            &self.trace.trace(self.moment),
+        )
+    }
+
+    fn planned_text<R: AllocGlobal>(
+        &self,
+        rt: &R,
+        lines: &[u64],
+        keyword: PlanningKeyword,
+        date: Option<TypedDate>,
+    ) -> Result<String, Refusal> {
+        traced_plannings(
+            rt.alloc(),
+            self.text.as_str(),
+            lines,
+            &self.planning(keyword, date),
+            &self.trace.trace(self.moment),
+        )
+    }
+
+    /// The act that gives the file a text which was made of its own.
+    pub fn rewriting<'a>(&'a self, new: &'a str) -> Rewriting<'a> {
+        Rewriting {
+            old: self.text.as_str(),
+            new,
         }
     }
 
@@ -81,24 +128,11 @@ impl HeadingText {
     }
 
     /// The act that gives it a date under a planning keyword, or takes the stamps there away.
-    pub fn planning(&self, keyword: PlanningKeyword, date: Option<TypedDate>) -> Planning {
+    fn planning(&self, keyword: PlanningKeyword, date: Option<TypedDate>) -> Planning {
         Planning {
             line: self.line,
             keyword,
             date,
-        }
-    }
-
-    /// The same of the headings on some lines.
-    pub fn plannings<'a>(
-        &self,
-        keyword: PlanningKeyword,
-        date: Option<TypedDate>,
-        lines: &'a [u64],
-    ) -> Acts<'a, Planning> {
-        Acts {
-            act: self.planning(keyword, date),
-            lines,
         }
     }
 
@@ -113,7 +147,12 @@ impl HeadingText {
 
     /// The text, and what is read after it.
     pub fn whole(&self, alloc: Global) -> Result<String, AllocError> {
-        let mut whole = String::from_str(alloc, self.text.as_str())?;
+        self.with_behind(alloc, self.text.as_str())
+    }
+
+    /// Another text of its file, and what is read after it.
+    pub fn with_behind(&self, alloc: Global, text: &str) -> Result<String, AllocError> {
+        let mut whole = String::from_str(alloc, text)?;
         whole.push_str(self.behind.as_str())?;
         Ok(whole)
     }
@@ -135,5 +174,6 @@ pub fn read_heading<R: AllocGlobal + Files>(
     wish: &Wish,
 ) -> Result<HeadingText, LeftOut> {
     let text = read_text(rt, place.name.as_str())?;
-    Ok(HeadingText::new(rt.alloc(), place, wish, text)?)
+    let path = real_path(rt, place.name.as_str())?;
+    Ok(HeadingText::new(rt.alloc(), place, wish, path, text)?)
 }

@@ -73,6 +73,20 @@ impl Headings {
         Ok(())
     }
 
+    /// The one of the last file that was named first there.
+    pub fn into_first(self) -> Option<HeadingPlace> {
+        let mut files = self.files;
+        match files.pop() {
+            Some(
+                FileHeadings {
+                    first,
+                    lines: _lines,
+                },
+            ) => Some(first),
+            None => None,
+        }
+    }
+
     /// Brings the headings of each file into order, each once, the lowest first.
     pub fn sort(&mut self) {
         for file in self.files.iter_mut() {

@@ -16,6 +16,7 @@ mod acts;
 mod all_matches;
 mod amending;
 mod clock_act;
+mod found;
 mod heading;
 mod headings;
 mod one_match;
@@ -23,6 +24,7 @@ mod refusals;
 mod running;
 mod several;
 mod switching;
+mod text_ids;
 mod told;
 
 pub use acts::act;

@@ -119,11 +119,13 @@ fn candidate_lines(
         form: Form::Places,
         is_colored: false,
         is_seen,
+        has_ids: false,
         has_days: false,
         properties: None,
         list: "tagsmatch",
         limit: None,
         is_last: true,
+        canvas: None,
     };
     answer_bytes(alloc, files, answer, &look)
 }

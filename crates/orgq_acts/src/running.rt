@@ -188,11 +188,13 @@ fn list_running<R: AllocGlobal + Print + Eprint>(
         form: Form::Places,
         is_colored: false,
         is_seen: wish.look.is_seen,
+        has_ids: false,
         has_days: false,
         properties: None,
         list: "todo",
         limit: None,
         is_last: true,
+        canvas: None,
     };
     let lines = running_lines(rt.alloc(), files, clocks, &look)?;
     Ok(print_all(rt, lines.as_slice(), NO_MATCH))

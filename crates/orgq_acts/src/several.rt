@@ -2,68 +2,41 @@
 //! is written; and each file is written once.
 
 use crate::acts::heading_at;
-use crate::amending::{ALREADY, carry_out_shown, changed_text, report_unamended};
+use crate::amending::{ALREADY, carry_out_shown};
+use crate::found::MOST_HEADINGS;
 use crate::heading::HeadingText;
 use crate::headings::{FileHeadings, Headings};
 use crate::refusals::{say_unamended, say_unchanged};
 use crate::told::told_lines;
-use org_act::{Refusal, Unamended};
+use org_act::Unamended;
 use org_save::{Disk, open};
-use orgq_args::{HeadingPlace, Wish, WishedAct, read_place};
-use orgq_files::real_path;
+use orgq_args::Wish;
 use orgq_messages::{
     Problem, STOPPED, out_of_memory, print_all, report_unfit, say_of, say_saved, unamended_status,
 };
-use std::alloc::{AllocError, Global};
+use std::alloc::AllocError;
 use std::fs::File;
 use std::rt::{Env, Files};
 use std::slice;
 use std::time::Clock;
 
-// How many headings are changed at once.
-const MOST_HEADINGS: usize = 1000;
-
-/// The headings that words name.
-pub fn named_headings<R: AllocGlobal + Files>(rt: &R, words: &[&str]) -> Result<Headings, Problem> {
-    let mut headings = Headings::new(rt.alloc());
-    for word in words {
-        put_place(rt, &mut headings, read_place(rt.alloc(), word)?)?;
-    }
-    headings.sort();
-    Ok(headings)
-}
-
-fn put_place<R: AllocGlobal + Files>(
-    rt: &R,
-    headings: &mut Headings,
-    place: HeadingPlace,
-) -> Result<(), AllocError> {
-    let path = real_path(rt, place.name.as_str())?;
-    if headings.put(path.as_str(), place.line)? {
-        return Ok(());
-    }
-    headings.put_first(rt.alloc(), path.as_str(), place)
-}
-
 // What becomes of a file.
-#[derive(Debug, Drop)]
+#[derive(Drop)]
 struct PlannedFile {
-    // Its place among the files.
-    place: usize,
     // Its text, and what is asked.
     heading: HeadingText,
     change: PlannedChange,
 }
 
-// What is printed of a change, and whether the file has such a text already.
-#[derive(Debug, Drop)]
+// What is printed of a change, and the text that the file gets.
+#[derive(Drop)]
 struct PlannedChange {
     told: Vec<u8>,
-    stands: bool,
+    text: String,
 }
 
 // What becomes of files, and the worst exit status of those that can't be changed.
-#[derive(Debug, Drop)]
+#[derive(Drop)]
 struct PlannedFiles {
     files: Vec<PlannedFile>,
     status: u8,
@@ -85,9 +58,7 @@ pub fn change_all<R: AllocGlobal + Clock + Env + Files<File = File> + Print + Ep
     }
     let mut status = planned.status;
     for file in planned.files.as_slice() {
-        if let Some(named) = headings.files().get(file.place) {
-            status = status.max(finish_file(rt, file, named.lines.as_slice(), wish.is_dry));
-        }
+        status = status.max(finish_file(rt, file, wish.is_dry));
     }
     Ok(status)
 }
@@ -102,8 +73,8 @@ fn plan_files<R: AllocGlobal + Files + Eprint>(
         files: Vec::new(rt.alloc()),
         status: 0,
     };
-    for place in 0..files.len() {
-        match plan_file(rt, place, &files[place], wish) {
+    for named in files {
+        match plan_file(rt, named, wish) {
             Ok(file) => planned.files.push(file)?,
             Err(status) => planned.status = planned.status.max(status),
         }
@@ -114,17 +85,12 @@ fn plan_files<R: AllocGlobal + Files + Eprint>(
 // What becomes of a file; where its headings can't be changed, it is said why, and the exit status comes.
 fn plan_file<R: AllocGlobal + Files + Eprint>(
     rt: &R,
-    place: usize,
     named: &FileHeadings,
     wish: &Wish,
 ) -> Result<PlannedFile, u8> {
     let heading = heading_at(rt, &named.first, wish)?;
     match planned_change(rt, &heading, named.lines.as_slice()) {
-        Ok(change) => Ok(PlannedFile {
-            place,
-            heading,
-            change,
-        }),
+        Ok(change) => Ok(PlannedFile { heading, change }),
         Err(status) => Err(status),
     }
 }
@@ -135,8 +101,8 @@ fn planned_change<R: AllocGlobal + Eprint>(
     heading: &HeadingText,
     lines: &[u64],
 ) -> Result<PlannedChange, u8> {
-    match new_text(rt.alloc(), heading, lines) {
-        Ok(new) => told_change(rt, heading, lines, new.as_str()),
+    match new_text(rt, heading, lines) {
+        Ok(new) => told_change(rt, heading, lines, new),
         Err(why) => Err(report_refused(rt, heading, lines, why)),
     }
 }
@@ -145,32 +111,25 @@ fn told_change<R: AllocGlobal + Eprint>(
     rt: &R,
     heading: &HeadingText,
     lines: &[u64],
-    new: &str,
+    new: String,
 ) -> Result<PlannedChange, u8> {
-    match told_lines(rt.alloc(), heading, lines, new) {
-        Ok(told) => Ok(PlannedChange {
-            told,
-            stands: new == heading.text.as_str(),
-        }),
+    match told_lines(rt.alloc(), heading, lines, new.as_str()) {
+        Ok(told) => Ok(PlannedChange { told, text: new }),
         Err(_) => Err(out_of_memory(rt)),
     }
 }
 
 // The text that the file gets.
-fn new_text(alloc: Global, heading: &HeadingText, lines: &[u64]) -> Result<String, Unamended> {
-    match &heading.act {
-        WishedAct::Keyword(keyword) => {
-            changed_text(alloc, heading, &heading.completions(keyword, lines))
-        }
-        WishedAct::Planning(keyword, date) => {
-            changed_text(alloc, heading, &heading.plannings(*keyword, *date, lines))
-        }
-        WishedAct::Addition(_) | WishedAct::Clock(_) => Err(OF_ONE),
+fn new_text<R: AllocGlobal>(
+    rt: &R,
+    heading: &HeadingText,
+    lines: &[u64],
+) -> Result<String, Unamended> {
+    match heading.traced_text(rt, lines) {
+        Ok(new) => Ok(new),
+        Err(why) => Err(Unamended::Refused(why)),
     }
 }
-
-// A heading is added, and a clock begun, one at a time.
-const OF_ONE: Unamended = Unamended::Refused(Refusal::Misread);
 
 // Says why headings aren't changed, by the first one that is refused, and gives the exit status.
 fn report_refused<R: AllocGlobal + Eprint>(
@@ -179,7 +138,7 @@ fn report_refused<R: AllocGlobal + Eprint>(
     lines: &[u64],
     why: Unamended,
 ) -> u8 {
-    let line = refused_line(rt.alloc(), heading, lines);
+    let line = refused_line(rt, heading, lines);
     say_unamended(rt, heading, line, &why);
     let status = unamended_status(&why);
     if lines.len() > 1 && status != STOPPED {
@@ -189,9 +148,9 @@ fn report_refused<R: AllocGlobal + Eprint>(
 }
 
 // The first line for whose heading the act is refused.
-fn refused_line(alloc: Global, heading: &HeadingText, lines: &[u64]) -> u64 {
+fn refused_line<R: AllocGlobal>(rt: &R, heading: &HeadingText, lines: &[u64]) -> u64 {
     for line in lines {
-        if is_refused(alloc, heading, *line) {
+        if is_refused(rt, heading, *line) {
             return *line;
         }
     }
@@ -199,8 +158,8 @@ fn refused_line(alloc: Global, heading: &HeadingText, lines: &[u64]) -> u64 {
 }
 
 // Whether the act is refused for the heading on a line.
-fn is_refused(alloc: Global, heading: &HeadingText, line: u64) -> bool {
-    match new_text(alloc, heading, slice::from_ref(&line)) {
+fn is_refused<R: AllocGlobal>(rt: &R, heading: &HeadingText, line: u64) -> bool {
+    match new_text(rt, heading, slice::from_ref(&line)) {
         Ok(_text) => false,
         Err(_why) => true,
     }
@@ -210,7 +169,6 @@ fn is_refused(alloc: Global, heading: &HeadingText, line: u64) -> bool {
 fn finish_file<R: AllocGlobal + Clock + Env + Files<File = File> + Print + Eprint>(
     rt: &R,
     file: &PlannedFile,
-    lines: &[u64],
     is_dry: bool,
 ) -> u8 {
     let name = file.heading.name.as_str();
@@ -218,7 +176,7 @@ fn finish_file<R: AllocGlobal + Clock + Env + Files<File = File> + Print + Eprin
         return print_all(rt, file.change.told.as_slice(), 0);
     }
     match open(rt, name) {
-        Ok(mut opened) => write_file(rt, file, lines, &mut opened.disk),
+        Ok(mut opened) => write_file(rt, file, &mut opened.disk),
         Err(why) => report_unfit(rt, name, &why),
     }
 }
@@ -226,34 +184,16 @@ fn finish_file<R: AllocGlobal + Clock + Env + Files<File = File> + Print + Eprin
 fn write_file<R: AllocGlobal + Clock + Env + Files<File = File> + Print + Eprint>(
     rt: &R,
     file: &PlannedFile,
-    lines: &[u64],
     disk: &mut Disk<'_, R>,
 ) -> u8 {
     let heading = &file.heading;
     let told = file.change.told.as_slice();
-    if file.change.stands {
+    let new = file.change.text.as_str();
+    if new == heading.text.as_str() {
         say_of(rt, heading.name.as_str(), ALREADY);
         return print_all(rt, told, 0);
     }
-    let ending = match &heading.act {
-        WishedAct::Keyword(keyword) => carry_out_shown(
-            rt,
-            disk,
-            heading,
-            &heading.completions(keyword, lines),
-            told,
-        ),
-        WishedAct::Planning(keyword, date) => carry_out_shown(
-            rt,
-            disk,
-            heading,
-            &heading.plannings(*keyword, *date, lines),
-            told,
-        ),
-        WishedAct::Addition(_) | WishedAct::Clock(_) => {
-            return report_unamended(rt, heading, OF_ONE);
-        }
-    };
+    let ending = carry_out_shown(rt, disk, heading, &heading.rewriting(new), told);
     if let Some(saved) = ending.saved {
         say_saved(rt, heading.name.as_str(), saved, disk.rescue());
     }

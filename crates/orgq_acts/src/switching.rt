@@ -77,12 +77,14 @@ fn heading_in(
 ) -> Result<HeadingText, AllocError> {
     Ok(HeadingText {
         name: String::from_str(alloc, place.name.as_str())?,
+        path: String::from_str(alloc, running.path.as_str())?,
         line: place.line,
         text,
         behind: String::from_str(alloc, running.behind.as_str())?,
         act: begins.act.copy(alloc)?,
         moment: begins.moment,
         look: begins.look,
+        trace: begins.trace.copy(alloc)?,
     })
 }
 

@@ -3,10 +3,13 @@ ghost use Rattle.std.specs.Prelude.{string_bytes};
 ghost use Rattle.org_act.specs.Changes.{LiesIn};
 
 use crate::heading::HeadingText;
+use crate::text_ids::{id_at, ids_on_lines};
 use org_act::{ClockStep, OwnedChange, moved_pairs, with_change};
 use org_answer::{push_file_name, push_seen};
+use org_base::Texts;
 use org_cal::Day;
 use org_class::begins_heading;
+use org_log::without_closed;
 use org_stamp::{Pair, PlanningKeyword, is_planning};
 use orgq_args::WishedAct;
 use std::alloc::{AllocError, Global};
@@ -39,15 +42,46 @@ fn change_lines(
     let old = heading.text.as_str();
     match &heading.act {
         WishedAct::Keyword(_) | WishedAct::Planning(..) => {
-            let (before, now) = (from_line(old, heading.line), from_line(new, heading.line));
-            push_heading(alloc, &mut lines, heading, before, now)?;
+            push_changed(alloc, &mut lines, heading, new)?;
         }
-        WishedAct::Addition(_) => push_added(alloc, &mut lines, heading, change)?,
+        WishedAct::Addition(_) => push_added(alloc, &mut lines, heading, change, new)?,
         // The line that goes is one of the old text.
-        WishedAct::Clock(ClockStep::Cancel) => push_clock(alloc, &mut lines, heading, old, change)?,
-        WishedAct::Clock(_) => push_clock(alloc, &mut lines, heading, new, change)?,
+        WishedAct::Clock(ClockStep::Cancel) => {
+            push_titled(alloc, &mut lines, heading, new)?;
+            push_clock(alloc, &mut lines, heading, old, change)?;
+        }
+        WishedAct::Clock(_) => {
+            push_titled(alloc, &mut lines, heading, new)?;
+            push_clock(alloc, &mut lines, heading, new, change)?;
+        }
     }
     Ok(lines)
+}
+
+// Appends what is printed of a heading whose file gets a new text.
+fn push_changed(
+    alloc: Global,
+    lines: &mut Vec<u8>,
+    heading: &HeadingText,
+    new: &str,
+) -> Result<(), AllocError> {
+    let ids = shown_ids(alloc, heading, new, &[heading.line])?;
+    let before = from_line(heading.text.as_str(), heading.line);
+    let now = from_line(new, heading.line).with_id(id_at(&ids, 0));
+    push_heading(alloc, lines, heading, before, now)
+}
+
+// The short ids of headings on lines of a new text, where places are printed.
+fn shown_ids(
+    alloc: Global,
+    heading: &HeadingText,
+    new: &str,
+    lines: &[u64],
+) -> Result<Texts, AllocError> {
+    if !heading.look.has_place {
+        return Ok(Texts::new(alloc));
+    }
+    ids_on_lines(alloc, heading, new, lines)
 }
 
 /// What is printed of headings whose file gets a new text: nothing, or their lines from the highest on. The lowest one is named
@@ -62,27 +96,56 @@ pub fn told_lines(
     if heading.look.is_quiet {
         return Ok(told);
     }
+    let numbers = new_lines(alloc, heading, lines, new)?;
+    let ids = shown_ids(alloc, heading, new, numbers.as_slice())?;
     let mut before = from_line(heading.text.as_str(), 1);
     let mut now = from_line(new, 1);
-    for line in lines.iter().rev() {
+    for (place, line) in lines.iter().rev().enumerate() {
         let passed = line.saturating_sub(before.number);
-        now = now.at_heading(before.headings(passed));
+        now = now
+            .at_heading(before.headings(passed))
+            .with_id(id_at(&ids, place));
         before = before.behind(passed);
         push_heading(alloc, &mut told, heading, before, now)?;
     }
     Ok(told)
 }
 
-// A text from the line of a number on.
+// The lines on which headings stand in a new text, from the highest on.
+fn new_lines(
+    alloc: Global,
+    heading: &HeadingText,
+    lines: &[u64],
+    new: &str,
+) -> Result<Vec<u64>, AllocError> {
+    let mut numbers = Vec::new(alloc);
+    let mut before = from_line(heading.text.as_str(), 1);
+    let mut now = from_line(new, 1);
+    for line in lines.iter().rev() {
+        let passed = line.saturating_sub(before.number);
+        now = now.at_heading(before.headings(passed));
+        before = before.behind(passed);
+        numbers.push(now.number)?;
+    }
+    Ok(numbers)
+}
+
+// A text from the line of a number on, with the short id of the heading there, where it is printed.
 #[derive(Clone, Copy)]
 struct TextFrom<'a> {
     text: &'a str,
     number: u64,
+    id: &'a [u8],
 }
 
 // A text from the line of a number on; lines count from 1.
 fn from_line(text: &str, number: u64) -> TextFrom<'_> {
-    TextFrom { text, number: 1 }.behind(number.saturating_sub(1))
+    let whole = TextFrom {
+        text,
+        number: 1,
+        id: &[],
+    };
+    whole.behind(number.saturating_sub(1))
 }
 
 impl<'a> TextFrom<'a> {
@@ -101,6 +164,16 @@ impl<'a> TextFrom<'a> {
         TextFrom {
             text: behind_lines(self.text, count),
             number: self.number.saturating_add(count),
+            id: &[],
+        }
+    }
+
+    // The same with an id.
+    fn with_id(&self, id: &'a [u8]) -> TextFrom<'a> {
+        TextFrom {
+            text: self.text,
+            number: self.number,
+            id,
         }
     }
 
@@ -158,11 +231,11 @@ fn push_heading(
     now: TextFrom<'_>,
 ) -> Result<(), AllocError> {
     if let WishedAct::Keyword(_) = &heading.act {
-        push_line(alloc, lines, heading, before.line(), before.number)?;
-        push_line(alloc, lines, heading, now.line(), now.number)?;
+        push_own(alloc, lines, heading, before)?;
+        push_own(alloc, lines, heading, now)?;
         return push_moved(alloc, lines, heading, before.next_line(), now);
     }
-    push_line(alloc, lines, heading, now.line(), now.number)?;
+    push_own(alloc, lines, heading, now)?;
     let below = now.next_line();
     if is_planning(below.as_bytes()) {
         push_line(alloc, lines, heading, below, now.number.saturating_add(1))?;
@@ -178,11 +251,12 @@ fn push_moved(
     before: &str,
     now: TextFrom<'_>,
 ) -> Result<(), AllocError> {
-    let below = now.next_line();
+    let before = without_closed(alloc, before)?;
+    let below = without_closed(alloc, now.next_line())?;
     let number = now.number.saturating_add(1);
     let moved = moved_pairs(alloc, before.as_bytes(), below.as_bytes())?;
     for pair in moved.as_slice() {
-        let text = moved_text(alloc, below, pair, heading.moment.day)?;
+        let text = moved_text(alloc, below.as_str(), pair, heading.moment.day)?;
         push_line(alloc, lines, heading, text.as_str(), number)?;
     }
     Ok(())
@@ -226,6 +300,7 @@ fn push_added(
     lines: &mut Vec<u8>,
     heading: &HeadingText,
     change: &OwnedChange,
+    new: &str,
 ) -> Result<(), AllocError> {
     let front = heading
         .text
@@ -236,7 +311,9 @@ fn push_added(
     let entry = inserted.trim_start_matches('\n');
     let feeds = inserted.len().saturating_sub(entry.len());
     let before = count_feeds(front).saturating_add(feeds);
-    push_place(alloc, lines, heading, before.saturating_add(1) as u64)?;
+    let number = before.saturating_add(1) as u64;
+    let ids = ids_on_lines(alloc, heading, new, &[number])?;
+    push_place(alloc, lines, heading, number, id_at(&ids, 0))?;
     let line = from_line(entry, 1).line();
     push_seen(lines, line, heading.look.is_seen)?;
     lines.push(b'\n')?;
@@ -248,7 +325,19 @@ fn count_feeds(text: &str) -> usize {
     text.bytes().filter(|byte| *byte == b'\n').count()
 }
 
-// Appends the heading's line of a text, and the clock line that a change of it is of.
+// Appends the heading's line, with the id that it has in a new text.
+fn push_titled(
+    alloc: Global,
+    lines: &mut Vec<u8>,
+    heading: &HeadingText,
+    new: &str,
+) -> Result<(), AllocError> {
+    let ids = shown_ids(alloc, heading, new, &[heading.line])?;
+    let old = from_line(heading.text.as_str(), heading.line).with_id(id_at(&ids, 0));
+    push_own(alloc, lines, heading, old)
+}
+
+// Appends the clock line of a text that a change of it is of.
 fn push_clock(
     alloc: Global,
     lines: &mut Vec<u8>,
@@ -256,8 +345,6 @@ fn push_clock(
     text: &str,
     change: &OwnedChange,
 ) -> Result<(), AllocError> {
-    let old = from_line(heading.text.as_str(), heading.line);
-    push_line(alloc, lines, heading, old.line(), old.number)?;
     match clock_line(text, change.at as usize) {
         Some(number) => push_line(
             alloc,
@@ -270,6 +357,22 @@ fn push_clock(
     }
 }
 
+// Appends the first line of a text, with its place in front, if that is wanted.
+fn push_own(
+    alloc: Global,
+    lines: &mut Vec<u8>,
+    heading: &HeadingText,
+    from: TextFrom<'_>,
+) -> Result<(), AllocError> {
+    let look = heading.look;
+    if look.has_place {
+        push_place(alloc, lines, heading, from.number, from.id)?;
+    }
+    push_seen(lines, from.line(), look.is_seen)?;
+    lines.push(b'\n')?;
+    Ok(())
+}
+
 // Appends a line of a number, with its place in front, if that is wanted.
 fn push_line(
     alloc: Global,
@@ -280,23 +383,29 @@ fn push_line(
 ) -> Result<(), AllocError> {
     let look = heading.look;
     if look.has_place {
-        push_place(alloc, lines, heading, number)?;
+        push_place(alloc, lines, heading, number, &[])?;
     }
     push_seen(lines, line, look.is_seen)?;
     lines.push(b'\n')?;
     Ok(())
 }
 
-// Appends the place of a line, as it stands in front of rows.
+// Appends the place of a line, as it stands in front of rows, with the short id of a heading, if there is one.
 fn push_place(
     alloc: Global,
     lines: &mut Vec<u8>,
     heading: &HeadingText,
     number: u64,
+    id: &[u8],
 ) -> Result<(), AllocError> {
     push_file_name(lines, heading.name.as_str(), heading.look.is_seen)?;
-    let number = format!(in alloc; ":{number}:")?;
+    let number = format!(in alloc; ":{number}")?;
     lines.extend_from_slice(number.as_bytes())?;
+    if !id.is_empty() {
+        lines.push(b'@')?;
+        lines.extend_from_slice(id)?;
+    }
+    lines.push(b':')?;
     Ok(())
 }
 

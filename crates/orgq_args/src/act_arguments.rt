@@ -6,14 +6,18 @@ use std::alloc::{AllocError, Global};
 
 // Lines of options.
 const OF_ACTS: &str = "\
-;match;EXPR;The heading of which the expression holds, in place of FILE:LINE
+;match;EXPR;The heading of which the expression holds, in place of PLACE
 ;all;;With --match: all headings of which the expression holds, up to 1000
 ;dry-run;;Nothing is written; the same is printed";
 
-const OF_KEYWORDS: &str = ";keyword;KEYWORD;The keyword, as of several headings";
+const OF_KEYWORDS: &str = "\
+;keyword;KEYWORD;The keyword, as of several headings
+;note;TEXT;A note, which stands below the log line";
+
+const OF_DATES: &str = ";note;TEXT;A note, which stands below the log line";
 
 const OF_CLOCK_IN: &str = "\
-;match;EXPR;The heading of which the expression holds, in place of FILE:LINE
+;match;EXPR;The heading of which the expression holds, in place of PLACE
 ;switch;;The clock that runs is ended first
 ;dry-run;;Nothing is written; the same is printed";
 
@@ -25,7 +29,7 @@ t;todo;KEYWORD;Its keyword, one of the file's
 ;priority;X;Its priority: a letter, or a number 0 to 64
 ;scheduled;DATE;When it is scheduled, as of schedule
 ;deadline;DATE;Its deadline, as of deadline
-;under;PLACE;The heading below which it goes, as FILE:LINE
+;under;PLACE;The heading below which it goes, as FILE:LINE or a short id
 ;dry-run;;Nothing is written; the same is printed";
 
 const OF_UNDO: &str = "\
@@ -58,7 +62,7 @@ fn clock_in<'a>(alloc: Global) -> Result<Command<'a>, AllocError> {
     let place = word(
         alloc,
         "PLACE",
-        "The heading, as FILE:LINE; or --match names it",
+        "The heading, as FILE:LINE or a short id; or --match names it",
     );
     let begin = Command::new(alloc, "in").about("A clock of a heading begins");
     with_options(alloc, begin.arg(place)?, OF_CLOCK_IN, false)
@@ -98,10 +102,10 @@ fn with_place<'a>(
     let place = word(
         alloc,
         "PLACE",
-        "The heading, as FILE:LINE; with --match the keyword stands here",
+        "The heading, as FILE:LINE or a short id; with --match the keyword stands here",
     );
     let command = command.arg(place)?.arg(word(alloc, "KEYWORD", keyword))?;
-    let more = words(alloc, "MORE", "More headings, as FILE:LINE");
+    let more = words(alloc, "MORE", "More headings");
     let command = with_options(alloc, command.arg(more)?, OF_KEYWORDS, false)?;
     with_options(alloc, command, OF_ACTS, false)
 }
@@ -147,7 +151,7 @@ fn with_date<'a>(alloc: Global, command: Command<'a>) -> Result<Command<'a>, All
     let place = word(
         alloc,
         "PLACE",
-        "The heading, as FILE:LINE; with --match the date stands here",
+        "The heading, as FILE:LINE or a short id; with --match the date stands here",
     );
     let date = word(
         alloc,
@@ -162,5 +166,6 @@ fn with_date<'a>(alloc: Global, command: Command<'a>) -> Result<Command<'a>, All
         "MORE",
         "Words behind these: headings, the date, a time",
     );
-    with_options(alloc, command.arg(more)?, OF_ACTS, false)
+    let command = with_options(alloc, command.arg(more)?, OF_DATES, false)?;
+    with_options(alloc, command, OF_ACTS, false)
 }

@@ -1,6 +1,6 @@
 //! The heading that `add` writes.
 
-use crate::place::{HeadingPlace, read_place};
+use crate::place::{HeadingPlace, TypedPlace, read_place};
 use crate::planning::typed_date;
 use clap::ArgMatches;
 use org_amend::{NewEntry, NewHead, TypedDate};
@@ -92,12 +92,13 @@ pub fn lend<'a>(alloc: Global, tags: &'a [String]) -> Result<Vec<&'a str>, Alloc
     Ok(lent)
 }
 
-/// Where the heading goes: the file that is named, and the line of the heading below which it goes, 0 without one.
+/// Where the heading goes: the file that is named, and the line of the heading below which it goes, 0 without one; or the heading
+/// below which it goes.
 pub fn added_place(
     alloc: Global,
     matches: &ArgMatches<'_>,
     own: &ArgMatches<'_>,
-) -> Result<HeadingPlace, Problem> {
+) -> Result<TypedPlace, Problem> {
     let named = matches.get_strs("file").unwrap_or(&[]);
     if matches
         .get_strs("PATH")
@@ -107,12 +108,15 @@ pub fn added_place(
     }
     match (own.get_str("under"), named) {
         (Some(place), []) => read_place(alloc, place),
-        (Some(_), _) => Err(Problem::FileBeside),
-        (None, [name]) if *name != INPUT => Ok(HeadingPlace {
+        (Some(place), _) => match read_place(alloc, place)? {
+            TypedPlace::Id(id) => Ok(TypedPlace::Id(id)),
+            TypedPlace::At(_) | TypedPlace::AtWithId(..) => Err(Problem::FileBeside),
+        },
+        (None, [name]) if *name != INPUT => Ok(TypedPlace::At(HeadingPlace {
             name: String::from_str(alloc, name)?,
             line: 0,
             found_in: None,
-        }),
+        })),
         (None, _) => Err(Problem::OneFile),
     }
 }

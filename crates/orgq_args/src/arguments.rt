@@ -6,7 +6,7 @@ use clap::Command;
 use std::alloc::{AllocError, Global};
 
 // Lines of options: those of all commands first, then those of one.
-const OF_ALL: &str = "\
+pub(crate) const OF_ALL: &str = "\
 f;file;PATH;A file, or a folder, whose *.org files are meant; - is standard input
 ;name;NAME;The name of the text on standard input
 ;at;DATE TIME;The moment, as \"2024-02-28 10:30\"; without it now
@@ -14,31 +14,46 @@ f;file;PATH;A file, or a folder, whose *.org files are meant; - is standard inpu
 ;inherit;NAME;A property whose values headings inherit
 ;profile;N;The profile that agendas follow, 1 or 2
 n;places;;FILE:LINE: in front of each row, as grep -n has it
+i;ids;;Short ids of headings: in front of rows, in JSON and in fields
 ;json;;A JSON object a row, one a line
 ;days-too;;With --json an object for each day too
 ;properties;NAME,..;With --json these properties of headings too
 ;csv;;Fields with commas between them, a line a row
 ;format;TEXT;A line a row with members of JSON in braces, as \"{start} {title}\"
 ;color;WHEN;Late rows and warnings stand out: auto, always or never
+;background;SHADE;What letters stand on: dark or light; without it as COLORFGBG says
+;log-done;HOW;How it is logged that a heading is done, where its file doesn't say: no, time or note
+;log-repeat;HOW;How a task that comes again is logged, where its file doesn't say: no, time or note
+;log-into-drawer;DRAWER;The drawer of log lines, where a file doesn't say; no, yes for LOGBOOK, or its name
 q;quiet;;Nothing is printed; the status tells whether there is a row
 ;no-config;;The settings of the file config don't count";
 
-const OF_TODAY: &str = "d;days;N;How many days of the agenda from today on, 1 to 366";
+const OF_TODAY: &str = "\
+d;days;N;How many days of the agenda from today on, 1 to 366
+;plain;;Rows on a terminal as they stand in a pipe, without sections
+;columns;N;How wide a day is, 20 to 1000; without it as COLUMNS says, else 80
+;lines;HEIGHT;How many lines a day has room for, 5 to 1000; without it as LINES says
+;ascii;;Signs that any terminal has, in place of those for marks and lines";
 
 const OF_AGENDA: &str = "\
 d;days;N;How many days, 1 to 366
 ;grid;;One day by its half hours, as a picture
-;columns;N;How wide the picture is, 20 to 1000; without it as COLUMNS says, else 80
-;ascii;;Signs that any terminal has, in place of those for boxes";
+;plain;;Rows on a terminal as they stand in a pipe, without sections
+;columns;N;How wide a day or the picture is, 20 to 1000; without it as COLUMNS says, else 80
+;lines;HEIGHT;How many lines a day has room for, 5 to 1000; without it as LINES says
+;ascii;;Signs that any terminal has, in place of those for boxes and marks";
 
-// What chooses among the rows of agendas and of what comes next.
+// What chooses among rows by their headings, and how many are shown.
 const OF_ROWS: &str = "\
 ;match;EXPR;Only rows of headings of which the expression holds
 ;tag;TAG;Only rows of headings with the tag; of several, with all of them
 ;category;NAME;Only rows of headings of that category
 ;limit;N;At most so many rows, the first ones";
 
-const OF_LIST: &str = ";limit;N;At most so many rows, the first ones";
+// How the rows of lists and of each day stand.
+const OF_ORDER: &str = "\
+;sort;KEY,..;The order of the rows, as deadline,-effort, where a minus turns a key round
+;group-by;WHAT;What rows stand in groups by: file, path, tag, category, keyword, priority or day";
 
 const OF_CLOCK: &str = "\
 ;from;DATE;The first day, in place of a block
@@ -60,6 +75,13 @@ const OF_CALENDAR: &str = "\
 const OF_CLOCKS: &str = "\
 ;from;DATE;The first day, in place of a block
 ;to;DATE;The last day; without it today";
+
+const OF_LOG: &str = "\
+;from;DATE;The first day, in place of a block
+;to;DATE;The last day; without it today
+;closed;;When headings were closed
+;states;;When keywords changed
+;clocks;;When headings were clocked";
 
 const OF_ICAL: &str = "\
 d;days;N;How many days from today on, 1 to 366; without it 30
@@ -90,9 +112,10 @@ const VERSION: &str = "\
 kit and commit: not known to a build; where a package has the file PROOF, that names both";
 
 // The commands.
-const COMMANDS: [&str; 20] = [
-    "agenda", "calendar", "todo", "match", "clock", "clocks", "next", "ical", "page", "keywords",
-    "tags", "check", "follow", "done", "set", "schedule", "deadline", "add", "undo", "config",
+const COMMANDS: [&str; 24] = [
+    "agenda", "calendar", "todo", "match", "search", "clock", "clocks", "log", "next", "ical",
+    "page", "view", "views", "keywords", "tags", "check", "follow", "done", "set", "schedule",
+    "deadline", "add", "undo", "config",
 ];
 
 /// Whether a word is the name of a command.
@@ -105,6 +128,7 @@ pub fn takes_value(name: &str) -> bool {
     is_valued(OF_ALL, name)
         || is_valued(OF_TODAY, name)
         || is_valued(OF_ROWS, name)
+        || is_valued(OF_ORDER, name)
         || is_valued(OF_FOLLOW, name)
 }
 
@@ -113,6 +137,7 @@ pub fn command<'a>(alloc: Global) -> Result<Command<'a>, AllocError> {
     let clock = with_clock_acts(alloc, clock(alloc)?)?;
     let command = with_commands(alloc, program(alloc)?, clock)?;
     let command = command.subcommand(ical(alloc)?)?.subcommand(page(alloc)?)?;
+    let command = command.subcommand(view(alloc)?)?.subcommand(views(alloc)?)?;
     let command = command.subcommand(config(alloc)?)?;
     with_acts(alloc, command.subcommand(follow(alloc)?)?)
 }
@@ -128,8 +153,10 @@ fn with_commands<'a>(
         .subcommand(calendar(alloc)?)?
         .subcommand(todo(alloc)?)?
         .subcommand(match_list(alloc)?)?
+        .subcommand(search(alloc)?)?
         .subcommand(clock)?
         .subcommand(clocks(alloc)?)?
+        .subcommand(log(alloc)?)?
         .subcommand(next(alloc)?)?
         .subcommand(keywords(alloc)?)?
         .subcommand(tags(alloc)?)?
@@ -154,7 +181,12 @@ fn with_front<'a>(alloc: Global, command: Command<'a>) -> Result<Command<'a>, Al
     );
     let command = command.subcommand_precedence_over_arg(true).arg(path)?;
     let command = with_options(alloc, command, OF_TODAY, false)?;
-    with_options(alloc, command, OF_ROWS, false)
+    with_options(
+        alloc,
+        with_options(alloc, command, OF_ROWS, false)?,
+        OF_ORDER,
+        false,
+    )
 }
 
 fn follow<'a>(alloc: Global) -> Result<Command<'a>, AllocError> {
@@ -174,7 +206,12 @@ fn agenda<'a>(alloc: Global) -> Result<Command<'a>, AllocError> {
     let agenda = Command::new(alloc, "agenda").about("Some days, by default today");
     let agenda = agenda.arg(day.allow_hyphen_values(true))?;
     let agenda = with_options(alloc, agenda, OF_AGENDA, false)?;
-    with_options(alloc, agenda, OF_ROWS, false)
+    with_options(
+        alloc,
+        with_options(alloc, agenda, OF_ROWS, false)?,
+        OF_ORDER,
+        false,
+    )
 }
 
 fn calendar<'a>(alloc: Global) -> Result<Command<'a>, AllocError> {
@@ -193,7 +230,8 @@ fn calendar<'a>(alloc: Global) -> Result<Command<'a>, AllocError> {
 fn todo<'a>(alloc: Global) -> Result<Command<'a>, AllocError> {
     let keywords = words(alloc, "KEYWORD", "Keywords; without them the open ones");
     let todo = Command::new(alloc, "todo").about("The open entries, or those with some keyword");
-    with_options(alloc, todo.arg(keywords)?, OF_LIST, false)
+    let todo = with_options(alloc, todo.arg(keywords)?, OF_ROWS, false)?;
+    with_options(alloc, todo, OF_ORDER, false)
 }
 
 fn match_list<'a>(alloc: Global) -> Result<Command<'a>, AllocError> {
@@ -203,7 +241,18 @@ fn match_list<'a>(alloc: Global) -> Result<Command<'a>, AllocError> {
         "The expression, as work/!NEXT; behind -- where it begins with a minus",
     );
     let list = Command::new(alloc, "match").about("The entries of which an expression holds");
-    with_options(alloc, list.arg(expression.required(true))?, OF_LIST, false)
+    let list = with_options(alloc, list.arg(expression.required(true))?, OF_ROWS, false)?;
+    with_options(alloc, list, OF_ORDER, false)
+}
+
+fn search<'a>(alloc: Global) -> Result<Command<'a>, AllocError> {
+    let words = words(
+        alloc,
+        "WORD",
+        "Words, or /patterns/, that stand there; behind -- one with a minus mustn't stand there",
+    );
+    let search = Command::new(alloc, "search").about("The entries in whose text words stand");
+    with_options(alloc, search.arg(words)?, OF_ROWS, false)
 }
 
 fn clock<'a>(alloc: Global) -> Result<Command<'a>, AllocError> {
@@ -228,10 +277,29 @@ fn clocks<'a>(alloc: Global) -> Result<Command<'a>, AllocError> {
     with_options(alloc, clocks, OF_CLOCKS, false)
 }
 
+fn log<'a>(alloc: Global) -> Result<Command<'a>, AllocError> {
+    let block = word(
+        alloc,
+        "BLOCK",
+        "A block of time or a day, as of clock; without it this week",
+    );
+    let log = Command::new(alloc, "log").about(
+        "What was closed, changed its keyword and was clocked, by time",
+    );
+    let log = log.arg(block.allow_hyphen_values(true))?;
+    let log = with_options(alloc, log, OF_LOG, false)?;
+    with_options(alloc, log, OF_ROWS, false)
+}
+
 fn next<'a>(alloc: Global) -> Result<Command<'a>, AllocError> {
     let next = Command::new(alloc, "next").about("What comes next of each stamp, by time");
     let next = with_options(alloc, next, OF_NEXT, false)?;
-    with_options(alloc, next, OF_ROWS, false)
+    with_options(
+        alloc,
+        with_options(alloc, next, OF_ROWS, false)?,
+        OF_ORDER,
+        false,
+    )
 }
 
 fn ical<'a>(alloc: Global) -> Result<Command<'a>, AllocError> {
@@ -245,6 +313,22 @@ fn page<'a>(alloc: Global) -> Result<Command<'a>, AllocError> {
         "Some days, the month, clocks and open tasks as a page of HTML",
     );
     with_options(alloc, page, OF_PAGE, false)
+}
+
+fn view<'a>(alloc: Global) -> Result<Command<'a>, AllocError> {
+    let name = word(
+        alloc,
+        "NAME",
+        "Its name in the file views of the configuration folder",
+    );
+    let view = Command::new(alloc, "view").about(
+        "What a view of one's own shows, one command after the other",
+    );
+    view.arg(name.required(true))
+}
+
+fn views<'a>(alloc: Global) -> Result<Command<'a>, AllocError> {
+    Ok(Command::new(alloc, "views").about("The views of one's own, one a line"))
 }
 
 fn config<'a>(alloc: Global) -> Result<Command<'a>, AllocError> {

@@ -226,12 +226,10 @@ pub fn read_filters<'a, 'b>(matches: &'b ArgMatches<'a>) -> Result<Filters<'a, '
     match matches.subcommand() {
         None => Ok(front),
         Some(("calendar", _)) if front.limit.is_some() => Err(Problem::LimitOf),
-        Some(("agenda" | "next" | "calendar" | "ical", own)) => Ok(Filters::of(own).or(&front)),
+        Some(
+            ("agenda" | "next" | "calendar" | "ical" | "log" | "search" | "todo" | "match", own),
+        ) => Ok(Filters::of(own).or(&front)),
         Some(_) if front.chooses() => Err(Problem::FilterOf),
-        Some(("todo" | "match", own)) => {
-            let limit = own.get_one::<u32>("limit").or(front.limit);
-            Ok(Filters::within(limit))
-        }
         Some(_) if front.limit.is_some() => Err(Problem::LimitOf),
         Some(_) => Ok(Filters::within(None)),
     }

@@ -78,18 +78,27 @@ const COLUMNS: u16 = 80;
 
 /// How many columns a picture has: those of `--columns`, else those that the environment names, else 80.
 pub fn columns_for<R: AllocGlobal + Env>(rt: &R, matches: &ArgMatches<'_>) -> Result<u16, Problem> {
-    let Some(("calendar" | "agenda", own)) = matches.subcommand() else {
-        return Ok(COLUMNS);
+    let named = match matches.subcommand() {
+        Some(("calendar", own)) => own.get_one::<u32>("columns"),
+        Some(("agenda", own)) => own
+            .get_one::<u32>("columns")
+            .or(matches.get_one::<u32>("columns")),
+        _ => return Ok(COLUMNS),
     };
-    if let Some(columns) = own.get_one::<u32>("columns") {
+    if let Some(columns) = named {
         return Ok(columns.min(u32::from(MOST)) as u16);
     }
+    Ok(environment_columns(rt)?.unwrap_or(COLUMNS))
+}
+
+/// How many columns the environment names, if it does.
+pub fn environment_columns<R: AllocGlobal + Env>(rt: &R) -> Result<Option<u16>, Problem> {
     let Some(text) = value_of(rt, Variable::Columns)? else {
-        return Ok(COLUMNS);
+        return Ok(None);
     };
     match text.as_str().parse::<u16>() {
-        Ok(columns) if columns > 0 => Ok(columns.clamp(LEAST, MOST)),
-        _ => Ok(COLUMNS),
+        Ok(columns) if columns > 0 => Ok(Some(columns.clamp(LEAST, MOST))),
+        _ => Ok(None),
     }
 }
 

@@ -60,13 +60,23 @@ fn option<'a>(alloc: Global, line: &'static str) -> Arg<'a> {
     let arg = arg.value_name(value);
     match name {
         "file" | "inherit" | "only" | "not" | "tag" | "properties" => arg.action(ArgAction::Append),
-        "from" | "to" | "at" | "since" | "format" | "scheduled" | "deadline" | "link" | "output" =>
-            { arg.allow_hyphen_values(true) }
+        "from"
+        | "to"
+        | "at"
+        | "since"
+        | "format"
+        | "scheduled"
+        | "deadline"
+        | "link"
+        | "output"
+        | "note"
+        | "sort" => { arg.allow_hyphen_values(true) }
         "limit" | "times" => arg.value_parser(value_parser!(u32).range(1..=1_000_000)),
         "profile" => arg.value_parser(value_parser!(u32).range(1..=2)),
         "days" => arg.value_parser(value_parser!(u32).range(1..=i64::from(MOST_DAYS))),
         "level" => arg.value_parser(value_parser!(u32).range(1..=99)),
         "columns" => arg.value_parser(value_parser!(u32).range(20..=1000)),
+        "lines" if value == "HEIGHT" => arg.value_parser(value_parser!(u32).range(5..=1000)),
         "lines" => arg.value_parser(value_parser!(u32).range(2..=60)),
         "within" | "lead" | "alarm" => arg.value_parser(value_parser!(u32).range(0..=100_000)),
         _ => arg,

@@ -22,6 +22,11 @@ pub fn form<'a>(matches: &ArgMatches<'a>) -> Result<Form<'a>, Problem> {
     }
 }
 
+/// Whether short ids stand in front of rows.
+pub fn has_ids(matches: &ArgMatches<'_>) -> bool {
+    matches.get_flag("ids")
+}
+
 /// The form without a template.
 pub fn named_form<'a>(matches: &ArgMatches<'a>) -> Form<'a> {
     if matches.get_flag("csv") {
@@ -130,6 +135,7 @@ pub fn refused_word(word: &str, otherwise: Problem) -> Problem {
     };
     match option.split('=').next() {
         Some("limit") => Problem::LimitOf,
+        Some("sort" | "group-by") => Problem::OrderOf,
         _ => Problem::Option,
     }
 }

@@ -1,8 +1,11 @@
 //! Where a heading stands, as it is typed.
 
+use org_amend::TypedDate;
 use org_answer::seems_placed;
+use org_cal::Day;
+use org_ids::is_id;
 use orgq_messages::Problem;
-use std::alloc::Global;
+use std::alloc::{AllocError, Global};
 
 /// A heading of a file.
 #[derive(Debug, Drop)]
@@ -15,34 +18,77 @@ pub struct HeadingPlace {
     pub found_in: Option<String>,
 }
 
-/// The place that a word spells as `FILE:LINE`; a colon may follow, as it does in front of rows, and FILE may stand between
-/// quotation marks, where it does so there.
-pub fn read_place(alloc: Global, word: &str) -> Result<HeadingPlace, Problem> {
-    let Some((name, line)) = spelled_place(word) else {
-        return Err(Problem::Place);
-    };
-    Ok(HeadingPlace {
-        name: String::from_str(alloc, name)?,
-        line,
-        found_in: None,
-    })
+/// A heading, as it is typed.
+#[derive(Debug, Drop)]
+pub enum TypedPlace {
+    /// `FILE:LINE`: what stands there.
+    At(HeadingPlace),
+    /// `FILE:LINE@ID`: what stands there, if it has that short id, else the one heading of the file that has it.
+    AtWithId(HeadingPlace, String),
+    /// A short id: the one heading of all files that has it.
+    Id(String),
 }
 
-/// Whether a word spells a place.
+/// The place that a word spells: a short id, `FILE:LINE` or `FILE:LINE@ID`; a colon may follow, as it does in front of rows, and
+/// FILE may stand between quotation marks, where it does so there.
+pub fn read_place(alloc: Global, word: &str) -> Result<TypedPlace, Problem> {
+    if is_id(word.as_bytes()) {
+        return Ok(TypedPlace::Id(String::from_str(alloc, word)?));
+    }
+    match spelled_place(word) {
+        Some(place) => Ok(typed_place(alloc, &place)?),
+        None => Err(Problem::Place),
+    }
+}
+
+/// Whether a word spells a place, and no date.
 pub fn is_place(word: &str) -> bool {
-    spelled_place(word).is_some()
+    spelled_place(word).is_some() || (is_id(word.as_bytes()) && !is_date(word))
 }
 
-// The file and the line of the place that a word spells.
-fn spelled_place(word: &str) -> Option<(&str, u64)> {
+// Whether a word says a day. On which day it is asked doesn't matter.
+fn is_date(word: &str) -> bool {
+    match Day::of_number(1000) {
+        Some(day) => TypedDate::of_text(word.as_bytes(), day).is_some(),
+        None => false,
+    }
+}
+
+// A file, a line and perhaps a short id, as they are spelled.
+#[derive(Clone, Copy)]
+struct SpelledPlace<'a> {
+    name: &'a str,
+    line: u64,
+    id: Option<&'a str>,
+}
+
+fn typed_place(alloc: Global, spelled: &SpelledPlace<'_>) -> Result<TypedPlace, AllocError> {
+    let place = HeadingPlace {
+        name: String::from_str(alloc, spelled.name)?,
+        line: spelled.line,
+        found_in: None,
+    };
+    match spelled.id {
+        Some(id) => Ok(TypedPlace::AtWithId(place, String::from_str(alloc, id)?)),
+        None => Ok(TypedPlace::At(place)),
+    }
+}
+
+// The place that a word spells.
+fn spelled_place(word: &str) -> Option<SpelledPlace<'_>> {
     let word = word.strip_suffix(':').unwrap_or(word);
     let (name, number) = word.rsplit_once(':')?;
     let name = meant_name(name);
     if name.is_empty() {
         return None;
     }
-    let line = read_number(number)?;
-    Some((name, line))
+    let (digits, id) = match number.split_once('@') {
+        Some((digits, id)) if is_id(id.as_bytes()) => (digits, Some(id)),
+        Some(_) => return None,
+        None => (number, None),
+    };
+    let line = read_number(digits)?;
+    Some(SpelledPlace { name, line, id })
 }
 
 // The name of a file that is typed, or printed in front of rows. Quotation marks that stand there because a place seems to stand

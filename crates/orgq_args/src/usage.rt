@@ -24,17 +24,23 @@ pub fn parser_said<R: AllocGlobal + Print + Eprint>(rt: &R, words: &[String], er
     }
 }
 
-// Says why words are refused; a word with a minus in front may be meant as an expression.
+// Says why words are refused; a word with a minus in front may be meant as an expression, or as a word that mustn't be there.
 fn report_refusal<R: AllocGlobal + Eprint>(rt: &R, words: &[String], text: &str) -> u8 {
     say_lines(rt, text);
     if words.iter().any(|word| word.as_str() == "match") {
         say(rt, MINUS);
+    }
+    if words.iter().any(|word| word.as_str() == "search") {
+        say(rt, ABSENT);
     }
     BAD_ARGUMENTS
 }
 
 const MINUS: &str =
     "an expression that begins with a minus stands behind --, as in: orgq match -- -work";
+
+const ABSENT: &str =
+    "a word that mustn't stand there goes behind --, as in: orgq search budget -- -draft";
 
 // What the parser says of the words where their control characters are written so that they can be seen.
 fn said_of(alloc: Global, words: &[String]) -> Option<String> {

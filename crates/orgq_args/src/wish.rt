@@ -2,6 +2,7 @@
 
 use crate::adding::WishedHeading;
 use crate::options::form;
+use crate::trace::{WishedTrace, read_trace};
 use clap::ArgMatches;
 use org_act::{ClockStep, KeywordChoice};
 use org_amend::TypedDate;
@@ -108,6 +109,8 @@ pub struct Wish {
     /// Whether nothing is to be written.
     pub is_dry: bool,
     pub look: Look,
+    /// What is logged.
+    pub trace: WishedTrace,
 }
 
 /// What the arguments ask for, by the words of the command and the act that they name.
@@ -123,6 +126,7 @@ pub fn read_wish(
         None => None,
     };
     let is_keyword = matches!(act, WishedAct::Keyword(_));
+    let trace = read_trace(alloc, matches, note_of(own, &act))?;
     Ok(Wish {
         act,
         moment,
@@ -133,7 +137,16 @@ pub fn read_wish(
             is_quiet: matches.get_flag("quiet"),
             is_seen: false,
         },
+        trace,
     })
+}
+
+// The note that is given, where an act takes one.
+fn note_of<'a>(own: &ArgMatches<'a>, act: &WishedAct) -> &'a str {
+    match act {
+        WishedAct::Keyword(_) | WishedAct::Planning(..) => own.get_str("note").unwrap_or(""),
+        WishedAct::Addition(_) | WishedAct::Clock(_) => "",
+    }
 }
 
 // Whether a place stands in front of each line; the lines are no rows.

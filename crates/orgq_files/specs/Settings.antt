@@ -3,23 +3,33 @@
 -- Characters by their codes: 45 minus, 61 equals sign.
 use Rattle.std.specs.Prelude.{◌≡◌, ℕ, ◌++◌, Bool, not, if◌then◌else◌, List, [], ◌∷◌, OnOk, IfOk, Result, String, Vec, codes, map, string_bytes}
 use Rattle.orgq_files.specs.declared.setting.Choice.{Choice}
-use Rattle.orgq_files.specs.declared.setting.Choice.TheVariants.{Color, File, Inherit, Keywords, Profile}
+use Rattle.orgq_files.specs.declared.setting.Choice.TheVariants.{Background, Color, Columns, File, Inherit, Keywords, LogDone, LogIntoDrawer, LogRepeat, Profile}
 use Rattle.orgq_files.specs.declared.setting.NamedChoices.{NamedChoices}
 use Rattle.orgq_files.specs.declared.setting.Setting.{Setting}
 
 abbrev pub choice_name : Choice → List ℕ
+choice_name Background = codes "background"
 choice_name Color = codes "color"
+choice_name Columns = codes "columns"
 choice_name File = codes "file"
 choice_name Inherit = codes "inherit"
 choice_name Keywords = codes "keywords"
+choice_name LogDone = codes "log-done"
+choice_name LogIntoDrawer = codes "log-into-drawer"
+choice_name LogRepeat = codes "log-repeat"
 choice_name Profile = codes "profile"
 
 -- the command line or the environment names an option
 abbrev pub is_named : NamedChoices → Choice → Bool
+is_named named Background = named.background
 is_named named Color = named.color
+is_named named Columns = named.columns
 is_named named File = named.file
 is_named named Inherit = named.inherit
 is_named named Keywords = named.keywords
+is_named named LogDone = named.log_done
+is_named named LogIntoDrawer = named.log_into_drawer
+is_named named LogRepeat = named.log_repeat
 is_named named Profile = named.profile
 
 -- an option of the file counts where it isn't named before

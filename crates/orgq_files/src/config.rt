@@ -34,7 +34,7 @@ impl From<AllocError> for Unread {
 }
 
 // Why a line says no setting.
-#[derive(Clone, Copy, Debug)]
+#[derive(Clone, Copy)]
 enum BadLine {
     Memory,
     Because(&'static str),
@@ -53,11 +53,17 @@ impl<T: Drop> From<AllocFailed<T>> for BadLine {
 }
 
 const NO_OPTION: &str =
-    "no option of this file; there are file, keywords, inherit, profile and color, each with its value behind a space";
+    "no option of this file; there are file, keywords, inherit, profile, color, background, columns, log-done, log-repeat and log-into-drawer, each with its value behind a space";
 
 const NO_COLOR: &str = "color is auto, always or never";
 
+const NO_BACKGROUND: &str = "background is dark or light";
+
+const NO_COLUMNS: &str = "columns is a number, 20 to 1000";
+
 const NO_PROFILE: &str = "profile is 1 or 2";
+
+const NO_LOG: &str = "log-done and log-repeat are no, time or note";
 
 const TWICE: &str = "this option stands in a line before";
 
@@ -156,9 +162,24 @@ fn read_line(line: &str) -> Result<(Choice, &str), BadLine> {
         Some(Choice::Color) if !matches!(value, "auto" | "always" | "never") => {
             Err(BadLine::Because(NO_COLOR))
         }
+        Some(Choice::Background) if !matches!(value, "dark" | "light") => {
+            Err(BadLine::Because(NO_BACKGROUND))
+        }
+        Some(Choice::Columns) if !is_width(value) => Err(BadLine::Because(NO_COLUMNS)),
         Some(Choice::Profile) if !matches!(value, "1" | "2") => {
             Err(BadLine::Because(NO_PROFILE))
         }
+        Some(Choice::LogDone | Choice::LogRepeat) if !matches!(value, "no" | "time" | "note") => {
+            Err(BadLine::Because(NO_LOG))
+        }
         Some(choice) => Ok((choice, value)),
+    }
+}
+
+// Whether a word is a number of columns that lines may have.
+fn is_width(value: &str) -> bool {
+    match value.parse::<u16>() {
+        Ok(columns) => 20 <= columns && columns <= 1000,
+        Err(_) => false,
     }
 }

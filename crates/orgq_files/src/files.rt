@@ -76,13 +76,15 @@ impl FileSink for FileSet<Whole> {
         text: String,
         keywords: Option<&str>,
     ) -> Result<(), Fault> {
+        let own = text.len();
         let text = match keywords {
             Some(words) => with_keywords(alloc, text, words)?,
             None => text,
         };
+        let behind = text.len().saturating_sub(own);
         let name = String::from_str(alloc, named.name)?;
         let path = String::from_str(alloc, named.path)?;
-        self.add(name, path, Whole::of_string(alloc, text)?)
+        self.add_behind(name, path, Whole::of_string(alloc, text)?, behind)
     }
 }
 

@@ -24,7 +24,7 @@ mod sources;
 
 pub use checked::CheckedFiles;
 pub use config::{Config, Unread, no_config, read_config};
-pub use file_list::{FileList, INPUT, listed_word, path_of, read_list};
+pub use file_list::{FileList, INPUT, listed_word, path_of, read_list, read_view_file};
 pub use files::{
     FileNumber, FileSink, LeftOut, Named, file_number, push_paths, read_input, read_text,
     read_whole, real_path,

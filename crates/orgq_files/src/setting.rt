@@ -8,10 +8,15 @@ use std::alloc::{AllocError, Global};
 /// An option that may stand in the file.
 #[derive(Clone, Copy, Debug, PartialEq, Eq)]
 pub enum Choice {
+    Background,
     Color,
+    Columns,
     File,
     Inherit,
     Keywords,
+    LogDone,
+    LogIntoDrawer,
+    LogRepeat,
     Profile,
 }
 
@@ -19,10 +24,15 @@ impl Choice {
     /// The option of a name.
     pub fn of_name(name: &str) -> Option<Choice> {
         match name {
+            "background" => Some(Choice::Background),
             "color" => Some(Choice::Color),
+            "columns" => Some(Choice::Columns),
             "file" => Some(Choice::File),
             "inherit" => Some(Choice::Inherit),
             "keywords" => Some(Choice::Keywords),
+            "log-done" => Some(Choice::LogDone),
+            "log-into-drawer" => Some(Choice::LogIntoDrawer),
+            "log-repeat" => Some(Choice::LogRepeat),
             "profile" => Some(Choice::Profile),
             _ => None,
         }
@@ -33,10 +43,15 @@ impl Choice {
         ensures value { result.now ≡ choice_name self }
     {
         match self {
+            Choice::Background => "background",
             Choice::Color => "color",
+            Choice::Columns => "columns",
             Choice::File => "file",
             Choice::Inherit => "inherit",
             Choice::Keywords => "keywords",
+            Choice::LogDone => "log-done",
+            Choice::LogIntoDrawer => "log-into-drawer",
+            Choice::LogRepeat => "log-repeat",
             Choice::Profile => "profile",
         }
     }
@@ -58,10 +73,15 @@ pub struct Setting {
 /// Which options are named before the file is asked, by the command line or by the environment.
 #[derive(Clone, Copy, Debug, PartialEq, Eq)]
 pub struct NamedChoices {
+    pub background: bool,
     pub color: bool,
+    pub columns: bool,
     pub file: bool,
     pub inherit: bool,
     pub keywords: bool,
+    pub log_done: bool,
+    pub log_into_drawer: bool,
+    pub log_repeat: bool,
     pub profile: bool,
 }
 
@@ -71,10 +91,15 @@ impl NamedChoices {
         ensures value { result ≡ is_named self.now choice }
     {
         match choice {
+            Choice::Background => self.background,
             Choice::Color => self.color,
+            Choice::Columns => self.columns,
             Choice::File => self.file,
             Choice::Inherit => self.inherit,
             Choice::Keywords => self.keywords,
+            Choice::LogDone => self.log_done,
+            Choice::LogIntoDrawer => self.log_into_drawer,
+            Choice::LogRepeat => self.log_repeat,
             Choice::Profile => self.profile,
         }
     }

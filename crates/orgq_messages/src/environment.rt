@@ -9,11 +9,13 @@ use std::rt::Env;
 /// A variable that is looked at.
 #[derive(Clone, Copy, Debug)]
 pub enum Variable {
+    Background,
     Colors,
     Columns,
     Config,
     Files,
     Home,
+    Lines,
     State,
     Terminal,
     Zone,
@@ -23,11 +25,13 @@ pub enum Variable {
 impl Variable {
     fn name(self) -> &'static str {
         match self {
+            Variable::Background => "COLORFGBG",
             Variable::Colors => "NO_COLOR",
             Variable::Columns => "COLUMNS",
             Variable::Config => "XDG_CONFIG_HOME",
             Variable::Files => "ORGQ_FILES",
             Variable::Home => "HOME",
+            Variable::Lines => "LINES",
             Variable::State => "XDG_STATE_HOME",
             Variable::Terminal => "TERM",
             Variable::Zone => "TZ",
@@ -38,11 +42,13 @@ impl Variable {
     /// What is said where it isn't UTF-8.
     pub fn why(self) -> &'static str {
         match self {
+            Variable::Background => "COLORFGBG isn't UTF-8",
             Variable::Colors => "NO_COLOR isn't UTF-8",
             Variable::Columns => "COLUMNS isn't UTF-8",
             Variable::Config => "XDG_CONFIG_HOME isn't UTF-8",
             Variable::Files => "ORGQ_FILES isn't UTF-8",
             Variable::Home => "HOME isn't UTF-8",
+            Variable::Lines => "LINES isn't UTF-8",
             Variable::State => "XDG_STATE_HOME isn't UTF-8",
             Variable::Terminal => "TERM isn't UTF-8",
             Variable::Zone => "TZ isn't UTF-8",

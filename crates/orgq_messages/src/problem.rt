@@ -14,6 +14,7 @@ pub enum Problem {
     ActForm,
     /// All headings of which an expression holds are meant, and there is no expression.
     All,
+    Background,
     Block,
     /// The category of `--category` has a quotation mark.
     Category,
@@ -29,9 +30,13 @@ pub enum Problem {
     /// A form is asked for that what `config` prints doesn't have.
     ConfigForm,
     Date,
+    /// Options of a day in sections stand in front of a command that shows none.
+    DayOf,
     Days,
     DaysOf,
     DaysToo,
+    /// A word to look for is empty.
+    EmptyWord,
     /// A variable of the environment isn't UTF-8.
     Environment(Variable),
     /// Fields between commas are asked for, and there are none of what is asked.
@@ -56,6 +61,10 @@ pub enum Problem {
     Grid,
     /// Some rows of a picture are asked for.
     GridLimit,
+    /// A picture's rows are asked for in another order, or in groups.
+    GridOrder,
+    /// Groups are asked for by something else than there is.
+    GroupBy,
     /// A calendar for other programs is asked for in another form.
     Ical,
     Lead,
@@ -63,12 +72,20 @@ pub enum Problem {
     Link,
     /// A form is asked for that what a command prints that changes files doesn't have.
     LineForm,
+    /// A word to look for has a line feed.
+    LineFeed,
     /// A keyword stands behind several headings.
     KeywordBehind,
     LimitOf,
+    /// A word names no drawer.
+    LogDrawer,
+    /// A word doesn't say how something is logged.
+    LogHow,
     List,
     /// More headings are named than are changed at once.
     Many,
+    /// More words are named than are looked for at once.
+    ManyWords,
     Moment,
     /// A name of a text on standard input, and there is none.
     Name,
@@ -76,6 +93,10 @@ pub enum Problem {
     NoDate,
     /// No keyword stands behind the place of a heading.
     NoKeyword,
+    /// No word is named to look for.
+    NoWord,
+    /// A note would be read as something else.
+    Note,
     /// Not one file is named where one is written.
     OneFile,
     /// A word says no date that a heading can get.
@@ -83,8 +104,12 @@ pub enum Problem {
     /// A word with two hyphens in front names no option of its command.
     Option,
     Order,
+    /// An order or groups of what has no rows, or rows that stand as they are.
+    OrderOf,
     /// A page is asked for in another form.
     Page,
+    /// What stands between slashes is no pattern.
+    Pattern,
     /// A word is no place of a heading.
     Place,
     /// A heading is named twice.
@@ -98,6 +123,10 @@ pub enum Problem {
     SinceBeside,
     SinceDays,
     SinceMoment,
+    /// A key of an order that there isn't.
+    Sort,
+    /// An order names a key twice.
+    SortTwice,
     /// No variable of the environment says where histories of acts lie.
     State,
     Step,
@@ -106,6 +135,10 @@ pub enum Problem {
     To,
     /// A calendar is asked for of something else than a month or a week.
     View,
+    /// The file of views can't be read.
+    ViewFile,
+    /// A form is asked for that views don't have.
+    ViewForm,
     Zone,
     Fault(Fault),
 }
@@ -128,6 +161,7 @@ impl Problem {
         match self {
             Problem::ActForm => "done and set print lines: --json and --csv are no forms of theirs",
             Problem::All => "--all goes with --match",
+            Problem::Background => "--background is dark or light",
             Problem::Block => NO_BLOCK,
             Problem::Category => "a category of --category has no quotation mark in it",
             Problem::Chart => "--chart has lines alone, without -n, --json, --csv and --format",
@@ -147,9 +181,11 @@ impl Problem {
             Problem::Date => {
                 "no such date; there are today, tomorrow, yesterday, mon to sun, such as +3d, -1w, +2m, 2024-02-28, and the blocks thisweek, nextweek, lastweek, thismonth and so on, 2024-W09, 2024-02"
             }
+            Problem::DayOf => "--plain, --columns, --lines and --ascii in front are for the agenda",
             Problem::Days => "days past 9999-12-31",
             Problem::DaysOf => "-d is an option of agenda, ical, next and page",
             Problem::DaysToo => "--days-too is for --json",
+            Problem::EmptyWord => "search looks for no empty word",
             Problem::Environment(variable) => variable.why(),
             Problem::Fields => "--csv is no form of check, which has lines and --json",
             Problem::FileBeside => "--under names the file too: without -f",
@@ -157,17 +193,21 @@ impl Problem {
             Problem::Files =>
                 "no files: name them by -f, ORGQ_FILES, ~/.config/orgq/config or ~/.config/orgq/files",
             Problem::FilterOf =>
-                "--match, --tag and --category are options of agenda, calendar, ical and next",
+                "--match, --tag and --category are options of agenda, calendar, ical, log, match, next, search and todo",
             Problem::FollowFront => "files without -f and options of rows stand after follow",
             Problem::FollowInput =>
                 "follow reads files again and again, and standard input only once",
             Problem::FollowOf => {
-                "follow shows agenda, calendar, todo, match, clock, clocks, next, keywords, tags or check, and no other command"
+                "follow shows agenda, calendar, todo, match, search, clock, clocks, next, keywords, tags or check, and no other command"
             }
             Problem::Format => NO_FORMAT,
             Problem::FormatBeside => "--format goes neither with --json nor with --csv nor with -n",
             Problem::Grid => "--grid shows one day",
             Problem::GridLimit => "--grid shows all rows of a day, without --limit",
+            Problem::GridOrder => "--grid shows rows by their times, without --sort and --group-by",
+            Problem::GroupBy => {
+                "--group-by is file, path, tag, category, keyword, priority or day"
+            }
             Problem::Ical => "ical has one form, without -n, --json, --csv and --format",
             Problem::From => "--from names the first day in place of a block",
             Problem::Lead => "--lead wants --since",
@@ -175,22 +215,37 @@ impl Problem {
                 "--link has places in braces, {file}, {name}, {line} and {before}, and other braces twice",
             Problem::KeywordBehind => "of several headings --keyword names the keyword",
             Problem::LineForm => "this command prints lines: --json and --csv are no forms of its",
-            Problem::LimitOf => "--limit is an option of agenda, ical, next, todo and match",
+            Problem::LineFeed =>
+                "a word of search has no line feed: it is looked for in each line alone",
+            Problem::LogDrawer =>
+                "--log-into-drawer is no, yes, or the name of a drawer, without white space and colons",
+            Problem::LogHow => "--log-done and --log-repeat are no, time or note",
+            Problem::LimitOf =>
+                "--limit is an option of agenda, ical, log, next, todo, match and search",
             Problem::List => {
                 "the list of files, orgq/files in XDG_CONFIG_HOME or ~/.config, can't be read as a file of UTF-8"
             }
             Problem::Many => "no more than 1,000 headings are changed at once",
+            Problem::ManyWords => "search looks for no more than 32 words and patterns",
             Problem::Moment => {
                 "no such moment: --at takes one as \"2024-02-28 10:30\" or \"tomorrow 9:00\""
             }
             Problem::Name => "--name names the text of -f -",
+            Problem::Note =>
+                "a note has lines of text, none of which would be read as a drawer, a block, a setting, a comment or a clock",
             Problem::NoDate => "schedule and deadline take a date or none: schedule FILE:LINE DATE",
             Problem::OneDate => NO_DATE,
             Problem::NoKeyword => "set takes a keyword: set FILE:LINE KEYWORD",
-            Problem::Place => "a heading is named by FILE:LINE, as -n prints it, or by --match",
+            Problem::NoWord => "search wants a word to look for: search WORD ..",
+            Problem::Pattern => {
+                "a pattern between slashes is refused: patterns are those of the regex crate, of at most some size"
+            }
+            Problem::Place =>
+                "a heading is named by FILE:LINE, as -n prints it, by a short id, as -i prints it, or by --match",
             Problem::PlaceBeside => "a heading is named either by FILE:LINE or by --match",
             Problem::Option => "no such option of this command; --help behind it names them",
             Problem::Order => "the day of --to is before that of --from",
+            Problem::OrderOf => "--sort and --group-by are options of agenda, next, todo and match",
             Problem::Page => "page has one form, without -n, --json, --csv and --format",
             Problem::Properties => {
                 "--properties takes names with commas between them, and goes with --json"
@@ -204,6 +259,8 @@ impl Problem {
             Problem::SinceMoment => {
                 "no such moment: --since takes one as \"2024-02-28 10:30\" or \"yesterday 9:00\""
             }
+            Problem::Sort => NO_KEY,
+            Problem::SortTwice => "--sort names each key once",
             Problem::State => {
                 "what acts changed isn't known: neither XDG_STATE_HOME nor HOME names a folder"
             }
@@ -212,6 +269,12 @@ impl Problem {
             Problem::Tag => "no such tag: a tag has letters, digits, _, @, # and %",
             Problem::To => "--to wants --from",
             Problem::View => "calendar shows a month or a week, and the day after it",
+            Problem::ViewFile => {
+                "the file of views, orgq/views in XDG_CONFIG_HOME or ~/.config, can't be read as a file of UTF-8"
+            }
+            Problem::ViewForm => {
+                "view has lines, -n and --json, and views has lines: other forms are of single commands"
+            }
             Problem::Zone => "TZ leads out of the folder of time zones",
             Problem::Fault(fault) => why_code(fault.code()),
         }
@@ -224,8 +287,11 @@ const NO_BLOCK: &str =
 const NO_DATE: &str =
     "no such date; there are today, tomorrow, yesterday, mon to sun, such as +3d, -1w, +2m, 2024-02-28, and a time behind it, 9:30 or 9:30-10:15";
 
+const NO_KEY: &str =
+    "no such key of --sort; there are time, deadline, scheduled, priority, effort, keyword, title, category, file, closed and urgency, with commas between them, each with - in front for down";
+
 const NO_FORMAT: &str =
-    "--format takes names of members in braces, and {{ and }} for braces; there are kind, day, start, end, days, day_of, days_in, file, line, byte, stamp, stamp_line, stamp_column, category, level, keyword, done, priority, title, words, tags, scheduled, deadline, closed, effort, path, from, to, clock, minutes, text";
+    "--format takes names of members in braces, and {{ and }} for braces; there are kind, day, start, end, days, day_of, days_in, file, line, byte, stamp, stamp_line, stamp_column, category, level, keyword, done, priority, title, words, tags, scheduled, deadline, closed, effort, path, from, to, clock, minutes, group, state, state_before, id, text";
 
 fn why_code(code: Code) -> &'static str {
     match code {

@@ -104,7 +104,7 @@ fn back_found<R: AllocGlobal + Clock + Env + Files<File = File> + Print + Eprint
 }
 
 // All that is needed once a change was taken back: what is printed, and the history without it, with its path.
-#[derive(Debug, Drop)]
+#[derive(Drop)]
 struct Planned {
     lines: Vec<u8>,
     past: Vec<u8>,

@@ -16,7 +16,7 @@ use std::rt::Files;
 use std::str;
 
 // A change that would be taken back: when it was made, and what is printed of it.
-#[derive(Debug, Drop)]
+#[derive(Drop)]
 struct Listed {
     order: u64,
     lines: Vec<u8>,

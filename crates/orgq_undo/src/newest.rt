@@ -18,7 +18,7 @@ pub struct Newest<'a> {
 }
 
 // When the newest change of a file was made.
-#[derive(Clone, Copy, Debug)]
+#[derive(Clone, Copy)]
 enum Made {
     // It has none.
     Never,

@@ -19,7 +19,6 @@ use org_wire::{Counted, End, Options, run};
 use std::io::Input;
 use std::mem::forget;
 use std::process::ExitCode;
-use std::rt::Files;
 use std::{env, io};
 
 fn main(rt: HostRuntime) -> ExitCode {
@@ -35,7 +34,7 @@ fn main(rt: HostRuntime) -> ExitCode {
 }
 
 // Reads the arguments, and gives the exit status.
-fn start<R: AllocGlobal + Files + Input + Print + Eprint>(rt: &R, words: &[String]) -> u8 {
+fn start(rt: &HostRuntime, words: &[String]) -> u8 {
     let Ok(command) = command(rt.alloc()) else {
         return BAD_ARGUMENTS;
     };
@@ -71,11 +70,7 @@ fn start<R: AllocGlobal + Files + Input + Print + Eprint>(rt: &R, words: &[Strin
 }
 
 // Loads a file, or says why it can't be loaded.
-fn is_loaded<R: AllocGlobal + Files + Eprint>(
-    rt: &R,
-    engine: &mut Engine<Pieces>,
-    path: &str,
-) -> bool {
+fn is_loaded(rt: &HostRuntime, engine: &mut Engine<Pieces>, path: &str) -> bool {
     match load(rt, rt.alloc(), engine, path) {
         Ok(()) => true,
         Err(error) => {
@@ -87,11 +82,7 @@ fn is_loaded<R: AllocGlobal + Files + Eprint>(
 }
 
 // Answers the commands of standard input, and gives the exit status.
-fn serve<R: AllocGlobal + Input + Print + Eprint>(
-    rt: &R,
-    engine: &mut Engine<Pieces>,
-    options: Options,
-) -> u8 {
+fn serve(rt: &HostRuntime, engine: &mut Engine<Pieces>, options: Options) -> u8 {
     let mut reader = Counted::new(rt.reader());
     let mut writer = Counted::new(io::writer(rt));
     let end = run(rt.alloc(), &mut reader, &mut writer, engine, options);

@@ -1,0 +1,18 @@
+use Rattle.std.proofs.Common.{◌∙◌, ◌++◌, ℕ, List, [], ap, subst, sym}
+use Rattle.std.specs.Prelude.{Option}
+use Rattle.org_inherit.specs.Headings.{IsFoundIn}
+use Rattle.org_inherit.specs.declared.headings.Heading.{Heading as FoundHeading}
+use Rattle.org_client.specs.LogMembers.{said_of_log}
+use Rattle.org_client.specs.Report.{ReportView}
+use Rattle.org_client.proofs.HeadingLemmas.{found_there}
+use Rattle.org_client.proofs.log_members.put_heading.Goals as goal
+
+pub returns-in_ok-put_found : goal.returns-in_ok-put_found
+returns-in_ok-put_found g c =
+    let only = c.args.to.now.only in
+    let row = c.args.row.now in
+    let found = subst (λ (r : ReportView). IsFoundIn r.scopes row.file row.heading c.find.result) c.files.view_is c.find.ensures in
+    let there = subst (λ (f : Option FoundHeading). IsFoundIn c.args.files.now.scopes row.file row.heading f) c.in-Some.is found in
+    record {
+      ok = c.in_ok-put_found.ensures.ok ∙ ap (λ (bytes : List ℕ). record { only = only; bytes = c.args.to.now.bytes ++ bytes }) (sym (found_there [] (said_of_log only row.entry.event) c.args.files.now.scopes row.file row.heading c.in-Some.heading there));
+    }

@@ -1,0 +1,5 @@
+pub mod ShownLemmas
+pub mod PlacedLemmas
+pub mod WidthLemmas
+pub mod DraftLemmas
+pub mod LineLemmas

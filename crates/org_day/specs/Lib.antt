@@ -1,0 +1,11 @@
+pub mod Results
+pub mod Sections
+pub mod Leads
+pub mod Orders
+pub mod Placed
+pub mod Shown
+pub mod Widths
+pub mod Lines
+pub mod Painted
+pub mod Laws
+pub mod Examples

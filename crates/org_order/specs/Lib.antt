@@ -1,0 +1,4 @@
+pub mod Order
+pub mod Groups
+pub mod Laws
+pub mod Examples

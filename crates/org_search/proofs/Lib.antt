@@ -1,0 +1,3 @@
+pub mod FoldLemmas
+pub mod LineLemmas
+pub mod TypedLemmas

@@ -1,0 +1,9 @@
+pub mod Asked
+pub mod Entries
+pub mod Examples
+pub mod Laws
+pub mod Order
+pub mod Rows
+pub mod Sections
+pub mod State
+pub mod Times

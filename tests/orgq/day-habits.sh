@@ -1,0 +1,17 @@
+cat > habits.org <<'END'
+* TODO Read
+SCHEDULED: <2024-02-28 Wed .+1w>
+:PROPERTIES:
+:STYLE: habit
+:END:
+* TODO Run
+SCHEDULED: <2024-02-26 Mon .+1d>
+:PROPERTIES:
+:STYLE: habit
+:END:
+* TODO Call <2024-02-28 Wed 15:00>
+SCHEDULED: <2024-02-27 Tue>
+:PROPERTIES:
+:STYLE: habit
+:END:
+END

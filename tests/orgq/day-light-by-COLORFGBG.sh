@@ -1,0 +1,1 @@
+. "$here/orgq/day-80.sh"

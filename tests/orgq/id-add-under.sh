@@ -1,0 +1,1 @@
+printf '* a\n** b\n*** c\nx\n** e\n' > a.org

@@ -1,0 +1,1 @@
+printf '* TODO Call\nZoe\n* TODO Call\nAnn\n' > e.org

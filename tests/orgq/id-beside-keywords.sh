@@ -1,0 +1,1 @@
+printf '* TODO Call\nAnn\n* WAIT Call\nBob\n' > e.org

@@ -1,0 +1,2 @@
+printf '* TODO Buy bread\n* TODO Buy bulbs\n* TODO Buy batteries\n* TODO Buy tape\n' > s.org
+sed -i s/bulbs/lamps/ s.org

@@ -1,0 +1,3 @@
+mkdir h k
+printf '* TODO Buy bulbs\n' > h/s.org
+printf '* TODO Buy bulbs\n' > k/s.org

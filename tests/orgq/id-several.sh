@@ -1,0 +1,1 @@
+printf '* TODO Call\nAnn\n* TODO Call\nAnn\n' > e.org

@@ -1,0 +1,1 @@
+printf '* TODO a\r\nkept\r\n' > a.org

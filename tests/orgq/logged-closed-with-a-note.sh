@@ -1,0 +1,1 @@
+printf '#+STARTUP: lognotedone\n* TODO a\n\nkept\n' > a.org

@@ -1,0 +1,1 @@
+printf '#+STARTUP: logdone\n* TODO a\n' > a.org

@@ -1,0 +1,1 @@
+printf '#+STARTUP: logreschedule\n* TODO a\n' > a.org

@@ -1,0 +1,1 @@
+printf '* TODO a\nDEADLINE: <2024-03-01 Fri>\n' > a.org

@@ -1,0 +1,1 @@
+printf '#+TODO: TODO | DONE(!)\n* TODO a\n* TODO b\nkept\n' > a.org

@@ -1,0 +1,7 @@
+export XDG_CONFIG_HOME=conf HOME=/home/ann
+mkdir -p conf/orgq
+cat > conf/orgq/views <<'END'
+[morning]
+show = todo NEXT
+show = search "at last" --title 'What is "last"'
+END

@@ -1,0 +1,7 @@
+export XDG_CONFIG_HOME=conf HOME=/home/ann
+mkdir -p conf/orgq
+cat > conf/orgq/views <<'END'
+[a]
+show = todo NEXT
+show = todo --grid
+END

@@ -1,0 +1,8 @@
+export XDG_CONFIG_HOME=conf HOME=/home/ann
+mkdir -p conf/orgq
+cat > conf/orgq/views <<'END'
+[a]
+about = one
+about = two
+show = todo
+END
