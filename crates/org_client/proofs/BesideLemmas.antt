@@ -1,12 +1,12 @@
 -- A title without < has no active stamps.
-use Rattle.std.proofs.Common.{◌≡◌, ◌∙◌, ◌+◌, ◌<◌, ◌≤◌, inl, inr, ℕ, zero, suc, Bool, true, false, List, [], ◌∷◌, ◌++◌, length, take, drop, refl, sym, ap, subst, arith}
+use Rattle.std.proofs.Common.{◌≡◌, ◌∙◌, inl, inr, ℕ, zero, suc, Bool, true, false, List, [], ◌∷◌, ◌++◌, take, drop, refl, sym, ap}
 use Rattle.std.specs.Prelude.{◌==◌, ◌||◌}
 use Rattle.std.specs.List.{AllByRecursion, list_any}
 use Rattle.std.proofs.lemmas.Bool.{cases_Bool, true≢false}
 use Rattle.org_client.specs.HeadingNames.{plain_title}
 use Rattle.org_client.specs.TitleWords.{beside_stamps}
 use Rattle.org_stamp.specs.Line.{IsLongestAt, stamps_of}
-use Rattle.org_stamp.specs.Stamp.{IsRange, IsSingle, IsStamp, open_of}
+use Rattle.org_stamp.specs.Stamp.{IsSingle, IsStamp, open_of}
 use Rattle.org_stamp.specs.declared.stamp.Found.{Found}
 use Rattle.org_stamp.specs.declared.stamp.Stamp.{Stamp}
 use Rattle.org_stamp.proofs.LawLemmas.{stamps_of_line}

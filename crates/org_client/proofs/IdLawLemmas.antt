@@ -1,19 +1,17 @@
 -- What a short id stands for was meant.
-use Rattle.std.proofs.Common.{◌≡◌, ◌∙◌, inl, inr, ℕ, zero, suc, ◌-◌, ◌≤◌, Bool, true, false, cond, List, [], ◌∷◌, length, map, get_or, refl, sym, ap, subst, arith}
-use Rattle.std.specs.Prelude.{nat_le, slice_get, Option, None, Some}
-use Rattle.std.proofs.lemmas.Bool.{cases_Bool, true≢false}
-use Rattle.std.proofs.lemmas.List.{get_or_past, length-map}
-use Rattle.org_client.specs.Files.{NamedText, own_section}
+use Rattle.std.proofs.Common.{◌≡◌, ◌∙◌, ℕ, zero, suc, ◌-◌, Bool, true, false, cond, List, [], ◌∷◌, length, map, get_or, refl, sym, ap, arith}
+use Rattle.std.specs.Prelude.{nat_le, slice_get, Option, None}
+use Rattle.std.proofs.lemmas.Bool.{true≢false}
+use Rattle.std.proofs.lemmas.List.{get_or_past}
+use Rattle.org_client.specs.Files.{own_section}
 use Rattle.org_client.specs.HeadingNames.{FileNames, id_headings, last_part, name_at, names_in}
 use Rattle.org_client.specs.IdLaws.{IdsStandForWhatWasListed, SumsAreOfPlaced, heading_place, placed_at}
-use Rattle.org_client.specs.RowIds.{is_asked, key_of, stands_for_some, sum_in, sum_there}
+use Rattle.org_client.specs.RowIds.{is_asked, stands_for_some, sum_there}
 use Rattle.org_client.specs.RowIds.{heading_sum as sum_of_heading}
-use Rattle.org_entry.specs.declared.entry.Entry.{Entry}
 use Rattle.org_ids.specs.Laws.{heading_sum, nobody}
 use Rattle.org_ids.specs.Letters.{id_of, stands_for, sum_of}
-use Rattle.org_ids.specs.Names.{NamedBy, kept_name, named_in, names_of, summed_name}
+use Rattle.org_ids.specs.Names.{NamedBy, kept_name, named_in, summed_name}
 use Rattle.org_ids.proofs.LawLemmas.{summed_are_meant}
-use Rattle.org_inherit.specs.Scope.{Scope}
 
 -- the name at a place is that of what is there
 kept_at : (ns : List NamedBy) (place : ℕ) → get_or (map kept_name ns) place [] ≡ kept_name (get_or ns place nobody)

@@ -1,7 +1,6 @@
 -- The names of a file's headings, put one after the other, and found by their sections.
-use Rattle.std.proofs.Common.{◌≡◌, ◌∙◌, ℕ, suc, Bool, true, false, ◌+◌, ◌-◌, ◌<◌, ◌≤◌, List, [], ◌∷◌, ◌++◌, length, map, get_or, take, drop, refl, sym, ap, arith, append-nil}
-use Rattle.std.specs.Prelude.{◌||◌, nat_le, not, slice_get, Option, None, Some}
-use Rattle.std.specs.List.{flat_map}
+use Rattle.std.proofs.Common.{◌≡◌, ◌∙◌, ℕ, suc, Bool, true, false, ◌+◌, ◌-◌, ◌<◌, ◌≤◌, List, [], ◌∷◌, ◌++◌, length, get_or, take, refl, sym, ap, append-nil}
+use Rattle.std.specs.Prelude.{◌||◌, not, slice_get, Some}
 use Rattle.std.proofs.lemmas.Bool.{le-leb, lt-leb, true≢false}
 use Rattle.std.proofs.lemmas.Grind.{flat_map-append}
 use Rattle.std.proofs.lemmas.List.{get_or_past, length-map, take_more}
@@ -10,7 +9,7 @@ use Rattle.org_client.specs.HeadingNames.{FileNames, IsCounted, id_heading_of, i
 use Rattle.org_entry.specs.declared.entry.Entry.{Entry}
 use Rattle.org_ids.proofs.CountLemmas.{is_twice_is}
 use Rattle.org_ids.specs.Counts.{Counts, is_among_twice, is_twice, number_of, times_in}
-use Rattle.org_ids.specs.Names.{IdHeading, NamedBy, OnWay, enter, is_whole, kept_name, named_from, named_in, names_of, text_part, with_text}
+use Rattle.org_ids.specs.Names.{IdHeading, OnWay, enter, is_whole, kept_name, named_from, named_in, names_of, text_part, with_text}
 
 named_length : (file : List ℕ) (way : List OnWay) (hs : List IdHeading) → length (named_from file way hs) ≡ length hs
 named_length file way [] = refl

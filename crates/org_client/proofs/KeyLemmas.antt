@@ -1,13 +1,12 @@
 -- Numbers of headings, and the sums that stand under them.
-use Rattle.std.proofs.Common.{◌≡◌, ◌∙◌, inl, inr, ℕ, zero, suc, ◌+◌, ◌<◌, Bool, true, false, cond, List, [], ◌∷◌, ◌++◌, length, get_or, take, refl, sym, ap, subst, arith}
-use Rattle.std.specs.Prelude.{◌==◌, ◌&&◌, ◌||◌, Option, None, Some}
+use Rattle.std.proofs.Common.{◌≡◌, ◌∙◌, inl, inr, ℕ, zero, suc, ◌+◌, ◌<◌, Bool, true, false, cond, List, [], ◌∷◌, length, get_or, take, refl, sym, ap, arith}
+use Rattle.std.specs.Prelude.{◌==◌, ◌&&◌, ◌||◌, Option, Some}
 use Rattle.std.specs.Cmp.{unsigned_tied}
-use Rattle.std.specs.List.{list_any}
 use Rattle.std.specs.Ordering.{is_eq, nat_cmp}
 use Rattle.std.proofs.lemmas.Bool.{cases_Bool, eq-eqb, eqb-true, true≢false}
 use Rattle.std.proofs.lemmas.List.Folds.{list_any_more}
 use Rattle.org_client.specs.Files.{NamedText}
-use Rattle.org_client.specs.RowIds.{HaveKeys, IdsView, PutsSums, has_key, heading_of, heading_sum, is_in, is_same, key_of, sum_in}
+use Rattle.org_client.specs.RowIds.{IdsView, PutsSums, has_key, heading_of, heading_sum, is_in, is_same, key_of, sum_in}
 use Rattle.org_client.specs.declared.row_ids.HeadingAt.{HeadingAt}
 use Rattle.org_entry.specs.declared.entry.Entry.{Entry}
 

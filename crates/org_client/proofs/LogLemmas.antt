@@ -1,5 +1,5 @@
 -- The logs of files that are left.
-use Rattle.std.proofs.Common.{◌≡◌, ◌+◌, ℕ, zero, suc, List, [], ◌∷◌, ◌++◌, drop, ap, arith, refl}
+use Rattle.std.proofs.Common.{◌≡◌, ◌+◌, ℕ, zero, suc, List, [], ◌∷◌, ◌++◌, drop, ap, arith}
 use Rattle.std.specs.Prelude.{Some, slice_get}
 use Rattle.org_inherit.specs.Scope.{Scope}
 use Rattle.org_client.specs.Files.{NamedText}

@@ -1,6 +1,6 @@
 -- The text of a section as far as it is the file's own.
 use Rattle.std.proofs.Common.{◌≡◌, ◌∙◌, ℕ, zero, suc, ◌+◌, ◌-◌, ◌<◌, ◌≤◌, Bool, true, false, List, [], ◌∷◌, ◌++◌, length, get_or, take, drop, refl, sym, ap, arith, inl, inr, add-one, length-append}
-use Rattle.std.specs.Prelude.{min, Option, None, Some}
+use Rattle.std.specs.Prelude.{min, None, Some}
 use Rattle.std.specs.List.{concat, slice_range}
 use Rattle.std.proofs.Math.Seq.{drop-append-add}
 use Rattle.std.proofs.lemmas.Bool.{cases_lt, le-ltb, lt-ltb}

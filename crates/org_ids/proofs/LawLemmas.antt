@@ -1,13 +1,13 @@
 -- What has the same bytes summed was meant, and what an id names was.
-use Rattle.std.proofs.Common.{◌≡◌, ◌∙◌, ◌≤◌, ◌<◌, ◌*◌, ◌-◌, ◌^◌, ℕ, Bool, true, false, cond, List, [], ◌∷◌, ◌++◌, filter, length, take, refl, sym, ap, subst, append-nil, arith, inl, inr}
+use Rattle.std.proofs.Common.{◌≡◌, ◌∙◌, ◌<◌, ℕ, Bool, true, false, cond, List, [], ◌∷◌, ◌++◌, filter, length, take, refl, sym, ap, subst, append-nil, arith, inl, inr}
 use Rattle.std.specs.Prelude.{Option, None, Some, nat_le}
 use Rattle.std.specs.List.{AllByRecursion}
 use Rattle.std.proofs.lemmas.List.{length-take, take_all}
 use Rattle.std.proofs.lemmas.Bool.{ltb-true}
 use Rattle.org_ids.specs.Laws.{IsMeant, NoStrangerFits, Placed, found, heading_sum, is_repeated, name_of, named, only, summed}
 use Rattle.org_ids.specs.Letters.{id_length, id_of, stands_for}
-use Rattle.org_ids.specs.Names.{NamedBy, is_whole, kept_name, part, spelled, text_part}
-use Rattle.org_ids.proofs.MarkLemmas.{AreSame, Signed, name_signed, no_text, texts_tell}
+use Rattle.org_ids.specs.Names.{NamedBy, is_whole, kept_name, spelled, text_part}
+use Rattle.org_ids.proofs.MarkLemmas.{name_signed, no_text, texts_tell}
 use Rattle.org_ids.proofs.NameLemmas.{IsName, has_name, spelled_tells}
 
 -- a name that is whole is all that is spelled

@@ -1,8 +1,7 @@
 -- The text of a section is told apart from the name in front of it.
 use Rattle.std.proofs.Common.{◌≡◌, ◌∙◌, ℕ, zero, suc, List, [], ◌∷◌, ◌++◌, take, refl, sym, ap, subst, append-nil, ◌⊎◌, inl, inr, arith}
-use Rattle.std.specs.Prelude.{◌≢◌}
 use Rattle.std.specs.List.{flat_map}
-use Rattle.org_ids.specs.Names.{NamedBy, part, spelled, way_name}
+use Rattle.org_ids.specs.Names.{NamedBy, part, spelled}
 use Rattle.org_ids.proofs.NameLemmas.{IsById, IsByTitles, IsName}
 use Rattle.org_ids.proofs.PlainLemmas.{ArePlain, NoFeed}
 

@@ -1,6 +1,6 @@
 -- Names of headings are told apart by how they are spelled.
-use Rattle.std.proofs.Common.{◌≡◌, ◌∙◌, ℕ, Bool, true, false, List, [], ◌∷◌, ◌++◌, refl, sym, ap, subst, ◌⊎◌, inl, inr, get_or, zero, suc, arith}
-use Rattle.std.specs.Prelude.{◌≢◌, Option, None, Some}
+use Rattle.std.proofs.Common.{◌≡◌, ◌∙◌, ℕ, List, [], ◌∷◌, ◌++◌, refl, sym, ap, ◌⊎◌, inl, inr, get_or, zero, suc, arith}
+use Rattle.std.specs.Prelude.{Option, None, Some}
 use Rattle.std.specs.List.{AllByRecursion, flat_map}
 use Rattle.org_ids.specs.Laws.{Placed, name_of, nobody}
 use Rattle.org_ids.specs.Names.{IdHeading, NamedBy, OnWay, enter, id_line, named_by, named_from, named_in, one_line, part, spelled, way_name, words_of}

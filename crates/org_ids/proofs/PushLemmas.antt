@@ -1,8 +1,7 @@
 -- One more heading behind others: the way to it, and its name.
 use Rattle.std.proofs.Common.{◌≡◌, ◌∙◌, ℕ, List, [], ◌∷◌, ◌++◌, length, map, refl, sym, ap, append_assoc, append-nil}
-use Rattle.std.specs.List.{flat_map}
 use Rattle.std.proofs.lemmas.List.{map-append}
-use Rattle.org_ids.specs.Names.{IdHeading, NamedBy, NamesView, OnWay, bounded, ends_from, enter, id_line, kept_name, named_by, named_from, named_too, names_of, names_view, own_name, part, way_behind, way_view, words_of}
+use Rattle.org_ids.specs.Names.{IdHeading, NamedBy, OnWay, bounded, ends_from, enter, id_line, kept_name, named_by, named_from, named_too, names_of, names_view, own_name, part, way_behind, way_view}
 use Rattle.org_ids.specs.declared.names.Above.{Above}
 use Rattle.org_ids.proofs.WayLemmas.{bytes_of, take_behind, way_bytes}
 

@@ -4,7 +4,7 @@ use Rattle.std.specs.Prelude.{nat_lt}
 use Rattle.std.specs.List.{flat_map}
 use Rattle.std.proofs.lemmas.List.{map-append}
 use Rattle.std.proofs.lemmas.Grind.{flat_map-append}
-use Rattle.org_ids.specs.Names.{NamesView, OnWay, bounded, ends_from, left_end, lower, lower_count, one_line, part, way_name, way_view, words_of}
+use Rattle.org_ids.specs.Names.{OnWay, bounded, ends_from, left_end, lower, lower_count, one_line, part, way_name, words_of}
 use Rattle.org_ids.specs.declared.names.Above.{Above}
 
 abbrev pub way_bytes : List ℕ → List OnWay → List ℕ

@@ -1,5 +1,5 @@
 -- Case folding, character by character, and of ASCII.
-use Rattle.std.proofs.Common.{◌≡◌, ℕ, suc, List, [], ◌∷◌, ◌++◌, map, sym, ap, ◌∙◌, refl, chars, encode_utf8_all, IsAscii}
+use Rattle.std.proofs.Common.{◌≡◌, ℕ, suc, List, [], ◌∷◌, ◌++◌, map, sym, ap, ◌∙◌, chars, encode_utf8_all, IsAscii}
 use Rattle.std.specs.Char.{encode_utf8, to_ascii_lowercase}
 use Rattle.std.specs.Str.{IsUtf8}
 use Rattle.std.proofs.lemmas.Str.{chars_past_char, chars-nil, chars-IsAscii, encodes-append, encodes-IsAscii}

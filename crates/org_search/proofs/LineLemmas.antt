@@ -1,7 +1,7 @@
 -- A test of the lines that are left.
-use Rattle.std.proofs.Common.{◌≡◌, ℕ, Bool, true, false, ◌||◌, List, [], ◌∷◌, map, refl, ap, sym, ◌∙◌, Option, None, Some, is_some}
+use Rattle.std.proofs.Common.{◌≡◌, ℕ, Bool, true, false, ◌||◌, List, [], ◌∷◌, map, ap, sym, ◌∙◌, Option, is_some}
 use Rattle.std.specs.List.{list_any}
-use Rattle.memchr.specs.Find.{FindsNeedle, first_of, matches}
+use Rattle.memchr.specs.Find.{FindsNeedle}
 use Rattle.memchr.proofs.lemmas.ValueLemmas.{FindsNeedle-value}
 use Rattle.org_lines.specs.Cuts.{Cut}
 use Rattle.org_search.specs.Folded.{stands_in}

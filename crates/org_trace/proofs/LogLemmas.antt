@@ -7,7 +7,7 @@ use Rattle.org_lines.specs.Cuts.{Cut, cuts}
 use Rattle.org_lines.specs.declared.lines.Line.{Line}
 use Rattle.org_trace.specs.Asked.{SectionAsked}
 use Rattle.org_trace.specs.Entries.{line_entry}
-use Rattle.org_trace.specs.Laws.{AllAreListed, IsLineOf, IsLogged, IsRowOf, RowsAreTrue, row_at}
+use Rattle.org_trace.specs.Laws.{AllAreListed, IsRowOf, RowsAreTrue, row_at}
 use Rattle.org_trace.specs.Rows.{is_asked}
 use Rattle.org_trace.specs.Sections.{cut_rows, entry_rows, line_rows, rows_if, rows_of_line}
 use Rattle.org_trace.specs.declared.entry.LogEntry.{LogEntry}

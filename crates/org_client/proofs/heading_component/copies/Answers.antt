@@ -1,5 +1,5 @@
 -- One text more.
-use Rattle.std.proofs.Common.{◌≡◌, ◌∙◌, ◌++◌, [], ◌∷◌, ap, sym}
+use Rattle.std.proofs.Common.{◌∙◌, ◌++◌, [], ◌∷◌, ap, sym}
 use Rattle.std.proofs.lemmas.List.{map-append}
 use Rattle.org_ical.specs.Results.{bytes_of}
 use Rattle.org_inherit.proofs.ListLemmas.{take_one_more}

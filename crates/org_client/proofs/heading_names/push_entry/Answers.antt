@@ -1,5 +1,5 @@
 -- A title without < is the same beside its stamps.
-use Rattle.std.proofs.Common.{◌≡◌, ◌∙◌, ℕ, List, [], ◌∷◌, ◌++◌, sym, ap, false}
+use Rattle.std.proofs.Common.{◌≡◌, ◌∙◌, List, [], ◌∷◌, ◌++◌, sym, ap, false}
 use Rattle.std.proofs.lemmas.Result.{on_ok_weaker}
 use Rattle.org_base.specs.Spans.{bytes_in}
 use Rattle.org_client.specs.HeadingNames.{id_heading_of, plain_title}

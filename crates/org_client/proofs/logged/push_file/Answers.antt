@@ -1,5 +1,5 @@
 -- A file that isn't there has no rows.
-use Rattle.std.proofs.Common.{◌≡◌, ◌≤◌, ◌∙◌, ◌++◌, append-nil, ap, length, rules, sym}
+use Rattle.std.proofs.Common.{◌≤◌, ◌∙◌, ◌++◌, append-nil, ap, length, rules, sym}
 use Rattle.std.proofs.lemmas.Option.{slice_get_past}
 use Rattle.org_client.specs.LogRows.{rows_if_there}
 use Rattle.org_client.proofs.logged.push_file.Goals as goal

@@ -1,4 +1,4 @@
-use Rattle.std.proofs.Common.{◌≡◌, ◌∙◌, ◌++◌, ◌∷◌, [], ap, map, sym, take}
+use Rattle.std.proofs.Common.{◌∙◌, ◌++◌, ◌∷◌, [], ap, map, sym, take}
 use Rattle.std.proofs.lemmas.List.{map-append}
 use Rattle.org_inherit.proofs.ListLemmas.{take_one_more}
 use Rattle.org_client.specs.Report.{starts_of}

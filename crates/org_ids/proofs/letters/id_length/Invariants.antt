@@ -1,5 +1,5 @@
 -- No fewer are enough.
-use Rattle.std.proofs.Common.{◌≡◌, ◌*◌, ◌-◌, ◌^◌, ◌≤◌}
+use Rattle.std.proofs.Common.{◌≡◌, ◌-◌, ◌^◌}
 use Rattle.org_ids.specs.Letters.{id_length, least_enough}
 use Rattle.org_ids.proofs.letters.id_length.Given as goal
 

@@ -1,5 +1,5 @@
 -- The power is one of 32, from the first to the eleventh.
-use Rattle.std.proofs.Common.{◌≤◌, ◌<◌, ◌^◌, arith}
+use Rattle.std.proofs.Common.{◌≤◌, ◌^◌, arith}
 use Rattle.std.proofs.Math.Nat.{one-le-pow, pow-le-pow_right}
 use Rattle.org_ids.proofs.letters.letter_at.Goals as goal
 

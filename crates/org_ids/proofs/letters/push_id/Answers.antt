@@ -1,5 +1,5 @@
 -- One letter more is written, and one less is left.
-use Rattle.std.proofs.Common.{◌≡◌, ◌∙◌, ◌++◌, ◌∷◌, [], ◌+◌, ◌-◌, ◌<◌, ℕ, List, suc, map, refl, sym, ap, arith, append_assoc}
+use Rattle.std.proofs.Common.{◌≡◌, ◌∙◌, ◌++◌, ◌∷◌, [], ◌+◌, ◌-◌, ◌<◌, ℕ, List, suc, map, sym, ap, arith, append_assoc}
 use Rattle.std.specs.List.{range_with_len}
 use Rattle.org_ids.specs.Letters.{letter_at}
 use Rattle.org_ids.proofs.letters.push_id.Goals as goal

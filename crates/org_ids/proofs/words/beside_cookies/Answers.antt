@@ -1,5 +1,5 @@
 -- A byte of a cookie is left out, or stands as a space, or isn't one.
-use Rattle.std.proofs.Common.{◌≡◌, ◌∙◌, ℕ, ◌+◌, ◌-◌, ◌<◌, ◌≤◌, List, [], ◌∷◌, ◌++◌, length, get_or, take, drop, refl, sym, ap, add-one, append_assoc, drop-cons, arith}
+use Rattle.std.proofs.Common.{◌≡◌, ◌∙◌, ℕ, ◌+◌, ◌-◌, ◌<◌, ◌≤◌, List, [], ◌∷◌, ◌++◌, length, get_or, take, drop, sym, ap, add-one, append_assoc, drop-cons, arith}
 use Rattle.std.proofs.lemmas.List.{take_rest}
 use Rattle.org_ids.specs.Words.{beside_cookies, cookie_length}
 use Rattle.org_ids.proofs.WordLemmas.{at_byte, at_cookie, within_cookie}

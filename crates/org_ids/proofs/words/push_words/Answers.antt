@@ -1,5 +1,5 @@
 -- A title without brackets is the same beside its cookies.
-use Rattle.std.proofs.Common.{◌≡◌, ◌∙◌, ℕ, false, List, ◌++◌, sym, ap}
+use Rattle.std.proofs.Common.{◌∙◌, ℕ, false, List, ◌++◌, sym, ap}
 use Rattle.std.proofs.lemmas.Result.{on_ok_weaker}
 use Rattle.org_ids.specs.Names.{bounded}
 use Rattle.org_ids.specs.Words.{words_text}

@@ -1,4 +1,4 @@
-use Rattle.std.proofs.Common.{◌≡◌, ◌∙◌, ◌++◌, ap, map, sym}
+use Rattle.std.proofs.Common.{◌∙◌, ◌++◌, ap, map, sym}
 use Rattle.std.specs.Char.{to_ascii_lowercase}
 use Rattle.org_search.proofs.FoldLemmas.{folded_ascii}
 use Rattle.org_search.proofs.fold.put_folded.Goals as goal

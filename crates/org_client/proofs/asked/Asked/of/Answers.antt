@@ -1,9 +1,8 @@
 -- One heading more is asked about.
-use Rattle.std.proofs.Common.{◌≡◌, ◌∙◌, ◌+◌, List, ℕ, length, get_or, take, refl, sym, ap, subst, arith}
-use Rattle.std.proofs.lemmas.List.{take_all}
-use Rattle.org_client.specs.RowIds.{AreAsked, with_heading}
+use Rattle.std.proofs.Common.{◌+◌, List, take, sym, subst}
+use Rattle.org_client.specs.RowIds.{AreAsked}
 use Rattle.org_client.specs.declared.row_ids.HeadingAt.{HeadingAt}
-use Rattle.org_client.proofs.AskedLemmas.{asked_none, asked_step}
+use Rattle.org_client.proofs.AskedLemmas.{asked_step}
 use Rattle.org_client.proofs.asked.Asked.of.Goals as goal
 
 pub loop-heading-preserved : goal.loop-heading-preserved

@@ -1,11 +1,10 @@
 -- The text of the section is summed where it has to be.
-use Rattle.std.proofs.Common.{◌≡◌, ◌∙◌, ℕ, Bool, List, sym, ap}
-use Rattle.std.specs.Prelude.{◌||◌, not}
+use Rattle.std.proofs.Common.{◌≡◌, ◌∙◌, ℕ, List, sym, ap}
 use Rattle.org_client.specs.Files.{own_section}
-use Rattle.org_client.specs.HeadingNames.{IsCounted, name_at}
+use Rattle.org_client.specs.HeadingNames.{name_at}
 use Rattle.org_ids.specs.Counts.{is_among_twice, is_twice, number_of}
 use Rattle.org_ids.specs.Letters.{sum_of}
-use Rattle.org_ids.specs.Names.{is_whole, with_text}
+use Rattle.org_ids.specs.Names.{with_text}
 use Rattle.org_client.proofs.IdNameLemmas.{no_text, repeated_is}
 use Rattle.org_client.proofs.heading_names.HeadingNames.sum.Goals as goal
 

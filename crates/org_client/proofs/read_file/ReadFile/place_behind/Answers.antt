@@ -1,5 +1,5 @@
 -- No text has as many sections.
-use Rattle.std.proofs.Common.{◌≡◌, ◌+◌, ◌≤◌, ◌<◌, ◌^◌, inl, inr, length, sym, subst, arith}
+use Rattle.std.proofs.Common.{◌+◌, ◌≤◌, ◌^◌, inl, inr, length, sym, subst, arith}
 use Rattle.std.proofs.lemmas.Bool.{cases_lt}
 use Rattle.org_class.specs.Sections.{sections}
 use Rattle.org_client.specs.Files.{NamedText}

@@ -1,5 +1,5 @@
 -- The part of the text is that of the section, as far as it is the file's own.
-use Rattle.std.proofs.Common.{◌≡◌, ◌∙◌, ◌-◌, ◌+◌, ℕ, length, sym, ap}
+use Rattle.std.proofs.Common.{◌≡◌, ◌∙◌, ◌-◌, ℕ, length, sym, ap}
 use Rattle.std.specs.Prelude.{min, Some}
 use Rattle.org_client.specs.Files.{NamedText}
 use Rattle.org_client.proofs.OwnLemmas.{own_part, place_some}

@@ -1,9 +1,9 @@
 -- One file more has its sums, and then all have.
-use Rattle.std.proofs.Common.{◌≡◌, ◌∙◌, ◌+◌, ◌-◌, ◌^◌, ◌<◌, ◌≤◌, List, [], ℕ, length, get_or, take, sym, ap, subst, arith}
-use Rattle.std.specs.Prelude.{◌&&◌, min, slice_get, Some}
+use Rattle.std.proofs.Common.{◌≡◌, ◌∙◌, ◌-◌, ◌^◌, ◌<◌, List, [], ℕ, length, get_or, take, ap, subst, arith}
+use Rattle.std.specs.Prelude.{min}
 use Rattle.std.proofs.lemmas.List.{take_min}
 use Rattle.org_client.specs.HeadingNames.{id_headings}
-use Rattle.org_client.specs.RowIds.{HaveSums, IdsView, PutsSums, heading_count, is_asked, is_in, key_of, sum_in}
+use Rattle.org_client.specs.RowIds.{IdsView, PutsSums, heading_count, is_in, key_of, sum_in}
 use Rattle.org_client.proofs.AskedLemmas.{HaveFirst, all_sums, count_more, first_more}
 use Rattle.org_entry.specs.declared.entry.Entry.{Entry}
 use Rattle.org_ids.specs.Letters.{id_length}

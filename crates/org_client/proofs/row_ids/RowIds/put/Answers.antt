@@ -1,5 +1,5 @@
 -- The map has one sum more.
-use Rattle.std.proofs.Common.{◌≡◌, ◌∙◌, cond, ap}
+use Rattle.std.proofs.Common.{◌∙◌, cond, ap}
 use Rattle.std.specs.Prelude.{Some}
 use Rattle.std.specs.Map.{lookup}
 use Rattle.std.specs.Ordering.{is_eq, nat_cmp}

@@ -1,5 +1,5 @@
 -- One section more has its sum, and then all have.
-use Rattle.std.proofs.Common.{◌≡◌, ◌∙◌, ◌<◌, List, ℕ, length, get_or, take, ap, subst}
+use Rattle.std.proofs.Common.{◌≡◌, ◌∙◌, ◌<◌, List, ℕ, length, get_or, ap, subst}
 use Rattle.std.proofs.lemmas.List.{take_all}
 use Rattle.org_client.specs.HeadingNames.{FileNames, names_in, sum_at}
 use Rattle.org_client.specs.RowIds.{PutsSums, heading_sum}

@@ -1,5 +1,5 @@
 -- What the map finds is what its view finds.
-use Rattle.std.proofs.Common.{◌≡◌, ◌∙◌, ap}
+use Rattle.std.proofs.Common.{◌∙◌, ap}
 use Rattle.org_client.specs.RowIds.{IdsView, sum_in}
 use Rattle.org_client.proofs.row_ids.RowIds.sum.Goals as goal
 

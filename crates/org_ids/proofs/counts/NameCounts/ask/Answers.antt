@@ -1,7 +1,7 @@
 -- A name that is there keeps its number, and one that isn't gets 0.
-use Rattle.std.proofs.Common.{◌≡◌, ◌∙◌, ℕ, List, Bool, true, false, refl, sym, ap}
+use Rattle.std.proofs.Common.{◌≡◌, ◌∙◌, ℕ, true, false, refl, sym, ap}
 use Rattle.std.specs.Prelude.{Option, Some, None, is_some}
-use Rattle.org_ids.specs.Counts.{Counts, asked_too, number_of}
+use Rattle.org_ids.specs.Counts.{asked_too, number_of}
 use Rattle.org_ids.proofs.CountLemmas.{put_number, same_number}
 use Rattle.org_ids.proofs.counts.NameCounts.ask.Goals as goal
 

@@ -1,5 +1,5 @@
 -- What the map finds is what its view finds.
-use Rattle.std.proofs.Common.{◌≡◌, ◌∙◌, ap}
+use Rattle.std.proofs.Common.{◌∙◌, ap}
 use Rattle.org_ids.specs.Counts.{number_of}
 use Rattle.org_ids.proofs.CountLemmas.{count-seen}
 use Rattle.org_ids.proofs.counts.NameCounts.number.Goals as goal

@@ -1,5 +1,5 @@
 -- The map's entries are those of its view, with one inserted.
-use Rattle.std.proofs.Common.{◌≡◌, ◌∙◌, cond, ap}
+use Rattle.std.proofs.Common.{◌∙◌, cond, ap}
 use Rattle.std.specs.Prelude.{bytes_eq, Some}
 use Rattle.org_ids.specs.Counts.{number_of}
 use Rattle.org_ids.proofs.CountLemmas.{number_of-insert, seen}

@@ -1,9 +1,8 @@
 -- What is put behind the way that is left.
-use Rattle.std.proofs.Common.{◌≡◌, ◌∙◌, ℕ, List, [], ◌∷◌, ◌++◌, None, length, sym, ap, arith}
-use Rattle.org_ids.specs.Names.{NamesView, OnWay, bounded, ends_from, enter, heading_of, lower, one_line, way_view}
+use Rattle.std.proofs.Common.{◌≡◌, ◌∙◌, ℕ, List, [], ◌∷◌, ◌++◌, length, sym, ap, arith}
+use Rattle.org_ids.specs.Names.{NamesView, OnWay, bounded, ends_from, lower, one_line}
 use Rattle.org_ids.specs.Words.{plain_words}
-use Rattle.org_ids.specs.declared.names.Above.{Above}
-use Rattle.org_ids.proofs.PushLemmas.{end_of, ends_pushed, way_pushed}
+use Rattle.org_ids.proofs.PushLemmas.{ends_pushed, way_pushed}
 use Rattle.org_ids.proofs.WayLemmas.{way_bytes}
 use Rattle.org_ids.proofs.names.Names.enter.Goals as goal
 

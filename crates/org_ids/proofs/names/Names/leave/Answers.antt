@@ -1,7 +1,6 @@
 -- The way that is left, its ends and its name.
-use Rattle.std.proofs.Common.{◌≡◌, ◌∙◌, ℕ, List, [], length, take, refl, sym, ap, append-nil}
-use Rattle.org_ids.specs.Names.{NamesView, OnWay, bounded, ends_from, left_end, lower, lower_count, one_line, way_view}
-use Rattle.org_ids.specs.declared.names.Above.{Above}
+use Rattle.std.proofs.Common.{◌≡◌, ◌∙◌, ℕ, List, [], length, take, sym, ap, append-nil}
+use Rattle.org_ids.specs.Names.{NamesView, bounded, ends_from, left_end, lower, lower_count, one_line}
 use Rattle.org_ids.proofs.WayLemmas.{left_bytes, left_length, lower_ends, lower_length, way_bytes}
 use Rattle.org_ids.proofs.names.Names.leave.Goals as goal
 

@@ -1,8 +1,8 @@
 -- The way goes on to the heading, and its name is put.
-use Rattle.std.proofs.Common.{◌≡◌, ◌∙◌, ℕ, List, [], ◌∷◌, ◌++◌, refl, sym, ap}
+use Rattle.std.proofs.Common.{◌≡◌, ◌∙◌, ℕ, List, [], ◌∷◌, ◌++◌, sym, ap}
 use Rattle.std.specs.Prelude.{Option, None, Some, option_copied}
 use Rattle.std.proofs.lemmas.Result.{on_ok_weaker}
-use Rattle.org_ids.specs.Names.{IdHeading, NamesView, OnWay, enter, heading_of, id_line, named_too, names_of, names_view, one_line, own_name, way_behind, way_view}
+use Rattle.org_ids.specs.Names.{IdHeading, NamesView, enter, heading_of, id_line, named_too, names_of, names_view, own_name, way_behind, way_view}
 use Rattle.org_ids.proofs.PushLemmas.{view_pushed}
 use Rattle.org_ids.proofs.names.Names.push.Goals as goal
 
