@@ -485,7 +485,7 @@ refuse_memory() {
     "$orgq" --at "2024-02-28 10:30" "$@" > "$room/wanted"
     answered=$?
     while [ "$met" -gt 0 ] && [ "$growth" -lt 20000 ]; do
-        rm -f "$room/counts"
+        : > "$room/counts"
         REFUSE=$growth FAULTS=$room/counts LD_PRELOAD=$shim "$orgq" --at "2024-02-28 10:30" "$@" > "$room/out" 2> "$room/err"
         status=$?
         met=0
@@ -514,7 +514,7 @@ refuse_act() {
     answered=$?
     cp "$folder/a.org" "$folder/new.org"
     while [ "$met" -gt 0 ] && [ "$growth" -lt 20000 ]; do
-        rm -f "$room/counts"
+        : > "$room/counts"
         cp "$folder/old.org" "$folder/a.org"
         REFUSE=$growth FAULTS=$room/counts LD_PRELOAD=$shim "$orgq" --at "2024-02-28 10:30" -f "$folder/a.org" "$@" > "$room/out" 2> "$room/err"
         status=$?
