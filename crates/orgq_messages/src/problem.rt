@@ -179,7 +179,7 @@ impl Problem {
             Problem::ConfigForm =>
                 "config has lines alone, without -n, --json, --csv and --days-too",
             Problem::Date => {
-                "no such date; there are today, tomorrow, yesterday, mon to sun, such as +3d, -1w, +2m, 2024-02-28, and the blocks thisweek, nextweek, lastweek, thismonth and so on, 2024-W09, 2024-02"
+                "no such date; there are today, tomorrow, yesterday, mon to sun, eow, eom, eoy, such as +3d, -1w, dec 24, 24.12., 2024-02-28, and the blocks week, nextweek, lastweek, month and so on, 2024-W09, 2024-02"
             }
             Problem::DayOf => "--plain, --columns, --lines and --ascii in front are for the agenda",
             Problem::Days => "days past 9999-12-31",
@@ -285,7 +285,7 @@ const NO_BLOCK: &str =
     "no such block of time; there are today, yesterday, thisweek, lastweek, nextweek, and so month and year, such as 2024, 2024-Q1, 2024-02, 2024-W09, 2024-02-28, and such days as -1d";
 
 const NO_DATE: &str =
-    "no such date; there are today, tomorrow, yesterday, mon to sun, such as +3d, -1w, +2m, 2024-02-28, and a time behind it, 9:30 or 9:30-10:15";
+    "no such date; there are today, tomorrow, yesterday, mon to sun, eow, eom, eoy, such as +3d, -1w, dec 24, 24.12., 2024-02-28, and a time behind it, 9:30 or 9:30-10:15";
 
 const NO_KEY: &str =
     "no such key of --sort; there are time, deadline, scheduled, priority, effort, keyword, title, category, file, closed and urgency, with commas between them, each with - in front for down";
