@@ -1,6 +1,7 @@
 //! Dates as people type them, with a time of day.
-ghost use Rattle.std.specs.Prelude.{◌≡◌, ◌==◌, ◌<◌, IfSome, length, position};
-ghost use Rattle.org_amend.specs.Typed.{date_around, day_alone, day_with, span, time_alone, times_around, times_of, typed_date};
+ghost use Rattle.std.specs.Prelude.{◌≡◌, ◌==◌, ◌<◌, ◌≤◌, IfSome, length, position};
+ghost use Rattle.std.specs.List.{suffix_len};
+ghost use Rattle.org_amend.specs.Typed.{date_around, day_alone, day_with, gap_before, is_of_word, span, time_alone, times_around, times_of, typed_date};
 
 use org_cal::{Day, TimeOfDay};
 
@@ -16,14 +17,25 @@ pub struct TypedDate {
 }
 
 impl TypedDate {
-    /// The date that a text says on a day: one of [`Day::of_word`], and behind a space a time `H:MM` or `HH:MM`, or two of
-    /// them with a dash between. `None` where it says none.
+    /// The date that a text says on a day: one of [`Day::of_word`], and behind its last space a time `H:MM` or `HH:MM`, or
+    /// two of them with a dash between. `None` where it says none.
     #[tactic(auto, unfolding(crate::specs::Typed::typed_date))]
     pub fn of_text(text: &[u8], today: Day) -> Option<TypedDate>
         ensures value { result ≡ typed_date text.now today }
     {
-        date_around(text, today, place_of(text, b' '))
+        match day_alone(Day::of_word(text, today)) {
+            Some(date) => Some(date),
+            None => date_around(text, today, gap_before(text, last_word_len(text))),
+        }
     }
+}
+
+// How many bytes the last word of a text has.
+fn last_word_len(text: &[u8]) -> usize
+    ensures within { result ≤ length text.now }
+    ensures value { result ≡ suffix_len is_of_word text.now }
+{
+    text.iter().rev().take_while(|b| **b != b' ').count()
 }
 
 // Where a byte stands first.
@@ -34,7 +46,19 @@ fn place_of(text: &[u8], byte: u8) -> Option<usize>
     text.iter().position(|b| *b == byte)
 }
 
-// A day alone, or a day before a space and times behind it.
+// Where a space stands before so many last bytes.
+fn gap_before(text: &[u8], len: usize) -> Option<usize>
+    ensures value { result ≡ gap_before text.now len }
+    ensures within { IfSome result (λ gap. gap < length text.now) }
+{
+    if len < text.len() {
+        Some(text.len() - len - 1)
+    } else {
+        None
+    }
+}
+
+// A day before a space and times behind it.
 fn date_around(text: &[u8], today: Day, gap: Option<usize>) -> Option<TypedDate>
     requires within { IfSome gap (λ place. place < length text.now) }
     ensures value { result ≡ date_around text.now today gap }
@@ -44,7 +68,7 @@ fn date_around(text: &[u8], today: Day, gap: Option<usize>) -> Option<TypedDate>
             Day::of_word(&text[..gap], today),
             times_of(&text[gap + 1..]),
         ),
-        None => day_alone(Day::of_word(text, today)),
+        None => None,
     }
 }
 

@@ -68,7 +68,7 @@ pub fn limits_are_named()
 {}
 
 /// The last minute of a day is 23:59; 31 January 2024 and a month is 29 February; a week's piece that begins on a Wednesday
-/// ends on the Sunday.
+/// ends on the Sunday; `1.2.`, typed on 28 February, is a day of the next year, and `24.12.` one of this year.
 pub fn examples_hold()
     ensures { ExamplesHold }
 {}

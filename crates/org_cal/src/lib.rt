@@ -32,6 +32,7 @@ mod text;
 mod time_of_day;
 mod typed;
 mod unit;
+mod year_day;
 
 pub use day::{Day, LAST_DAY, LAST_MONTH};
 pub use digits::two_digits;

@@ -2,40 +2,47 @@
 ghost use Rattle.std.specs.Prelude.{◌≡◌, ◌^◌, ◌<◌, ◌≤◌, Some};
 ghost use Rattle.std.specs.Option.{option_map};
 ghost use Rattle.org_cal.specs.Periods.{days_of};
-ghost use Rattle.org_cal.specs.Typed.{block_after, earlier, in_calendar, in_month, later, signed_day, signed_text, typed_block, typed_day, typed_days, unit_of, weekday_named, weekday_typed};
+ghost use Rattle.org_cal.specs.Typed.{block_after, earlier, end_typed, in_calendar, in_month, is_called, last_of, later, signed_day, signed_days, signed_text, typed_block, typed_day, typed_days, unit_of, weekday_named, weekday_typed};
 
 use crate::block::{day_of_month, this_month};
 use crate::day::{Day, LAST_MONTH};
 use crate::digits::{four_digits, two_digits};
 use crate::period::Period;
 use crate::unit::Unit;
+use crate::year_day::year_day_typed;
+use org_base::words::same_word;
 
 impl Day {
-    /// The day that a text says on a day, as people type it (Org manual 9.6, "The date/time prompt"): `today`,
-    /// `tomorrow`, `yesterday`; `mon` to `sun`, today or the first such day after it; `+3d`, `-1w`, `+2m`, `-10y`, with
-    /// one to four digits, where a month that is shorter gives its last day; or `YYYY-MM-DD`. `None` where it says no
-    /// day of the years 1 to 9999.
+    /// The day that a text says on a day, as people type them (Org manual 9.6, "The date/time prompt"), in letters of any
+    /// case: `today`, `tomorrow`, `yesterday`; `mon` to `sun`, also as whole names, today or the first such day after it;
+    /// `eow`, `eom`, `eoy`, the last day of this week, month or year; `+3d`, `-1w`, `+2m`, `-10y`, with one to four
+    /// digits, where a month that is shorter gives its last day, and `+3` for days; `YYYY-MM-DD`; or `24.12.` and
+    /// `dec 24`, today or the next such day of this year or the next one. `None` where it says no day of the years 1 to
+    /// 9999.
     pub fn of_word(text: &[u8], today: Day) -> Option<Day>
         ensures value { result ≡ typed_day text.now today }
     {
-        if text == b"today".as_slice() {
+        if same_word(text, b"today") {
             Some(today)
-        } else if text == b"tomorrow".as_slice() {
+        } else if same_word(text, b"tomorrow") {
             in_calendar(today.number() + 1)
-        } else if text == b"yesterday".as_slice() {
+        } else if same_word(text, b"yesterday") {
             in_calendar(today.number() - 1)
         } else {
             weekday_typed(text, today)
                 .or(Day::of_text(text))
                 .or(signed_text(text, today))
+                .or(signed_days(text, today))
+                .or(end_typed(text, today))
+                .or(year_day_typed(text, today))
         }
     }
 }
 
 impl Period {
     /// The days that a text says on a day, as people type them: the one of [`Day::of_word`], those of a block of
-    /// [`Period::of_block`], or those of `nextweek`, `nextmonth` or `nextyear`. `None` where it says none of the years 1
-    /// to 9999.
+    /// [`Period::of_block`], those of `nextweek`, `nextmonth` or `nextyear`, or of `week`, `month` or `year`, which are this
+    /// one's. `None` where it says none of the years 1 to 9999.
     pub fn of_word(text: &[u8], today: Day) -> Option<Period>
         ensures value { option_map days_of result ≡ typed_days text.now today }
     {
@@ -53,15 +60,44 @@ impl Period {
 fn typed_block(text: &[u8], today: Day) -> Option<Period>
     ensures value { option_map days_of result ≡ typed_block text.now today }
 {
-    if text == b"nextweek".as_slice() {
+    if same_word(text, b"nextweek") {
         block_after(b"thisweek", today)
-    } else if text == b"nextmonth".as_slice() {
+    } else if same_word(text, b"nextmonth") {
         block_after(b"thismonth", today)
-    } else if text == b"nextyear".as_slice() {
+    } else if same_word(text, b"nextyear") {
         block_after(b"thisyear", today)
+    } else if same_word(text, b"week") {
+        Period::of_block(b"thisweek", today).ok()
+    } else if same_word(text, b"month") {
+        Period::of_block(b"thismonth", today).ok()
+    } else if same_word(text, b"year") {
+        Period::of_block(b"thisyear", today).ok()
     } else {
         Period::of_block(text, today).ok()
     }
+}
+
+// The last day of this week, month or year.
+fn end_typed(text: &[u8], today: Day) -> Option<Day>
+    ensures value { result ≡ end_typed text.now today }
+{
+    if same_word(text, b"eow") {
+        last_of(b"thisweek", today)
+    } else if same_word(text, b"eom") {
+        last_of(b"thismonth", today)
+    } else if same_word(text, b"eoy") {
+        last_of(b"thisyear", today)
+    } else {
+        None
+    }
+}
+
+// The last day of the block that a word names on a day.
+fn last_of(word: &[u8], today: Day) -> Option<Day>
+    ensures value { result ≡ last_of word.now today }
+{
+    let block = Period::of_block(word, today).ok()?;
+    Some(block.last)
 }
 
 // The block that a word would name on the day after the block that it names.
@@ -86,23 +122,30 @@ fn weekday_typed(text: &[u8], today: Day) -> Option<Day>
 fn weekday_named(text: &[u8]) -> Option<u32>
     ensures value { result ≡ weekday_named text.now }
 {
-    if text == b"mon".as_slice() {
+    if is_called(text, b"mon", b"monday") {
         Some(0)
-    } else if text == b"tue".as_slice() {
+    } else if is_called(text, b"tue", b"tuesday") {
         Some(1)
-    } else if text == b"wed".as_slice() {
+    } else if is_called(text, b"wed", b"wednesday") {
         Some(2)
-    } else if text == b"thu".as_slice() {
+    } else if is_called(text, b"thu", b"thursday") {
         Some(3)
-    } else if text == b"fri".as_slice() {
+    } else if is_called(text, b"fri", b"friday") {
         Some(4)
-    } else if text == b"sat".as_slice() {
+    } else if is_called(text, b"sat", b"saturday") {
         Some(5)
-    } else if text == b"sun".as_slice() {
+    } else if is_called(text, b"sun", b"sunday") {
         Some(6)
     } else {
         None
     }
+}
+
+// Whether a text is a name, in its short form or whole.
+pub(crate) fn is_called(text: &[u8], short: &[u8], whole: &[u8]) -> bool
+    ensures value { result ≡ is_called text.now short.now whole.now }
+{
+    same_word(text, short) || same_word(text, whole)
 }
 
 // A sign, one to four digits and the letter of a unit.
@@ -114,6 +157,19 @@ fn signed_text(text: &[u8], day: Day) -> Option<Day>
         [sign, c, d, letter] => signed_day(*sign, two_digits(*c, *d)? as u16, *letter, day),
         [sign, b, c, d, letter] => signed_day(*sign, four_digits(b'0', *b, *c, *d)?, *letter, day),
         [sign, a, b, c, d, letter] => signed_day(*sign, four_digits(*a, *b, *c, *d)?, *letter, day),
+        _ => None,
+    }
+}
+
+// A sign and one to four digits, which are days.
+fn signed_days(text: &[u8], day: Day) -> Option<Day>
+    ensures value { result ≡ signed_days text.now day }
+{
+    match text {
+        [sign, d] => signed_day(*sign, two_digits(b'0', *d)? as u16, b'd', day),
+        [sign, c, d] => signed_day(*sign, two_digits(*c, *d)? as u16, b'd', day),
+        [sign, b, c, d] => signed_day(*sign, four_digits(b'0', *b, *c, *d)?, b'd', day),
+        [sign, a, b, c, d] => signed_day(*sign, four_digits(*a, *b, *c, *d)?, b'd', day),
         _ => None,
     }
 }
