@@ -67,6 +67,6 @@ pub record PlanningExamplesHold : Type 0 where
   pub word_stays : undated_line Scheduled (codes "SCHEDULED: <2024-02-01 Thu> and a word\n") (codes "b\n") ≡ Some (codes "and a word\n")
   pub no_heading : undated_line Scheduled (codes "SCHEDULED: <2024-02-01 Thu> * A\n") [] ≡ None
   pub no_lost_drawer : undated_line Scheduled (codes "SCHEDULED: <2024-02-01 Thu> and a word\n") (codes ":PROPERTIES:\n") ≡ None
-  pub spanned : (today : ℕ) → typed_date (codes "2024-03-01 9:30-10:15") today ≡ Some (record { day = day_number 2024 3 1; time = Some 570; end_time = Some 615 })
-  pub timed : (today : ℕ) → typed_date (codes "today 09:30") today ≡ Some (record { day = today; time = Some 570; end_time = None })
+  pub spanned : (today : ℕ) → typed_date (codes "2024-03-01 9:30-10:15") today ≡ Some (record { day = day_number 2024 3 1; time = Some 570; end_time = Some 615; repeater = None; delay = None })
+  pub timed : (today : ℕ) → typed_date (codes "today 09:30") today ≡ Some (record { day = today; time = Some 570; end_time = None; repeater = None; delay = None })
   pub no_time : (today : ℕ) → typed_date (codes "today 24:00") today ≡ None

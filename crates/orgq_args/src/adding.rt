@@ -138,8 +138,8 @@ pub fn wished_heading(
         priority: copy_of(alloc, own.get_str("priority"))?,
         title: title_of(alloc, own)?,
         tags: texts_of(alloc, own.get_strs("tag").unwrap_or(&[]))?,
-        scheduled: date_of(own.get_str("scheduled"), today)?,
-        deadline: date_of(own.get_str("deadline"), today)?,
+        scheduled: date_of(alloc, own.get_str("scheduled"), today)?,
+        deadline: date_of(alloc, own.get_str("deadline"), today)?,
         body: String::new(alloc),
     })
 }
@@ -152,9 +152,9 @@ fn texts_of(alloc: Global, words: &[&str]) -> Result<Vec<String>, AllocError> {
     Ok(texts)
 }
 
-fn date_of(text: Option<&str>, today: Day) -> Result<Option<TypedDate>, Problem> {
+fn date_of(alloc: Global, text: Option<&str>, today: Day) -> Result<Option<TypedDate>, Problem> {
     match text {
-        Some(text) => Ok(Some(typed_date(text, today)?)),
+        Some(text) => Ok(Some(typed_date(alloc, text, today)?)),
         None => Ok(None),
     }
 }

@@ -112,15 +112,24 @@ const VERSION: &str = "\
 kit and commit: not known to a build; where a package has the file PROOF, that names both";
 
 // The commands.
-const COMMANDS: [&str; 24] = [
+const COMMANDS: [&str; 28] = [
     "agenda", "calendar", "todo", "match", "search", "clock", "clocks", "log", "next", "ical",
     "page", "view", "views", "keywords", "tags", "check", "follow", "done", "set", "schedule",
-    "deadline", "add", "undo", "config",
+    "deadline", "tag", "priority", "property", "note", "add", "undo", "config",
 ];
 
 /// Whether a word is the name of a command.
 pub fn is_command(word: &str) -> bool {
     COMMANDS.iter().any(|name| *name == word)
+}
+
+/// Whether a word is the letter of an option of all commands, or of help.
+pub fn is_letter_of_all(word: &str) -> bool {
+    word == "h"
+        || (word.len() == 1
+            && OF_ALL
+                .lines()
+                .any(|line| line.split(';').next() == Some(word)))
 }
 
 /// Whether an option that may stand before a command takes a value; its name or its letter says which one.

@@ -21,6 +21,7 @@ mod calendar;
 mod call;
 mod clock;
 mod filters;
+mod head_words;
 mod joined;
 mod log;
 mod option_lines;
@@ -35,7 +36,7 @@ mod undoing;
 mod usage;
 mod wish;
 
-pub use act_words::{ActWords, date_words, keyword_words, typed_words};
+pub use act_words::{ActWords, date_words, keyword_words, set_words, typed_words};
 pub use adding::{WishedHeading, added_place, lend, read_body, wished_heading};
 pub use arguments::{command, is_command};
 pub use ask::{asked_period, read_filters, read_question};
@@ -43,6 +44,9 @@ pub use calendar::{columns_for, environment_columns};
 pub use call::call_words;
 pub use clock::{now, typed_moment, universal};
 pub use filters::Filters;
+pub use head_words::{
+    WishedProperty, WishedTags, changes_parts, part_words, wished_note, wished_part,
+};
 pub use joined::joined_values;
 pub use log::asked_log;
 pub use options::{
