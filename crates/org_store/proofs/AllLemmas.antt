@@ -9,7 +9,6 @@ use Rattle.org_base.specs.Counts.{Counts, ticked}
 use Rattle.org_base.specs.Spans.{bytes_in}
 use Rattle.org_base.specs.declared.meter.Tick.TheVariants.{Read}
 use Rattle.org_class.specs.Changes.{start_of}
-use Rattle.org_class.specs.Classes.{section_classes}
 use Rattle.org_class.specs.Sections.{sections}
 use Rattle.org_store.specs.Counts.{SomeRead, have_read}
 use Rattle.org_store.specs.File.{AreOf, Says, pending_one, read_section}
@@ -74,9 +73,6 @@ module _ (t : List ℕ) (list : List SectionView) (settings : FileSettings) (n :
 
   pub kept_len : k.len ≡ length (bytes_in t (record { at = at; len = len }))
   kept_len = ap (λ (x : SectionView). x.len) (kept_there t list n k kept next.within next.is) ∙ ap length (sym bytes)
-
-  pub kept_classes : k.classes ≡ section_classes (bytes_in t (record { at = at; len = len }))
-  kept_classes = ap (λ (x : SectionView). x.classes) (kept_there t list n k kept next.within next.is) ∙ ap section_classes (sym bytes)
 
   pub kept_says : Says settings (bytes_in t (record { at = at; len = len })) k
   kept_says =

@@ -49,7 +49,7 @@ said_is (Some y) x says some = ap (λ e. Some e) says
 was_said : (settings : FileSettings) (s : List ℕ) (k : SectionView) → bare k ≡ fresh_section s → Says settings s k → is_pending k ≡ false → k ≡ read_section settings s
 was_said settings s k e says read =
     let entry = said_is k.entry (entry_of settings s) says read in
-    λ i. record { len = (e i).len; classes = (e i).classes; entry = entry i }
+    λ i. record { len = (e i).len; lines = (e i).lines; sets = (e i).sets; entry = entry i }
 
 -- where none is pending, all were
 none_left : (settings : FileSettings) (ss : List (List ℕ)) (list : List SectionView) → map bare list ≡ map fresh_section ss → AllZip (Says settings) ss list → count_by is_pending list ≡ 0 → list ≡ map (read_section settings) ss
