@@ -8,4 +8,5 @@ pub mod PaintedLemmas
 pub mod PictureLemmas
 pub mod RowLemmas
 pub mod ShownLemmas
+pub mod ToldLemmas
 pub mod WordLemmas

@@ -7,7 +7,9 @@ pub mod Ical
 pub mod Limits
 pub mod Painted
 pub mod Pictures
+pub mod Running
 pub mod Shown
 pub mod Tables
+pub mod Told
 pub mod Views
 pub mod Words

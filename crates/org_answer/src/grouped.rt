@@ -6,6 +6,7 @@ use crate::arranging::Arrangement;
 use crate::limits::left_after;
 use crate::show::{
     Form, LineOfAnswer, PrintOptions, Written, is_due, push_line, push_title, push_whole, row_line,
+    without_feed,
 };
 use crate::view::Answer;
 use org_base::{Fault, Texts};
@@ -248,7 +249,7 @@ fn push_own<T: Text>(
         line: own.line,
         is_due: is_due(files.inherits, own.line),
         days: &written.days,
-        text: written.text.as_str().trim_end_matches('\n'),
+        text: without_feed(written.text.as_str()),
     };
     match own.look.form {
         Form::Plain | Form::Places => push_line(alloc, out, files, &shown, own.look),
@@ -270,7 +271,7 @@ fn push_row<T: Text>(
         return push_line(alloc, out, files, shown, own.look);
     };
     let text = GroupedText {
-        text: shown.text.as_bytes(),
+        text: shown.text,
         group: own.group,
     };
     push_whole(out, &grouped_line(alloc, files, &row, &text, own.look)?)?;

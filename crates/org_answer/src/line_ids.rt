@@ -1,8 +1,10 @@
 //! The short ids of the headings of lines.
-ghost use Rattle.std.specs.Prelude.{◌<◌, ◌≤◌, ◌++◌, ◌∷◌, [], OnOk};
-ghost use Rattle.org_base.specs.Results.{Adds};
+ghost use Rattle.std.specs.Prelude.{◌≡◌, ◌<◌, ◌≤◌, ◌++◌, ◌∷◌, [], OnOk};
+ghost use Rattle.org_base.specs.Results.{Adds, GivesItems};
+ghost use Rattle.org_client.specs.Objects.{row_id};
 ghost use Rattle.org_client.specs.RowIds.{id_text};
 ghost use Rattle.org_answer.specs.Shown.{AddsClean};
+ghost use Rattle.org_answer.specs.Told.{id_field, id_told, line_id};
 
 use crate::placed::heading_of;
 use org_client::{HeadingAt, LoadReport, OneLine, ViewRow};
@@ -21,6 +23,7 @@ pub(crate) fn push_line_id<T: Text>(
     requires low { 32 ≤ behind }
     requires high { behind < 127 }
     ensures clean { OnOk result (AddsClean out.old.items out.new.items) }
+    ensures value { Adds result out.old out.new (line_id files.now line.now behind) }
 {
     match heading_of(line) {
         Some((file, heading)) => push_heading_id(out, files, HeadingAt { file, heading }, behind),
@@ -39,6 +42,7 @@ pub(crate) fn push_heading_id<T: Text>(
     requires low { 32 ≤ behind }
     requires high { behind < 127 }
     ensures clean { OnOk result (AddsClean out.old.items out.new.items) }
+    ensures value { Adds result out.old out.new (id_told files.now.ids heading behind) }
 {
     if files.ids().is_none() {
         return Ok(());
@@ -66,16 +70,30 @@ pub(crate) fn push_id_field<T: Text>(
     line: &mut OneLine,
     files: &LoadReport<'_, '_, T>,
     row: &ViewRow,
-) -> Result<(), AllocError> {
+) -> Result<(), AllocError>
+    ensures ok { OnOk result (line.new ≡ line.old ++ id_field files.now row.now) }
+{
     if files.ids().is_none() {
         return Ok(());
     }
+    let id = id_of_row(alloc, files, row)?;
+    line.push(b',')?;
+    line.field(id.as_slice())
+}
+
+// The short id of a row's heading; none where the row has no heading.
+fn id_of_row<T: Text>(
+    alloc: Global,
+    files: &LoadReport<'_, '_, T>,
+    row: &ViewRow,
+) -> Result<Vec<u8>, AllocError>
+    ensures value { GivesItems result (row_id files.now row.now) }
+{
     let mut id = Vec::new(alloc);
     if let Some((file, heading)) = row.heading() {
         files.ids().push(&mut id, HeadingAt { file, heading }, 0)?;
     }
-    line.push(b',')?;
-    line.field(id.as_slice())
+    Ok(id)
 }
 
 /// The headings of lines, by the places of their files and sections.

@@ -5,7 +5,9 @@ ghost use Rattle.org_answer.specs.Shown.{AreCleanLines, IsSafe, KeepsClean};
 use crate::clocks::is_safe;
 use crate::line_ids::push_heading_id;
 use crate::placed::push_file_name;
-use crate::show::{Form, LineOfAnswer, PrintOptions, push_line, push_whole, row_line};
+use crate::show::{
+    Form, LineOfAnswer, PrintOptions, push_line, push_whole, row_line, without_feed,
+};
 use org_base::Fault;
 use org_cal::{TimeOfDay, push_time};
 use org_client::{HeadingAt, LoadReport, ViewRow, log_label};
@@ -85,7 +87,7 @@ fn push_day<T: Text>(
         line: &line,
         is_due: false,
         days: &None,
-        text: text.as_str().trim_end_matches('\n'),
+        text: without_feed(text.as_str()),
     };
     push_line(alloc, out, files, &day, look)
 }

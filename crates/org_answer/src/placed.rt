@@ -2,6 +2,7 @@
 ghost use Rattle.std.specs.Prelude.{◌≡◌, ◌∷◌, ◌++◌, [], decimal, true, OnOk};
 ghost use Rattle.org_base.specs.Results.{Adds};
 ghost use Rattle.org_answer.specs.Shown.{AddsClean, number_text};
+ghost use Rattle.org_answer.specs.Told.{heading_of, is_spaced, name_text, place_told, seems_placed, space_text};
 
 use crate::line_ids::push_line_id;
 use crate::show::push_seen;
@@ -13,7 +14,7 @@ use std::alloc::{AllocError, Global};
 
 // Appends the file and the line of a row's heading; before a row of a clock table, which begins with a number, a space, so
 // that editors take no number of it as a column.
-#[tactic(auto, using(crate::proofs::ShownLemmas::places_alone, crate::proofs::ShownLemmas::places_after, crate::proofs::ShownLemmas::places_nothing, crate::proofs::IdLemmas::places_with_id))]
+#[tactic(auto, using(crate::proofs::ShownLemmas::places_alone, crate::proofs::ShownLemmas::places_after, crate::proofs::ShownLemmas::places_nothing, crate::proofs::IdLemmas::places_with_id, crate::proofs::ToldLemmas::placed_bare, crate::proofs::ToldLemmas::placed_id))]
 pub(crate) fn push_place<T: Text>(
     alloc: Global,
     out: &mut Vec<u8>,
@@ -22,6 +23,7 @@ pub(crate) fn push_place<T: Text>(
     is_seen: bool,
 ) -> Result<(), AllocError>
     ensures clean { is_seen ≡ true → OnOk result (AddsClean out.old.items out.new.items) }
+    ensures value { Adds result out.old out.new (place_told is_seen files.now line.now) }
 {
     let Some((file, heading)) = heading_of(line) else {
         return Ok(());
@@ -29,7 +31,7 @@ pub(crate) fn push_place<T: Text>(
     let Some(place) = files.file_set.place(file, heading) else {
         return Ok(());
     };
-    let is_spaced = matches!(line, Line::Table(_));
+    let is_spaced = is_spaced(line);
     if file >= files.file_set.count() {
         return push_number(alloc, out, place.line, is_spaced);
     }
@@ -40,6 +42,13 @@ pub(crate) fn push_place<T: Text>(
     push_number_at(alloc, out, place.line)?;
     push_line_id(out, files, line, b':')?;
     push_space(out, is_spaced)
+}
+
+// Whether a space stands behind the place of a line.
+fn is_spaced(line: &Line) -> bool
+    ensures value { result ≡ is_spaced line.now }
+{
+    matches!(line, Line::Table(_))
 }
 
 // Appends a line that an id follows.
@@ -54,6 +63,7 @@ fn push_number_at(alloc: Global, out: &mut Vec<u8>, number: u32) -> Result<(), A
 #[tactic(auto, using(crate::proofs::IdLemmas::spaced, crate::proofs::ShownLemmas::places_nothing))]
 fn push_space(out: &mut Vec<u8>, is_spaced: bool) -> Result<(), AllocError>
     ensures clean { OnOk result (AddsClean out.old.items out.new.items) }
+    ensures value { Adds result out.old out.new (space_text is_spaced) }
 {
     if is_spaced {
         out.push(b' ')?;
@@ -66,6 +76,7 @@ fn push_space(out: &mut Vec<u8>, is_spaced: bool) -> Result<(), AllocError>
 #[tactic(auto, using(crate::proofs::ShownLemmas::names_bare, crate::proofs::ShownLemmas::names_quoted))]
 pub fn push_file_name(out: &mut Vec<u8>, name: &str, is_seen: bool) -> Result<(), AllocError>
     ensures clean { is_seen ≡ true → OnOk result (AddsClean out.old.items out.new.items) }
+    ensures value { Adds result out.old out.new (name_text is_seen name.now) }
 {
     if !seems_placed(name) {
         return push_seen(out, name, is_seen);
@@ -77,13 +88,15 @@ pub fn push_file_name(out: &mut Vec<u8>, name: &str, is_seen: bool) -> Result<()
 }
 
 /// Whether a colon and a digit stand in a name, so that a place seems to stand in it.
-pub fn seems_placed(name: &str) -> bool {
+pub fn seems_placed(name: &str) -> bool
+    ensures value { result ≡ seems_placed name.now }
+{
     let mut after_colon = false;
-    for byte in name.bytes() {
+    for byte in name.as_bytes() {
         if after_colon && byte.is_ascii_digit() {
             return true;
         }
-        after_colon = byte == b':';
+        after_colon = *byte == b':';
     }
     false
 }
@@ -105,7 +118,9 @@ fn push_number(
 }
 
 /// The heading of a row, by the places of its file and its entry.
-pub fn heading_of(line: &Line) -> Option<(usize, usize)> {
+pub fn heading_of(line: &Line) -> Option<(usize, usize)>
+    ensures value { result ≡ heading_of line.now }
+{
     match line {
         Line::Row(shown) => Some((shown.row.file, shown.row.heading)),
         Line::Table(row) => match row.of {

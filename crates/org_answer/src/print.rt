@@ -1,7 +1,8 @@
 //! The bytes of an answer.
-ghost use Rattle.std.specs.Prelude.{◌≡◌, true, IfOk};
+ghost use Rattle.std.specs.Prelude.{◌≡◌, false, true, IfOk};
 ghost use Rattle.org_base.specs.Results.{GivesItems};
 ghost use Rattle.org_answer.specs.Shown.{AreCleanLines, IsSafe, bare_text, is_bare};
+ghost use Rattle.org_answer.specs.Told.{TellsAnswer};
 
 use crate::limits::lines_within;
 use crate::show::{Form, PrintOptions, lines_bytes};
@@ -21,6 +22,7 @@ pub fn answer_bytes<T: Text>(
 ) -> Result<Vec<u8>, Fault>
     ensures clean { IsSafe look.now → IfOk result (λ out. AreCleanLines out.items) }
     ensures bare { is_bare look.now ≡ true → GivesItems result (bare_text answer.now files.now) }
+    ensures told { is_bare look.now ≡ false → TellsAnswer result look.now answer.now files.now }
 {
     let lines = answer.lines.as_slice();
     if is_bare(look) {

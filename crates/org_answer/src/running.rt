@@ -1,15 +1,18 @@
 //! The clocks that run.
-ghost use Rattle.std.specs.Prelude.{IfOk};
+ghost use Rattle.std.specs.Prelude.{◌≡◌, Some, IfOk};
+ghost use Rattle.org_base.specs.Results.{GivesItems};
+ghost use Rattle.org_cal.specs.declared.day.TheConstants.{LAST_DAY};
+ghost use Rattle.org_answer.specs.Running.{running_at, running_of, up_to};
 ghost use Rattle.org_answer.specs.Shown.{AreCleanLines, IsSafe, KeepsClean};
 
 use crate::clocks::{ClockText, push_front, push_row, push_title};
 use crate::show::PrintOptions;
 use org_base::Fault;
 use org_cal::{Day, LAST_DAY, Moment, Period};
-use org_client::{FileSet, LoadReport, ShownClock, clock_rows, shown_clocks};
+use org_client::{ClockRow, FileSet, LoadReport, ShownClock, clock_rows, shown_clocks};
 use org_inherit::Inherits;
 use org_text::{Text, Whole};
-use std::alloc::Global;
+use std::alloc::{AllocError, Global};
 
 /// The clocks that run in files, in the order of files and lines, with the minutes up to a moment.
 pub fn running_clocks(
@@ -17,25 +20,40 @@ pub fn running_clocks(
     file_set: &FileSet<Whole>,
     inherits: &Inherits<'_>,
     moment: Moment,
-) -> Result<Vec<ShownClock>, Fault> {
+) -> Result<Vec<ShownClock>, Fault>
+    ensures value { GivesItems result (running_at moment file_set.now.files inherits.now) }
+{
     let Some(days) = all_days() else {
         return Ok(Vec::new(alloc));
     };
-    let mut running = Vec::new(alloc);
-    let now = moment.minute().number();
     let rows = clock_rows(alloc, inherits, &days)?;
-    for row in rows.as_slice() {
-        if row.to.is_none() {
-            let mut row = *row;
-            row.minutes = now.saturating_sub(row.from);
-            running.push(row)?;
-        }
-    }
+    let running = running_of(alloc, rows.as_slice(), moment.minute().number())?;
     shown_clocks(alloc, file_set, running.as_slice())
 }
 
+// Those of some clocks that run, with the minutes up to one.
+fn running_of(alloc: Global, rows: &[ClockRow], minute: u64) -> Result<Vec<ClockRow>, AllocError>
+    ensures value { GivesItems result (running_of minute rows.now) }
+{
+    rows.iter()
+        .filter(|row| row.to.is_none())
+        .map(|row| up_to(row, minute))
+        .collect(alloc)
+}
+
+// A clock that runs, with the minutes up to one.
+fn up_to(row: &ClockRow, minute: u64) -> ClockRow
+    ensures value { result ≡ up_to minute row.now }
+{
+    let mut row = *row;
+    row.minutes = minute.saturating_sub(row.from);
+    row
+}
+
 // All days that there are.
-fn all_days() -> Option<Period> {
+fn all_days() -> Option<Period>
+    ensures value { result ≡ Some (record { first = 1; last = LAST_DAY }) }
+{
     let first = Day::of_number(1)?;
     let last = Day::of_number(u64::from(LAST_DAY))?;
     if last.number() < first.number() {

@@ -1,7 +1,9 @@
 //! Answers as they are printed.
-ghost use Rattle.std.specs.Prelude.{◌≡◌, [], ◌∷◌, ◌++◌, true, IfOk};
-ghost use Rattle.org_base.specs.Results.{Adds};
+ghost use Rattle.std.specs.Prelude.{◌≡◌, [], ◌∷◌, ◌++◌, true, None, IfOk, OnOk};
+ghost use Rattle.org_base.specs.Results.{Adds, Gives};
+ghost use Rattle.org_visible.specs.Visible.{visible};
 ghost use Rattle.org_answer.specs.Shown.{AreCleanLines, IsSafe, KeepsClean, color_of, line_in, shown_text, title_in};
+ghost use Rattle.org_answer.specs.Told.{AddsPlain, AddsRow, AddsTold, IsUnwritten, Tells, TellsRow, WritesLine, day_told, days_after, fields_told, lines_told, id_line, place_line, row_in, row_of, row_bytes, some_bytes, told_lines, told_of, without_feed};
 
 use crate::day::DayCanvas;
 use crate::labels::is_due_row;
@@ -81,13 +83,9 @@ pub(crate) fn lines_bytes<T: Text>(
     look: &PrintOptions<'_, '_>,
 ) -> Result<Vec<u8>, Fault>
     ensures clean { IsSafe look.now → IfOk result (λ out. AreCleanLines out.items) }
+    ensures value { Tells result look.now (told_lines look.now with_effort files.now None lines.now) }
 {
-    let mut written = Written {
-        texts: LineTexts::of(alloc, files.inherits, lines)?,
-        with_effort,
-        text: String::new(alloc),
-        days: None,
-    };
+    let mut written = Written::new(alloc, files.inherits, lines, with_effort)?;
     bytes_of(alloc, files, &mut written, lines, look)
 }
 
@@ -107,7 +105,9 @@ impl<'a, 'b> Written<'a, 'b> {
         inherits: &'a Inherits<'b>,
         lines: &[Line],
         with_effort: bool,
-    ) -> Result<Written<'a, 'b>, Fault> {
+    ) -> Result<Written<'a, 'b>, Fault>
+        ensures value { IfOk result (IsUnwritten inherits.now with_effort) }
+    {
         Ok(Written {
             texts: LineTexts::of(alloc, inherits, lines)?,
             with_effort,
@@ -117,12 +117,38 @@ impl<'a, 'b> Written<'a, 'b> {
     }
 
     // Writes a line.
-    pub fn write(&mut self, line: &Line) -> Result<(), Fault> {
-        if let Line::Step(first, last) = line {
-            self.days = Some((*first, *last));
-        }
+    pub fn write(&mut self, line: &Line) -> Result<(), Fault>
+        ensures ok { WritesLine result self.old self.new line.now }
+        ensures days { OnOk result (self.new.days ≡ days_after self.old.days line.now) }
+        ensures texts { self.new.texts ≡ self.old.texts }
+        ensures efforts { self.new.with_effort ≡ self.old.with_effort }
+    {
+        self.days = days_after(self.days, line);
         self.text.clear();
         self.texts.push(&mut self.text, self.with_effort, line)
+    }
+}
+
+// The days of the clock table that a line is of, after those of the line before.
+fn days_after(days: Option<(Day, Day)>, line: &Line) -> Option<(Day, Day)>
+    ensures value { result ≡ days_after days line.now }
+{
+    match line {
+        Line::Step(first, last) => Some((*first, *last)),
+        Line::Day(_) | Line::Row(_) | Line::Table(_) => days,
+    }
+}
+
+// A text without the line feed at its end.
+pub(crate) fn without_feed(text: &str) -> &[u8]
+    ensures value { result.now ≡ without_feed text.now }
+{
+    let bytes = text.as_bytes();
+    let len = bytes.len();
+    if len > 0 && bytes[len - 1] == b'\n' {
+        &bytes[..len - 1]
+    } else {
+        bytes
     }
 }
 
@@ -134,7 +160,9 @@ fn bytes_of<T: Text>(
     lines: &[Line],
     look: &PrintOptions<'_, '_>,
 ) -> Result<Vec<u8>, Fault>
+    requires texts { written.old.texts ≡ files.now.scopes }
     ensures clean { IsSafe look.now → IfOk result (λ out. AreCleanLines out.items) }
+    ensures value { Tells result look.now (lines_told look.now written.old files.now lines.now) }
 {
     let mut out = Vec::new(alloc);
     for line in lines {
@@ -143,7 +171,7 @@ fn bytes_of<T: Text>(
             line,
             is_due: is_due(files.inherits, line),
             days: &written.days,
-            text: written.text.as_str().trim_end_matches('\n'),
+            text: without_feed(written.text.as_str()),
         };
         push_line(alloc, &mut out, files, &shown, look)?;
     }
@@ -164,12 +192,14 @@ pub(crate) struct LineOfAnswer<'a> {
     pub line: &'a Line,
     pub is_due: bool,
     pub days: &'a Option<(Day, Day)>,
-    pub text: &'a str,
+    pub text: &'a [u8],
 }
 
 impl LineOfAnswer<'_> {
     // The row, with its days where it is one of a clock table.
-    pub fn row(&self) -> Option<ViewRow> {
+    pub fn row(&self) -> Option<ViewRow>
+        ensures value { result ≡ row_of self.now.days.now self.now.line.now }
+    {
         match (self.line, self.days) {
             (Line::Row(shown), _) => Some(ViewRow::Row(*shown)),
             (Line::Table(row), Some((first, last))) => Some(ViewRow::Sum(ShownSum {
@@ -191,6 +221,7 @@ pub(crate) fn push_line<T: Text>(
     look: &PrintOptions<'_, '_>,
 ) -> Result<(), Fault>
     ensures clean { IsSafe look.now → KeepsClean result out.old out.new }
+    ensures value { AddsTold result out.old out.new look.now (told_of look.now files.now shown.now) }
 {
     match look.form {
         Form::Plain => Ok(push_named(out, files, shown, look)?),
@@ -226,7 +257,7 @@ fn push_bold(out: &mut Vec<u8>, title: &str, look: &PrintOptions<'_, '_>) -> Res
 }
 
 // Appends the short id of a line's heading, if rows have ids, and its text.
-#[tactic(auto, using(crate::proofs::ShownLemmas::keeps_placed))]
+#[tactic(auto, using(crate::proofs::ShownLemmas::keeps_placed, crate::proofs::ToldLemmas::fronted_line))]
 fn push_named<T: Text>(
     out: &mut Vec<u8>,
     files: &LoadReport<'_, '_, T>,
@@ -234,6 +265,7 @@ fn push_named<T: Text>(
     look: &PrintOptions<'_, '_>,
 ) -> Result<(), AllocError>
     ensures clean { look.now.is_seen ≡ true → KeepsClean result out.old out.new }
+    ensures value { AddsPlain result out.old out.new look.now (id_line look.now files.now shown.now) }
 {
     push_line_id(out, files, shown.line, b' ')?;
     push_text(out, shown, look)
@@ -253,7 +285,7 @@ fn push_text(
         ""
     };
     out.extend_from_slice(color.as_bytes())?;
-    push_seen(out, shown.text, look.is_seen)?;
+    push_shown(out, shown.text, look.is_seen)?;
     if !color.is_empty() {
         out.extend_from_slice(b"\x1b[0m")?;
     }
@@ -265,10 +297,17 @@ fn push_text(
 pub fn push_seen(out: &mut Vec<u8>, text: &str, is_seen: bool) -> Result<(), AllocError>
     ensures value { Adds result out.old out.new (shown_text is_seen text.now) }
 {
+    push_shown(out, text.as_bytes(), is_seen)
+}
+
+/// The same of bytes.
+pub(crate) fn push_shown(out: &mut Vec<u8>, text: &[u8], is_seen: bool) -> Result<(), AllocError>
+    ensures value { Adds result out.old out.new (shown_text is_seen text.now) }
+{
     if is_seen {
-        return push_visible(out, text.as_bytes(), Escape::Caret);
+        return push_visible(out, text, Escape::Caret);
     }
-    out.extend_from_slice(text.as_bytes())?;
+    out.extend_from_slice(text)?;
     Ok(())
 }
 
@@ -289,7 +328,7 @@ fn color_of(is_due: bool, line: &Line) -> &'static str
 }
 
 // Appends the place of a line's heading, if it has one, and its text.
-#[tactic(auto, using(crate::proofs::ShownLemmas::keeps_placed))]
+#[tactic(auto, using(crate::proofs::ShownLemmas::keeps_placed, crate::proofs::ToldLemmas::fronted_line))]
 fn push_placed<T: Text>(
     alloc: Global,
     out: &mut Vec<u8>,
@@ -298,6 +337,7 @@ fn push_placed<T: Text>(
     look: &PrintOptions<'_, '_>,
 ) -> Result<(), AllocError>
     ensures clean { look.now.is_seen ≡ true → KeepsClean result out.old out.new }
+    ensures value { AddsPlain result out.old out.new look.now (place_line look.now files.now shown.now) }
 {
     push_place(alloc, out, files, shown.line, look.is_seen)?;
     push_text(out, shown, look)
@@ -312,15 +352,32 @@ fn push_row<T: Text>(
     look: &PrintOptions<'_, '_>,
 ) -> Result<(), Fault>
     ensures clean { KeepsClean result out.old out.new }
+    ensures value { AddsRow result out.old out.new look.now (row_bytes look.now files.now shown.now) }
 {
-    let text = shown.text.as_bytes();
-    if let Line::Day(day) = shown.line {
-        return push_day(alloc, out, *day, text, look.has_days);
+    match shown.line {
+        Line::Day(day) => push_day(alloc, out, *day, shown.text, look.has_days),
+        Line::Step(..) | Line::Row(_) | Line::Table(_) => {
+            push_some_row(alloc, out, files, shown, look)
+        }
     }
-    if let Some(row) = shown.row() {
-        push_whole(out, &row_line(alloc, files, &row, text, look)?)?;
-    }
-    Ok(())
+}
+
+// Appends the line of a row, if it stands for one.
+fn push_some_row<T: Text>(
+    alloc: Global,
+    out: &mut Vec<u8>,
+    files: &LoadReport<'_, '_, T>,
+    shown: &LineOfAnswer<'_>,
+    look: &PrintOptions<'_, '_>,
+) -> Result<(), Fault>
+    ensures clean { KeepsClean result out.old out.new }
+    ensures value { AddsRow result out.old out.new look.now (some_bytes look.now files.now shown.now) }
+{
+    let Some(row) = shown.row() else {
+        return Ok(());
+    };
+    let line = row_line(alloc, files, &row, shown.text, look)?;
+    Ok(push_whole(out, &line)?)
 }
 
 /// The line of a row in a form of its own; in others its text, whose control characters can be seen.
@@ -330,21 +387,38 @@ pub(crate) fn row_line<T: Text>(
     row: &ViewRow,
     text: &[u8],
     look: &PrintOptions<'_, '_>,
-) -> Result<OneLine, Fault> {
+) -> Result<OneLine, Fault>
+    ensures value { TellsRow result look.now (row_in look.now files.now row.now text.now) }
+{
     match look.form {
         Form::Json => json_line(alloc, files, row, text),
-        Form::Csv => {
-            let mut line = csv_line(alloc, files, row, look.list)?;
-            push_id_field(alloc, &mut line, files, row)?;
-            Ok(line)
-        }
+        Form::Csv => fields_line(alloc, files, row, look.list),
         Form::Template(template) => template_line(alloc, files, row, text, &template),
-        Form::Plain | Form::Places => {
-            let mut line = OneLine::new(alloc);
-            line.push_seen(text)?;
-            Ok(line)
-        }
+        Form::Plain | Form::Places => seen_line(alloc, text),
     }
+}
+
+// The fields of a row, its short id behind them, if rows have ids.
+fn fields_line<T: Text>(
+    alloc: Global,
+    files: &LoadReport<'_, '_, T>,
+    row: &ViewRow,
+    list: &str,
+) -> Result<OneLine, Fault>
+    ensures value { Gives result (fields_told files.now row.now list.now) }
+{
+    let mut line = csv_line(alloc, files, row, list)?;
+    push_id_field(alloc, &mut line, files, row)?;
+    Ok(line)
+}
+
+// A text whose control characters can be seen.
+fn seen_line(alloc: Global, text: &[u8]) -> Result<OneLine, Fault>
+    ensures value { Gives result (visible Escape.Caret text.now) }
+{
+    let mut line = OneLine::new(alloc);
+    line.push_seen(text)?;
+    Ok(line)
 }
 
 // Appends the object of a day, if days have any.
@@ -356,6 +430,7 @@ fn push_day(
     has_days: bool,
 ) -> Result<(), Fault>
     ensures clean { KeepsClean result out.old out.new }
+    ensures value { Adds result out.old out.new (day_told has_days day text.now) }
 {
     if !has_days {
         return Ok(());

@@ -1,3 +1,4 @@
+pub mod ChosenLemmas
 pub mod CleanLemmas
 pub mod ClockLemmas
 pub mod MarkedLemmas

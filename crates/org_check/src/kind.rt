@@ -1,5 +1,6 @@
 //! What may be found.
 ghost use Rattle.std.specs.Prelude.{◌≡◌};
+ghost use Rattle.org_check.specs.Chosen.{kind_of_name};
 ghost use Rattle.org_check.specs.Kinds.{entry_of, is_usual, name_of, seen, severity_of};
 ghost use Rattle.org_check.specs.Said.{look_of};
 
@@ -83,7 +84,9 @@ impl Kind {
     }
 
     /// The kind of this name.
-    pub fn of_name(name: &str) -> Option<Kind> {
+    pub fn of_name(name: &str) -> Option<Kind>
+        ensures value { result ≡ kind_of_name name.now }
+    {
         for kind in &ALL_KINDS {
             if kind.name() == name {
                 return Some(*kind);

@@ -1,6 +1,7 @@
 //! Which findings are wanted.
-ghost use Rattle.std.specs.Prelude.{◌≡◌, [], false, true};
-ghost use Rattle.org_check.specs.Chosen.{counts, counts_any, is_taken, is_wanted};
+ghost use Rattle.std.specs.Prelude.{◌≡◌, [], false, true, OnOk};
+ghost use Rattle.std.specs.Option.{option_map};
+ghost use Rattle.org_check.specs.Chosen.{counts, counts_any, is_taken, is_wanted, names_in, unknown_in, with_kind, with_left_out, with_named, with_taken};
 ghost use Rattle.org_check.specs.Kinds.{is_among};
 
 use crate::finding::Finding;
@@ -48,12 +49,16 @@ impl Selection {
 
     /// In the place of the usual ones those of these names, with commas between, and those that were taken so before. A
     /// name that no kind has is left out: `unknown_kind` finds it.
-    pub fn take(&mut self, names: &str) -> Result<(), AllocError> {
+    pub fn take(&mut self, names: &str) -> Result<(), AllocError>
+        ensures ok { OnOk result (self.new ≡ with_taken self.old names.now) }
+    {
         add_named(&mut self.only, names)
     }
 
     /// Leaves out the kinds of these names, with commas between.
-    pub fn leave_out(&mut self, names: &str) -> Result<(), AllocError> {
+    pub fn leave_out(&mut self, names: &str) -> Result<(), AllocError>
+        ensures ok { OnOk result (self.new ≡ with_left_out self.old names.now) }
+    {
         add_named(&mut self.without, names)
     }
 
@@ -113,16 +118,21 @@ fn holds(kinds: &[Kind], kind: Kind) -> bool
 }
 
 // Puts the kinds of the names at the end that aren't there.
-fn add_named(kinds: &mut Vec<Kind>, names: &str) -> Result<(), AllocError> {
+fn add_named(kinds: &mut Vec<Kind>, names: &str) -> Result<(), AllocError>
+    ensures ok { OnOk result (kinds.new.items ≡ with_named kinds.old.items names.now) }
+{
     for name in names.split(',') {
-        if let Some(kind) = Kind::of_name(name) {
-            add(kinds, kind)?;
-        }
+        add(kinds, Kind::of_name(name))?;
     }
     Ok(())
 }
 
-fn add(kinds: &mut Vec<Kind>, kind: Kind) -> Result<(), AllocError> {
+fn add(kinds: &mut Vec<Kind>, kind: Option<Kind>) -> Result<(), AllocError>
+    ensures ok { OnOk result (kinds.new.items ≡ with_kind kinds.old.items kind) }
+{
+    let Some(kind) = kind else {
+        return Ok(());
+    };
     if !holds(kinds.as_slice(), kind) {
         kinds.push(kind)?;
     }
@@ -130,7 +140,9 @@ fn add(kinds: &mut Vec<Kind>, kind: Kind) -> Result<(), AllocError> {
 }
 
 /// The first of some names, with commas between, that no kind has.
-pub fn unknown_kind(names: &str) -> Option<&str> {
+pub fn unknown_kind(names: &str) -> Option<&str>
+    ensures value { option_map (λ name. name.now) result ≡ unknown_in (names_in names.now) }
+{
     for name in names.split(',') {
         if Kind::of_name(name).is_none() {
             return Some(name);

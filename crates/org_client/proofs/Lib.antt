@@ -3,6 +3,7 @@ pub mod AskedLemmas
 pub mod BarLemmas
 pub mod BesideLemmas
 pub mod ClockLemmas
+pub mod ClockPlaceLemmas
 pub mod FileLemmas
 pub mod FirstLemmas
 pub mod HeadingLemmas

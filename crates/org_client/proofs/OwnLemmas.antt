@@ -81,6 +81,9 @@ module _ (text : List ℕ) (k own : ℕ) (there : k < length (sections text)) wh
         ap (λ (n : ℕ). take (end - at) (drop n text)) begun ∙ own_front (end - at) count
   ]
 
+  pub own_begin : (at end : ℕ) → end ≡ min (section_start text (k + 1)) own → at ≡ min (section_start text k) end → at ≡ min (section_start text k) own
+  own_begin at end is from = omega (arith, is, from, next_is)
+
 -- none stands past the last
 pub own_none : (text : List ℕ) (k own : ℕ) → length (sections text) ≤ k → take (own - section_start text k) (section_of text k) ≡ []
 own_none text k own past = ap (take (own - section_start text k)) (get_or_past (sections text) k [] past) ∙ none_taken (own - section_start text k)
@@ -94,12 +97,13 @@ end_none text k own past within =
 pub record IsThere (text : List ℕ) (k : ℕ) (place : Place) : Type 0 where
   pub there : k < length (sections text)
   pub at : place.at ≡ section_start text k
+  pub number : place.line ≡ lines_before text k + 1
 
 pub place_some : (text : List ℕ) (k : ℕ) (place : Place) → place_at text k ≡ Some place → IsThere text k place
 place_some text k place e = elim (cases_lt k (length (sections text))) [
   | inl low ↦
       let is : place ≡ record { at = section_start text k; line = lines_before text k + 1 } = inner (rw (lt-ltb k (length (sections text)) low) at e) in
-      record { there = low; at = ap (λ (p : Place). p.at) is }
+      record { there = low; at = ap (λ (p : Place). p.at) is; number = ap (λ (p : Place). p.line) is }
   | inr past ↦ absurd (other (rw (le-ltb k (length (sections text)) past) at e))
 ]
   where

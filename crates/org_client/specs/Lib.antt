@@ -1,6 +1,10 @@
+pub mod AllHeadings
 pub mod BarLaws
+pub mod Begins
 pub mod Bars
 pub mod ClockLaws
+pub mod ClockPlaceLaws
+pub mod ClockPlaces
 pub mod ClockTexts
 pub mod Clocks
 pub mod Fields
@@ -30,6 +34,7 @@ pub mod RowIds
 pub mod IdLaws
 pub mod Report
 pub mod RowMembers
+pub mod ShownClocks
 pub mod TableFields
 pub mod TitleWords
 pub mod EventTimes

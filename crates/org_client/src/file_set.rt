@@ -5,6 +5,7 @@ ghost use Rattle.org_base.specs.Results.{Gives};
 ghost use Rattle.org_base.specs.declared.code.Code.TheVariants.{Files, Taken};
 ghost use Rattle.org_base.specs.declared.fault.Fault.TheVariants.{Plain};
 ghost use Rattle.org_base.specs.declared.limits.TheConstants.{MOST_FILES};
+ghost use Rattle.org_client.specs.Begins.{HasNoHeadingOn, IsSectionOn};
 ghost use Rattle.org_client.specs.Files.{AreDifferent, AreRead, CanAdd, IsFullFor, IsNew, PutsFile, scopes_of};
 ghost use Rattle.org_client.specs.Places.{IsNoPlace, IsPlaceIn, place_in};
 
@@ -138,7 +139,10 @@ impl<T: Text> FileSet<T> {
     }
 
     /// The place of the section of a file that begins with a line; none where no heading stands there.
-    pub fn section_on(&self, file: usize, line: u64) -> Option<usize> {
+    pub fn section_on(&self, file: usize, line: u64) -> Option<usize>
+        ensures some { IfSome result (IsSectionOn self.now.files file line) }
+        ensures none { result ≡ None → HasNoHeadingOn self.now.files file line }
+    {
         if file >= self.count() {
             return None;
         }

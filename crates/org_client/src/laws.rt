@@ -1,6 +1,7 @@
 //! Laws of the definitions. Each is a function without parameters whose contract is the law.
 ghost use Rattle.org_client.specs.BarLaws.{BarsFollowSums, LengthsAreNearest, NothingHasNoBar, PartsAddUp};
 ghost use Rattle.org_client.specs.ClockLaws.{ClocksMakeTheTotal};
+ghost use Rattle.org_client.specs.ClockPlaceLaws.{ClocksHavePlaces};
 ghost use Rattle.org_client.specs.Examples.{ExamplesHold};
 ghost use Rattle.org_client.specs.IdLaws.{IdsStandForWhatWasListed, SumsAreOfPlaced};
 ghost use Rattle.org_client.specs.Laws.{AgendasShowNext, NextIsFirst, NextLiesAhead, NoStampIsMissed, StampsComeOnce};
@@ -93,6 +94,12 @@ pub fn parts_add_up()
 /// The minutes of the listed clock lines of some days add up to the total of the clock table of the same days.
 pub fn clocks_make_the_total()
     ensures { ClocksMakeTheTotal }
+{}
+
+/// Each clock of a section has its place.
+#[tactic(auto, using(crate::proofs::ClockPlaceLemmas::clocks_have_places))]
+pub fn clocks_have_places()
+    ensures { ClocksHavePlaces }
 {}
 
 /// The sum of a heading of a file is that of what the laws of ids say is summed of it.

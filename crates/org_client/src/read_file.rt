@@ -1,12 +1,14 @@
 //! A file that was read.
-ghost use Rattle.std.specs.Prelude.{◌≡◌, ◌+◌, ◌≤◌, [], length, min, None, IfOk, IfSome, IsOkUnless};
+ghost use Rattle.std.specs.Prelude.{◌≡◌, ◌+◌, ◌≤◌, false, [], length, min, None, IfOk, IfSome, IsOkUnless};
 ghost use Rattle.org_agenda.specs.Headings.{HaveHeads};
 ghost use Rattle.org_base.specs.Codes.{memory_fault};
 ghost use Rattle.org_base.specs.Results.{Gives, GivesItems};
 ghost use Rattle.org_base.specs.Spans.{bytes_in};
+ghost use Rattle.org_client.specs.Begins.{BeginsAt};
+ghost use Rattle.org_client.specs.ClockPlaces.{clock_places};
 ghost use Rattle.org_client.specs.Files.{IsOwnSection, named_text, own_section, scope_of};
 ghost use Rattle.org_lines.specs.Cuts.{lines, starts};
-ghost use Rattle.org_store.specs.Begun.{section_start};
+ghost use Rattle.org_store.specs.Begun.{IsBegunBy, has_heading, section_start};
 ghost use Rattle.org_store.specs.Places.{place_at};
 ghost use Rattle.org_sum.specs.Texts.{AreOfText};
 
@@ -108,7 +110,10 @@ impl<T: Text> ReadFile<T> {
     }
 
     /// The place of the section that begins with a line; none where no heading stands there.
-    pub fn section_on(&self, line: u64) -> Option<usize> {
+    pub fn section_on(&self, line: u64) -> Option<usize>
+        ensures some { IfSome result (λ heading. IsBegunBy self.now.text line heading) }
+        ensures none { result ≡ None → has_heading self.now.text line ≡ false }
+    {
         let place = self.file.begun_by(line)?;
         Some(place as usize)
     }
@@ -122,7 +127,9 @@ impl<T: Text> ReadFile<T> {
     }
 
     /// Where the clock lines of the section at a place begin, in order; none past the last section.
-    pub fn clock_places(&self, alloc: Global, heading: usize) -> Result<Vec<Place>, Fault> {
+    pub fn clock_places(&self, alloc: Global, heading: usize) -> Result<Vec<Place>, Fault>
+        ensures value { GivesItems result (clock_places self.now heading) }
+    {
         let Some((section, line)) = self.section(heading) else {
             return Ok(Vec::new(alloc));
         };
@@ -133,6 +140,7 @@ impl<T: Text> ReadFile<T> {
     pub(crate) fn section(&self, heading: usize) -> Option<(Span, u32)>
         ensures within { IfSome result (λ found. found.0.at + found.0.len ≤ length self.now.text) }
         ensures own { IfSome result (λ found. IsOwnSection self.now heading found.0) }
+        ensures begins { IfSome result (λ found. BeginsAt self.now heading found.0.at found.1) }
         ensures none { result ≡ None → own_section self.now heading ≡ [] }
     {
         let begin = self.place(heading)?;

@@ -1,6 +1,7 @@
 //! The short ids of headings of files.
 ghost use Rattle.std.specs.Prelude.{◌≡◌, ◌==◌, IfOk, OnOk, length};
 ghost use Rattle.org_base.specs.Results.{Adds, GivesItems};
+ghost use Rattle.org_client.specs.AllHeadings.{all_headings, heading_at, headings_from};
 ghost use Rattle.org_client.specs.HeadingNames.{id_headings};
 ghost use Rattle.org_client.specs.RowIds.{AreIdsOf, HaveKeys, PutsSum, PutsSums, has_key, heading_of, headings_for, id_text, key_of, no_ids, stands_for_some, sum_in};
 
@@ -9,6 +10,7 @@ use crate::file_set::FileSet;
 use crate::heading_names::HeadingNames;
 use crate::read_file::ReadFile;
 use org_base::Fault;
+use org_entry::Entry;
 use org_ids::{MOST_LETTERS, id_length, push_id, stands_for};
 use org_inherit::Inherits;
 use org_outline::Outline;
@@ -24,24 +26,37 @@ pub struct HeadingAt {
     pub heading: usize,
 }
 
-/// All headings of files.
-pub fn all_headings(alloc: Global, inherits: &Inherits<'_>) -> Result<Vec<HeadingAt>, AllocError> {
+/// All headings of files, in the order of files and sections.
+pub fn all_headings(alloc: Global, inherits: &Inherits<'_>) -> Result<Vec<HeadingAt>, AllocError>
+    ensures value { GivesItems result (all_headings inherits.now) }
+{
     let mut all = Vec::new(alloc);
     for file in 0..inherits.count() {
-        push_headings(&mut all, inherits.get(file).outline(), file)?;
+        push_headings(&mut all, file, inherits.get(file).outline())?;
     }
     Ok(all)
 }
 
-fn push_headings(
-    all: &mut Vec<HeadingAt>,
-    outline: &Outline,
-    file: usize,
-) -> Result<(), AllocError> {
+fn push_headings(all: &mut Vec<HeadingAt>, file: usize, outline: &Outline) -> Result<(), AllocError>
+    ensures { Adds result all.old all.new (headings_from file 0 outline.now) }
+{
     for heading in 0..outline.count() {
-        if outline.entry(heading).head.is_some() {
-            all.push(HeadingAt { file, heading })?;
-        }
+        push_heading(all, file, heading, outline.entry(heading))?;
+    }
+    Ok(())
+}
+
+// Puts the heading of an entry after others, if it has one.
+fn push_heading(
+    all: &mut Vec<HeadingAt>,
+    file: usize,
+    heading: usize,
+    entry: &Entry,
+) -> Result<(), AllocError>
+    ensures { Adds result all.old all.new (heading_at file heading entry.now) }
+{
+    if entry.head.is_some() {
+        all.push(HeadingAt { file, heading })?;
     }
     Ok(())
 }

@@ -71,6 +71,8 @@ fn push_named(
         "log-done",
         "log-repeat",
         "log-into-drawer",
+        "inbox",
+        "words",
     ] {
         if let Some(value) = matches.get_str(option) {
             push_line(alloc, lines, COMMAND_LINE, option, value)?;

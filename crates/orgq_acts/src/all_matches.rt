@@ -1,14 +1,15 @@
 //! All headings of which an expression holds.
 
 use crate::headings::Headings;
+use crate::sought::place_on;
 use clap::ArgMatches;
 use org_answer::{heading_of, match_list, read_expression};
 use org_base::Fault;
 use org_client::FileSet;
 use org_layout::Line;
 use org_match::Match;
-use org_text::{Text, Whole};
-use orgq_args::{HeadingPlace, Wish};
+use org_text::Whole;
+use orgq_args::Wish;
 use orgq_files::{Asked, asked_files};
 use orgq_messages::{LEFT_OUT, NO_MATCH, Problem, report_problem, say};
 use std::alloc::{AllocError, Global};
@@ -115,11 +116,7 @@ fn put_heading(
     if headings.put(file.path(), line)? {
         return Ok(());
     }
-    let first = HeadingPlace {
-        name: String::from_str(alloc, file.name())?,
-        line,
-        found_in: Some(file.text().copy_out()?),
-    };
+    let first = place_on(alloc, file, line)?;
     headings.put_first(alloc, file.path(), first)?;
     Ok(())
 }

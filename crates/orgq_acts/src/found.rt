@@ -5,6 +5,7 @@ ghost use Rattle.orgq_acts.specs.Found.{StandsFor};
 use crate::all_matches::Found;
 use crate::headings::Headings;
 use crate::one_match::Search;
+use crate::sought::place_on;
 use clap::ArgMatches;
 use org_answer::{push_file_name, push_seen};
 use org_base::{Fault, Texts};
@@ -370,11 +371,7 @@ fn put_heading(
     if headings.put(file.path(), line)? {
         return Ok(());
     }
-    let first = HeadingPlace {
-        name: String::from_str(alloc, file.name())?,
-        line,
-        found_in: Some(file.text().copy_out()?),
-    };
+    let first = place_on(alloc, file, line)?;
     headings.put_first(alloc, file.path(), first)?;
     Ok(())
 }

@@ -1,4 +1,6 @@
 //! A heading that is changed, with the text of its file.
+ghost use Rattle.std.specs.Prelude.{◌≡◌, true, IfOk};
+ghost use Rattle.orgq_acts.specs.Sought.{IsAsFound, IsHeadingAt, read_text};
 
 use org_act::{
     Addition, ClockAct, ClockStep, Completion, Planning, Refusal, Rewriting, traced_completions,
@@ -42,7 +44,9 @@ impl HeadingText {
         wish: &Wish,
         path: String,
         text: String,
-    ) -> Result<HeadingText, Fault> {
+    ) -> Result<HeadingText, Fault>
+        ensures value { IfOk result (IsHeadingAt place.now) }
+    {
         let behind = match &wish.keywords {
             Some(words) => line_behind(alloc, text.as_str(), words.as_str())?,
             None => String::new(alloc),
@@ -120,7 +124,9 @@ impl HeadingText {
     }
 
     /// The act that does a step to its clock.
-    pub fn clocking(&self, step: ClockStep) -> ClockAct {
+    pub fn clocking(&self, step: ClockStep) -> ClockAct
+        ensures value { result ≡ record { line = self.now.line; step = step } }
+    {
         ClockAct {
             line: self.line,
             step,
@@ -158,11 +164,22 @@ impl HeadingText {
     }
 
     /// Whether it still has the text in which it was found, if it was looked for.
-    pub fn is_as_found(&self, place: &HeadingPlace) -> bool {
+    pub fn is_as_found(&self, place: &HeadingPlace) -> bool
+        ensures value { result ≡ true → IsAsFound place.now self.now }
+    {
         match &place.found_in {
-            Some(found) => found.as_str().strip_prefix(self.text.as_str())
-                == Some(self.behind.as_str()),
+            Some(found) => self.has_text(found.as_str()),
             None => true,
+        }
+    }
+
+    // Whether a text is its own, and what is read behind it.
+    fn has_text(&self, text: &str) -> bool
+        ensures value { result ≡ true → text.now ≡ read_text self.now }
+    {
+        match text.strip_prefix(self.text.as_str()) {
+            Some(rest) => rest == self.behind.as_str(),
+            None => false,
         }
     }
 }
@@ -172,7 +189,9 @@ pub fn read_heading<R: AllocGlobal + Files>(
     rt: &R,
     place: &HeadingPlace,
     wish: &Wish,
-) -> Result<HeadingText, LeftOut> {
+) -> Result<HeadingText, LeftOut>
+    ensures value { IfOk result (IsHeadingAt place.now) }
+{
     let text = read_text(rt, place.name.as_str())?;
     let path = real_path(rt, place.name.as_str())?;
     Ok(HeadingText::new(rt.alloc(), place, wish, path, text)?)

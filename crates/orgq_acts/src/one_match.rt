@@ -1,14 +1,17 @@
 //! The one heading of which an expression holds.
+ghost use Rattle.std.specs.Prelude.{IfOk};
+ghost use Rattle.orgq_acts.specs.Sought.{IsOneOfLine};
 
+use crate::sought::place_of;
 use clap::ArgMatches;
 use org_answer::{
     Answer, Form, PrintOptions, answer_bytes, heading_of, match_list, read_expression,
 };
 use org_base::{Fault, Texts};
-use org_client::{FileSet, LoadReport};
+use org_client::{FileSet, HeadingAt, LoadReport};
 use org_layout::Line;
 use org_match::Match;
-use org_text::{Text, Whole};
+use org_text::Whole;
 use orgq_args::{HeadingPlace, Look, Wish};
 use orgq_files::{Asked, asked_files};
 use orgq_messages::{LEFT_OUT, NO_MATCH, Problem, print_all, report_problem, say};
@@ -64,28 +67,22 @@ fn find_in<R: AllocGlobal + Print + Eprint>(
     let properties = Texts::new(rt.alloc());
     let files = LoadReport::new(rt.alloc(), file_set, &inherits, properties, false)?;
     if let [line] = answer.lines.as_slice() {
-        return place_of(rt.alloc(), file_set, line);
+        return place_of_line(rt.alloc(), file_set, line);
     }
     Ok(Search::Ended(list_candidates(rt, &files, &answer, wish.look)?))
 }
 
 // The place of the heading that a line stands for.
-fn place_of(alloc: Global, file_set: &FileSet<Whole>, line: &Line) -> Result<Search, Fault> {
+fn place_of_line(alloc: Global, file_set: &FileSet<Whole>, line: &Line) -> Result<Search, Fault>
+    ensures value { IfOk result (IsOneOfLine file_set.now.files line.now) }
+{
     let Some((file, heading)) = heading_of(line) else {
         return Ok(Search::Ended(NO_MATCH));
     };
-    let Some(place) = file_set.place(file, heading) else {
-        return Ok(Search::Ended(NO_MATCH));
-    };
-    if file >= file_set.count() {
-        return Ok(Search::Ended(NO_MATCH));
+    match place_of(alloc, file_set, HeadingAt { file, heading })? {
+        Some(place) => Ok(Search::One(place)),
+        None => Ok(Search::Ended(NO_MATCH)),
     }
-    let file = file_set.file(file);
-    Ok(Search::One(HeadingPlace {
-        name: String::from_str(alloc, file.name())?,
-        line: u64::from(place.line),
-        found_in: Some(file.text().copy_out()?),
-    }))
 }
 
 // Says that not one heading matches, prints those that do with their places, and gives the status.

@@ -1,9 +1,12 @@
 //! The clocks that run, among all files that are asked.
+ghost use Rattle.std.specs.Prelude.{IfOk};
+ghost use Rattle.orgq_acts.specs.Sought.{IsOfClock};
 
+use crate::sought::place_of;
 use clap::ArgMatches;
 use org_answer::{Form, PrintOptions, running_clocks, running_lines};
 use org_base::{Fault, Texts};
-use org_client::{FileSet, LoadReport, ShownClock, push_clock_minute};
+use org_client::{FileSet, HeadingAt, LoadReport, ShownClock, push_clock_minute};
 use org_text::{Text, Whole};
 use orgq_args::{HeadingPlace, Wish};
 use orgq_files::{Reading, load_all, paths, real_path};
@@ -113,7 +116,7 @@ fn running_in<R: AllocGlobal + Print + Eprint>(
     let clocks = running_clocks(rt.alloc(), file_set, &inherits, wish.moment)?;
     match clocks.as_slice() {
         [] => Ok(Running::None),
-        [clock] => place_of(rt.alloc(), file_set, clock),
+        [clock] => place_of_clock(rt.alloc(), file_set, clock),
         several => {
             let files = LoadReport::new(
                 rt.alloc(),
@@ -128,39 +131,24 @@ fn running_in<R: AllocGlobal + Print + Eprint>(
 }
 
 // A clock's heading, and the clock in words.
-fn place_of(
+fn place_of_clock(
     alloc: Global,
     file_set: &FileSet<Whole>,
     clock: &ShownClock,
-) -> Result<Running, Fault> {
-    match heading_of(alloc, file_set, clock)? {
+) -> Result<Running, Fault>
+    ensures value { IfOk result (IsOfClock file_set.now.files clock.now) }
+{
+    let at = HeadingAt {
+        file: clock.row.file,
+        heading: clock.row.heading,
+    };
+    match place_of(alloc, file_set, at)? {
         Some(heading) => {
             let words = words_of(alloc, heading.name.as_str(), clock)?;
             Ok(Running::One(RunningPlace { heading, words }))
         }
         None => Ok(Running::None),
     }
-}
-
-// The heading of a clock.
-fn heading_of(
-    alloc: Global,
-    file_set: &FileSet<Whole>,
-    clock: &ShownClock,
-) -> Result<Option<HeadingPlace>, Fault> {
-    let row = &clock.row;
-    let Some(place) = file_set.place(row.file, row.heading) else {
-        return Ok(None);
-    };
-    if row.file >= file_set.count() {
-        return Ok(None);
-    }
-    let file = file_set.file(row.file);
-    Ok(Some(HeadingPlace {
-        name: String::from_str(alloc, file.name())?,
-        line: u64::from(place.line),
-        found_in: Some(file.text().copy_out()?),
-    }))
 }
 
 // Where the line of a clock stands in a file of a name, and when it began.

@@ -1,4 +1,8 @@
 //! The heading that `add` writes.
+ghost use Rattle.std.specs.Option.{option_map};
+ghost use Rattle.std.specs.Prelude.{◌≡◌, [], codes, map, IfOk, OnOk, string_bytes};
+ghost use Rattle.org_base.specs.Results.{GivesText};
+ghost use Rattle.orgq_args.specs.Wished.{IsEntryOf, IsSame, IsWished, date_of, ends_with_dash, joined_after, line_if, text_of, title_of, title_words, values_of, with_word};
 
 use crate::place::{HeadingPlace, TypedPlace, read_place};
 use crate::planning::typed_date;
@@ -26,7 +30,9 @@ pub struct WishedHeading {
 
 impl WishedHeading {
     /// The lines that an act writes, with these tags.
-    pub fn entry<'a>(&'a self, tags: &'a [&'a str]) -> NewEntry<'a> {
+    pub fn entry<'a>(&'a self, tags: &'a [&'a str]) -> NewEntry<'a>
+        ensures value { IsEntryOf self.now (map (λ t. t.now) tags.now) result }
+    {
         NewEntry {
             head: NewHead {
                 level: 1,
@@ -47,7 +53,9 @@ impl WishedHeading {
     }
 
     /// An equal one.
-    pub fn copy(&self, alloc: Global) -> Result<WishedHeading, AllocError> {
+    pub fn copy(&self, alloc: Global) -> Result<WishedHeading, AllocError>
+        ensures value { IfOk result (IsSame self.now) }
+    {
         Ok(WishedHeading {
             under: self.under,
             keyword: copy_of(alloc, text_of(&self.keyword))?,
@@ -61,21 +69,27 @@ impl WishedHeading {
     }
 }
 
-fn text_of(text: &Option<String>) -> Option<&str> {
+fn text_of(text: &Option<String>) -> Option<&str>
+    ensures value { option_map (λ t. t.now) result ≡ text_of text.now }
+{
     match text {
         Some(text) => Some(text.as_str()),
         None => None,
     }
 }
 
-fn copy_of(alloc: Global, text: Option<&str>) -> Result<Option<String>, AllocError> {
+fn copy_of(alloc: Global, text: Option<&str>) -> Result<Option<String>, AllocError>
+    ensures value { IfOk result (λ copy. text_of copy ≡ option_map (λ t. t.now) text) }
+{
     match text {
         Some(text) => Ok(Some(String::from_str(alloc, text)?)),
         None => Ok(None),
     }
 }
 
-fn copies_of(alloc: Global, texts: &[String]) -> Result<Vec<String>, AllocError> {
+fn copies_of(alloc: Global, texts: &[String]) -> Result<Vec<String>, AllocError>
+    ensures value { IfOk result (λ copies. map string_bytes copies.items ≡ map string_bytes texts.now) }
+{
     let mut copies = Vec::new(alloc);
     for text in texts {
         copies.push(String::from_str(alloc, text.as_str())?)?;
@@ -84,16 +98,14 @@ fn copies_of(alloc: Global, texts: &[String]) -> Result<Vec<String>, AllocError>
 }
 
 /// The tags of a heading, lent.
-pub fn lend<'a>(alloc: Global, tags: &'a [String]) -> Result<Vec<&'a str>, AllocError> {
-    let mut lent = Vec::new(alloc);
-    for tag in tags {
-        lent.push(tag.as_str())?;
-    }
-    Ok(lent)
+pub fn lend<'a>(alloc: Global, tags: &'a [String]) -> Result<Vec<&'a str>, AllocError>
+    ensures value { IfOk result (λ lent. map (λ t. t.now) lent.items ≡ map string_bytes tags.now) }
+{
+    tags.iter().map(|tag| tag.as_str()).collect(alloc)
 }
 
-/// Where the heading goes: the file that is named, and the line of the heading below which it goes, 0 without one; or the heading
-/// below which it goes.
+/// Where the heading goes: the file that is named, else the inbox, and the line of the heading below which it goes, 0 without one;
+/// or the heading below which it goes.
 pub fn added_place(
     alloc: Global,
     matches: &ArgMatches<'_>,
@@ -112,13 +124,22 @@ pub fn added_place(
             TypedPlace::Id(id) => Ok(TypedPlace::Id(id)),
             TypedPlace::At(_) | TypedPlace::AtWithId(..) => Err(Problem::FileBeside),
         },
-        (None, [name]) if *name != INPUT => Ok(TypedPlace::At(HeadingPlace {
-            name: String::from_str(alloc, name)?,
-            line: 0,
-            found_in: None,
-        })),
+        (None, [name]) if *name != INPUT => behind_all(alloc, name),
+        (None, []) => match own.get_str("inbox") {
+            Some(name) => behind_all(alloc, name),
+            None => Err(Problem::OneFile),
+        },
         (None, _) => Err(Problem::OneFile),
     }
+}
+
+// The place behind all headings of a file.
+fn behind_all(alloc: Global, name: &str) -> Result<TypedPlace, Problem> {
+    Ok(TypedPlace::At(HeadingPlace {
+        name: String::from_str(alloc, name)?,
+        line: 0,
+        found_in: None,
+    }))
 }
 
 /// The heading that the words of `add` ask for, and the line below which it goes, without its body.
@@ -127,13 +148,11 @@ pub fn wished_heading(
     own: &ArgMatches<'_>,
     place: &HeadingPlace,
     today: Day,
-) -> Result<WishedHeading, Problem> {
+) -> Result<WishedHeading, Problem>
+    ensures value { IfOk result (IsWished own.now place.now.line today) }
+{
     Ok(WishedHeading {
-        under: if place.line > 0 {
-            Some(place.line)
-        } else {
-            None
-        },
+        under: line_if(place.line),
         keyword: copy_of(alloc, own.get_str("todo"))?,
         priority: copy_of(alloc, own.get_str("priority"))?,
         title: title_of(alloc, own)?,
@@ -144,7 +163,9 @@ pub fn wished_heading(
     })
 }
 
-fn texts_of(alloc: Global, words: &[&str]) -> Result<Vec<String>, AllocError> {
+fn texts_of(alloc: Global, words: &[&str]) -> Result<Vec<String>, AllocError>
+    ensures value { IfOk result (λ texts. map string_bytes texts.items ≡ map (λ w. w.now) words.now) }
+{
     let mut texts = Vec::new(alloc);
     for word in words {
         texts.push(String::from_str(alloc, word)?)?;
@@ -152,36 +173,76 @@ fn texts_of(alloc: Global, words: &[&str]) -> Result<Vec<String>, AllocError> {
     Ok(texts)
 }
 
-fn date_of(text: Option<&str>, today: Day) -> Result<Option<TypedDate>, Problem> {
+fn date_of(text: Option<&str>, today: Day) -> Result<Option<TypedDate>, Problem>
+    ensures value { IfOk result (λ date. date ≡ date_of (option_map (λ t. t.now) text) today) }
+{
     match text {
         Some(text) => Ok(Some(typed_date(text, today)?)),
         None => Ok(None),
     }
 }
 
-// The words of the title; the last one stands for a body where it is a dash.
-fn title_words<'a, 'b>(own: &'b ArgMatches<'a>) -> (&'b [&'a str], bool) {
-    match own.get_strs("TITLE").unwrap_or(&[]) {
-        [words @ .., last] if *last == INPUT => (words, true),
-        words => (words, false),
+// A line, if there is one.
+fn line_if(line: u64) -> Option<u64>
+    ensures value { result ≡ line_if line }
+{
+    if line > 0 { Some(line) } else { None }
+}
+
+/// The words of the title; the last one stands for a body where it is a dash.
+pub(crate) fn title_words<'a, 'b>(own: &'b ArgMatches<'a>) -> (&'b [&'a str], bool)
+    ensures words { map (λ w. w.now) result.0.now ≡ title_words (values_of own.now (codes "TITLE")) }
+    ensures body { result.1 ≡ ends_with_dash (values_of own.now (codes "TITLE")) }
+{
+    without_dash(own.get_strs("TITLE").unwrap_or(&[]))
+}
+
+// Words without a dash as the last of them, and whether it was there.
+fn without_dash<'a, 'b>(words: &'b [&'a str]) -> (&'b [&'a str], bool)
+    ensures words { map (λ w. w.now) result.0.now ≡ title_words (map (λ w. w.now) words.now) }
+    ensures body { result.1 ≡ ends_with_dash (map (λ w. w.now) words.now) }
+{
+    let count = words.len();
+    if count > 0 && words[count - 1] == INPUT {
+        (&words[..count - 1], true)
+    } else {
+        (words, false)
     }
 }
 
 // The title: its words with a space between two of them.
-fn title_of(alloc: Global, own: &ArgMatches<'_>) -> Result<String, AllocError> {
+fn title_of(alloc: Global, own: &ArgMatches<'_>) -> Result<String, AllocError>
+    ensures value { GivesText result (title_of own.now) }
+{
     let (words, _) = title_words(own);
-    let mut title = String::new(alloc);
+    joined(alloc, words)
+}
+
+/// Words with a space between two of them.
+pub(crate) fn joined(alloc: Global, words: &[&str]) -> Result<String, AllocError>
+    ensures value { GivesText result (joined_after [] (map (λ w. w.now) words.now)) }
+{
+    let mut text = String::new(alloc);
     for word in words {
-        if !title.as_str().is_empty() {
-            title.push_str(" ")?;
-        }
-        title.push_str(word)?;
+        push_word(&mut text, word)?;
     }
-    Ok(title)
+    Ok(text)
+}
+
+// Appends a word behind a space, or without one where nothing stands before it.
+fn push_word(text: &mut String, word: &str) -> Result<(), AllocError>
+    ensures ok { OnOk result (string_bytes text.new ≡ with_word (string_bytes text.old) word.now) }
+{
+    if !text.as_str().is_empty() {
+        text.push_str(" ")?;
+    }
+    text.push_str(word)
 }
 
 /// Whether standard input is the body of the heading.
-pub fn has_body(own: &ArgMatches<'_>) -> bool {
+pub fn has_body(own: &ArgMatches<'_>) -> bool
+    ensures value { result ≡ ends_with_dash (values_of own.now (codes "TITLE")) }
+{
     let (_, has_body) = title_words(own);
     has_body
 }

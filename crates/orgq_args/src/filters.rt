@@ -82,7 +82,8 @@ fn read_tag(alloc: Global, tag: &str) -> Result<Match, Problem> {
     Ok(read_expression(alloc, tag)?)
 }
 
-fn is_of_tag(character: char) -> bool {
+/// Whether a character may stand in a tag.
+pub(crate) fn is_of_tag(character: char) -> bool {
     character.is_alphanumeric() || matches!(character, '_' | '@' | '#' | '%')
 }
 

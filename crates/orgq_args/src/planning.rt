@@ -1,4 +1,6 @@
 //! The dates that headings get.
+ghost use Rattle.std.specs.Prelude.{◌≡◌, Some, IfOk};
+ghost use Rattle.org_amend.specs.Typed.{typed_date};
 
 use crate::wish::WishedAct;
 use org_amend::TypedDate;
@@ -49,7 +51,9 @@ fn wished_date(
 }
 
 /// The date that a text says on a day.
-pub fn typed_date(text: &str, today: Day) -> Result<TypedDate, Problem> {
+pub fn typed_date(text: &str, today: Day) -> Result<TypedDate, Problem>
+    ensures value { IfOk result (λ date. typed_date text.now today ≡ Some date) }
+{
     match TypedDate::of_text(text.as_bytes(), today) {
         Some(date) => Ok(date),
         None => Err(Problem::OneDate),

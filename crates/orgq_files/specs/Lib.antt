@@ -1,3 +1,5 @@
 pub mod Examples
 pub mod Keywords
+pub mod Listed
+pub mod Reported
 pub mod Settings

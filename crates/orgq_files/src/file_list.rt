@@ -1,4 +1,8 @@
 //! The configuration folder, and its list of files.
+ghost use Rattle.std.specs.Option.{option_map};
+ghost use Rattle.std.specs.Prelude.{◌≡◌, ◌<◌};
+ghost use Rattle.org_base.specs.Results.{GivesText};
+ghost use Rattle.orgq_files.specs.Listed.{AddsTexts, behind_home, behind_tilde, listed_paths, listed_word, part_paths, path_of};
 
 use crate::files::{LeftOut, read_whole};
 use orgq_messages::{Problem, Variable, value_of};
@@ -10,7 +14,7 @@ use std::rt::{Env, Files};
 /// The path that stands for standard input.
 pub const INPUT: &str = "-";
 
-/// A file of the configuration folder: its path, its text, and the folder that `~/` stands for in it.
+/// The configuration folder's list of files: its path, its text, and the folder that `~/` stands for in it.
 #[derive(Debug, Drop)]
 pub struct FileList {
     pub path: String,
@@ -20,26 +24,12 @@ pub struct FileList {
 
 /// The configuration folder's list of files, which is empty where there is none.
 pub fn read_list<R: AllocGlobal + Files + Env>(rt: &R) -> Result<FileList, Problem> {
-    read_own(rt, "files", Problem::List)
-}
-
-/// The configuration folder's views with names; the text is empty where there are none.
-pub fn read_view_file<R: AllocGlobal + Files + Env>(rt: &R) -> Result<FileList, Problem> {
-    read_own(rt, "views", Problem::ViewFile)
-}
-
-// A file of the configuration folder, which is empty where there is none; where it can't be read this is the problem.
-fn read_own<R: AllocGlobal + Files + Env>(
-    rt: &R,
-    name: &str,
-    unread: Problem,
-) -> Result<FileList, Problem> {
     let home = match value_of(rt, Variable::Home)? {
         Some(home) => home,
         None => String::new(rt.alloc()),
     };
-    let path = folder_path(rt, home.as_str(), name)?;
-    let text = match text_of_list(rt, path.as_str(), unread)? {
+    let path = folder_path(rt, home.as_str(), "files")?;
+    let text = match text_of_list(rt, path.as_str(), Problem::List)? {
         Some(text) => text,
         None => String::new(rt.alloc()),
     };
@@ -97,17 +87,35 @@ pub fn push_listed(
     text: &str,
     separator: char,
     home: &str,
-) -> Result<(), AllocError> {
+) -> Result<(), AllocError>
+    requires ascii { separator < 128 }
+    ensures ok { AddsTexts result paths.old paths.new (listed_paths text.now separator home.now) }
+{
     for part in text.split(separator) {
-        if let Some(word) = listed_word(part) {
-            paths.push(path_of(alloc, word, home)?)?;
-        }
+        push_part(alloc, paths, part, home)?;
+    }
+    Ok(())
+}
+
+// Puts the path of a part of a list after others, if it names one.
+fn push_part(
+    alloc: Global,
+    paths: &mut Vec<String>,
+    part: &str,
+    home: &str,
+) -> Result<(), AllocError>
+    ensures ok { AddsTexts result paths.old paths.new (part_paths home.now part.now) }
+{
+    if let Some(word) = listed_word(part) {
+        paths.push(path_of(alloc, word, home)?)?;
     }
     Ok(())
 }
 
 /// The word of a part of a list, if it is neither empty nor a comment.
-pub fn listed_word(part: &str) -> Option<&str> {
+pub fn listed_word(part: &str) -> Option<&str>
+    ensures value { option_map (λ word. word.now) result ≡ listed_word part.now }
+{
     let word = part.trim();
     if word.is_empty() || word.starts_with('#') {
         None
@@ -117,10 +125,28 @@ pub fn listed_word(part: &str) -> Option<&str> {
 }
 
 /// The path that a word of a file means: `~/` in front stands for a folder. A file names files alone, and not standard input.
-pub fn path_of(alloc: Global, word: &str, home: &str) -> Result<String, AllocError> {
-    match word.strip_prefix("~/") {
-        Some(rest) if !home.is_empty() => format!(in alloc; "{home}/{rest}"),
-        _ if word == INPUT => String::from_str(alloc, "./-"),
-        _ => String::from_str(alloc, word),
+pub fn path_of(alloc: Global, word: &str, home: &str) -> Result<String, AllocError>
+    ensures value { GivesText result (path_of word.now home.now) }
+{
+    match behind_home(word, home) {
+        Some(rest) => format!(in alloc; "{home}/{rest}"),
+        None if word == INPUT => String::from_str(alloc, "./-"),
+        None => String::from_str(alloc, word),
     }
+}
+
+// What stands behind `~/` in front of a word, where there is a folder that it stands for.
+fn behind_home<'a>(word: &'a str, home: &str) -> Option<&'a str>
+    ensures value { option_map (λ rest. rest.now) result ≡ behind_home word.now home.now }
+{
+    if home.is_empty() {
+        return None;
+    }
+    behind_tilde(word)
+}
+
+fn behind_tilde(word: &str) -> Option<&str>
+    ensures value { option_map (λ rest. rest.now) result ≡ behind_tilde word.now }
+{
+    word.strip_prefix("~/")
 }

@@ -1,6 +1,7 @@
 //! What is found in files, as it is printed.
-ghost use Rattle.std.specs.Prelude.{IfOk};
+ghost use Rattle.std.specs.Prelude.{IfOk, OnOk};
 ghost use Rattle.org_check.specs.Clean.{AreCleanLines, KeepsClean};
+ghost use Rattle.orgq_files.specs.Reported.{AddsFile, IsReportOf};
 
 use crate::checked::{CheckedFile, CheckedFiles};
 use org_base::{Fault, Meter, NameSet};
@@ -25,6 +26,7 @@ pub fn report_of(
     now: Minute,
 ) -> Result<Report, Fault>
     ensures clean { IfOk result (λ report. AreCleanLines report.lines.items) }
+    ensures value { IfOk result (IsReportOf wanted.now files.now.files.items) }
 {
     let keywords = files.keywords(alloc)?;
     let mut all = Report {
@@ -56,6 +58,7 @@ fn push_file(
     wanted: &Wanted<'_>,
 ) -> Result<(), Fault>
     ensures clean { KeepsClean result all.old.lines all.new.lines }
+    ensures ok { OnOk result (AddsFile wanted.now file.now all.old all.new) }
 {
     let findings = checks(alloc, &mut Meter::new(), file.text(), about)?;
     let lines = report(alloc, file.name(), file.text(), &findings, wanted)?;

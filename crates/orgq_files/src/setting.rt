@@ -12,12 +12,14 @@ pub enum Choice {
     Color,
     Columns,
     File,
+    Inbox,
     Inherit,
     Keywords,
     LogDone,
     LogIntoDrawer,
     LogRepeat,
     Profile,
+    Words,
 }
 
 impl Choice {
@@ -28,12 +30,14 @@ impl Choice {
             "color" => Some(Choice::Color),
             "columns" => Some(Choice::Columns),
             "file" => Some(Choice::File),
+            "inbox" => Some(Choice::Inbox),
             "inherit" => Some(Choice::Inherit),
             "keywords" => Some(Choice::Keywords),
             "log-done" => Some(Choice::LogDone),
             "log-into-drawer" => Some(Choice::LogIntoDrawer),
             "log-repeat" => Some(Choice::LogRepeat),
             "profile" => Some(Choice::Profile),
+            "words" => Some(Choice::Words),
             _ => None,
         }
     }
@@ -47,12 +51,14 @@ impl Choice {
             Choice::Color => "color",
             Choice::Columns => "columns",
             Choice::File => "file",
+            Choice::Inbox => "inbox",
             Choice::Inherit => "inherit",
             Choice::Keywords => "keywords",
             Choice::LogDone => "log-done",
             Choice::LogIntoDrawer => "log-into-drawer",
             Choice::LogRepeat => "log-repeat",
             Choice::Profile => "profile",
+            Choice::Words => "words",
         }
     }
 
@@ -77,12 +83,14 @@ pub struct NamedChoices {
     pub color: bool,
     pub columns: bool,
     pub file: bool,
+    pub inbox: bool,
     pub inherit: bool,
     pub keywords: bool,
     pub log_done: bool,
     pub log_into_drawer: bool,
     pub log_repeat: bool,
     pub profile: bool,
+    pub words: bool,
 }
 
 impl NamedChoices {
@@ -95,12 +103,14 @@ impl NamedChoices {
             Choice::Color => self.color,
             Choice::Columns => self.columns,
             Choice::File => self.file,
+            Choice::Inbox => self.inbox,
             Choice::Inherit => self.inherit,
             Choice::Keywords => self.keywords,
             Choice::LogDone => self.log_done,
             Choice::LogIntoDrawer => self.log_into_drawer,
             Choice::LogRepeat => self.log_repeat,
             Choice::Profile => self.profile,
+            Choice::Words => self.words,
         }
     }
 

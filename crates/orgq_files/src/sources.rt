@@ -1,4 +1,6 @@
 //! Which files are asked, and what comes of loading them.
+ghost use Rattle.std.specs.Prelude.{map, IfOk};
+ghost use Rattle.orgq_files.specs.Listed.{AddsTexts, AreJoined, AreTyped};
 
 use crate::file_list::{INPUT, push_listed, read_list};
 use crate::files::{
@@ -8,7 +10,7 @@ use clap::ArgMatches;
 use org_base::{Fault, Texts};
 use org_client::FileSet;
 use org_text::Whole;
-use orgq_messages::{Problem, Variable, say, say_of, value_of};
+use orgq_messages::{Problem, Variable, nearest_command, say, say_of, value_of};
 use std::alloc::{AllocError, Global};
 use std::io::ErrorKind;
 use std::rt::{Env, Files};
@@ -19,8 +21,10 @@ pub fn paths<R: AllocGlobal + Files + Env>(
     rt: &R,
     matches: &ArgMatches<'_>,
     own: &[&str],
-) -> Result<Vec<String>, Problem> {
-    refuse_words(matches)?;
+) -> Result<Vec<String>, Problem>
+    ensures typed { IfOk result (AreTyped matches.now (map (λ w. w.now) own.now)) }
+{
+    refuse_words(rt.alloc(), matches)?;
     let bare = matches.get_strs("PATH").unwrap_or(&[]);
     let named = matches.get_strs("file").unwrap_or(&[]);
     let has_input = named.contains(&INPUT) || own.contains(&INPUT);
@@ -39,12 +43,12 @@ pub fn paths<R: AllocGlobal + Files + Env>(
 }
 
 /// Refuses words before a command that name neither a file nor a folder.
-pub fn refuse_words(matches: &ArgMatches<'_>) -> Result<(), Problem> {
+pub fn refuse_words(alloc: Global, matches: &ArgMatches<'_>) -> Result<(), Problem> {
     let bare = matches.get_strs("PATH").unwrap_or(&[]);
-    if bare.iter().any(|word| !is_path(word)) {
-        return Err(Problem::Command);
+    match bare.iter().find(|word| !is_path(word)) {
+        Some(word) => Err(Problem::Command(nearest_command(alloc, word)?)),
+        None => Ok(()),
     }
-    Ok(())
 }
 
 fn join_paths(
@@ -52,7 +56,9 @@ fn join_paths(
     named: &[&str],
     bare: &[&str],
     own: &[&str],
-) -> Result<Vec<String>, AllocError> {
+) -> Result<Vec<String>, AllocError>
+    ensures value { IfOk result (AreJoined named.now bare.now own.now) }
+{
     let mut paths = Vec::new(alloc);
     push_each(alloc, &mut paths, named)?;
     push_each(alloc, &mut paths, bare)?;
@@ -60,7 +66,9 @@ fn join_paths(
     Ok(paths)
 }
 
-fn push_each(alloc: Global, paths: &mut Vec<String>, part: &[&str]) -> Result<(), AllocError> {
+fn push_each(alloc: Global, paths: &mut Vec<String>, part: &[&str]) -> Result<(), AllocError>
+    ensures ok { AddsTexts result paths.old paths.new (map (λ w. w.now) part.now) }
+{
     for path in part {
         paths.push(String::from_str(alloc, path)?)?;
     }
