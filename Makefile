@@ -2,6 +2,7 @@
 # orgviews: a proved Org agenda engine. `make run` builds and shows the first example, `make test` is the whole gate.
 PROGRAM = crates/orgviews/out/orgviews
 ORGQ = crates/orgq/out/orgq
+ORGLS = crates/orgls/out/orgls
 PARTS = crates/org_measure/out/org_measure
 # What `make try` builds, without any proof.
 TRIED = out/orgq
@@ -13,7 +14,7 @@ NEEDS_RT = $(if $(shell command -v rt),,$(error there is no `rt`: building wants
 built already is an archive or a package, see docs/building.md))
 
 .PHONY: run try build check changed test rows orgq-test reading faults emacs-test vim-test ical-test bench collide install deb clean
-.PHONY: completions-test recipes-test agenda-test search-test acts-test stranger org-agenda-test org-agenda-bench
+.PHONY: orgls-test completions-test recipes-test agenda-test search-test acts-test stranger org-agenda-test org-agenda-bench
 
 # Builds the program where it isn't fresh, and runs the first example.
 run: $(PROGRAM)
@@ -30,7 +31,7 @@ $(TRIED): $(SOURCES)
 	@echo "orgviews: nothing is proved here; make run and make test do that"
 	@python3 bench/unproved.py orgq $(TRIED)
 
-build: $(PROGRAM) $(ORGQ) $(PACKED)
+build: $(PROGRAM) $(ORGQ) $(ORGLS) $(PACKED)
 
 # `rt run` proves every crate below the program before it builds it, and then runs it on no input.
 $(PROGRAM): $(SOURCES)
@@ -45,6 +46,13 @@ $(ORGQ): $(SOURCES)
 	@echo "orgviews: proving and building orgq (some minutes, where the crates below it are proved)"
 	@cd crates/orgq && rt run -- --at "2024-02-28 10:30" -f data/home.org > /dev/null
 	@test -x $(ORGQ) && touch $(ORGQ)
+
+# The same for the program that editors start.
+$(ORGLS): $(SOURCES)
+	@$(NEEDS_RT)
+	@echo "orgviews: proving and building orgls (some minutes, where the crates below it are proved)"
+	@cd crates/orgls && rt run < /dev/null > /dev/null
+	@test -x $(ORGLS) && touch $(ORGLS)
 
 # Parts of the engine on their own, for the measurements, and single calls for the faults.
 $(PARTS): $(SOURCES)
@@ -81,6 +89,11 @@ rows: $(PROGRAM) $(PARTS)
 # `orgq` beside `orgviews`, and its own worked cases, over both programs as they were last built.
 orgq-test: $(PROGRAM) $(ORGQ)
 	@sh tests/orgq.sh $(ORGQ) $(PROGRAM)
+
+# The language server over the programs as they were last built, beside a client that keeps texts by itself, and by Neovim where
+# that is installed.
+orgls-test: $(ORGLS) $(ORGQ)
+	@sh tests/orgls.sh $(ORGLS) $(ORGQ)
 
 # The Emacs client over both programs as they were last built; left out where Emacs isn't installed. No part of the gate.
 emacs-test: $(PROGRAM) $(ORGQ)
@@ -159,16 +172,16 @@ collide: $(PROGRAM)
 
 # What contrib/files.sh lists, under PREFIX: programs, pages, completions, clients, documents, licence, notices, units that stay
 # off. Prints the programs' SHA-256.
-install: $(PROGRAM) $(ORGQ) $(PACKED)
+install: $(PROGRAM) $(ORGQ) $(ORGLS) $(PACKED)
 	@sh contrib/install.sh add "$(DESTDIR)$(PREFIX)"
-	@cd "$(DESTDIR)$(PREFIX)/bin" && sha256sum orgviews orgq
+	@cd "$(DESTDIR)$(PREFIX)/bin" && sha256sum orgviews orgq orgls
 
 # Takes away what `install` put there, and nothing else.
 uninstall:
 	@sh contrib/install.sh remove "$(DESTDIR)$(PREFIX)"
 
 # The notices of the kit's libraries that are in the programs; what editors want beside the clients' own files.
-$(NOTICES): $(PROGRAM) $(ORGQ) contrib/notices.sh
+$(NOTICES): $(PROGRAM) $(ORGQ) $(ORGLS) contrib/notices.sh
 	@$(NEEDS_RT)
 	@mkdir -p contrib/out
 	@sh contrib/notices.sh > $@.new && mv $@.new $@
@@ -178,7 +191,7 @@ contrib/out/clients: $(shell find clients -type f) contrib/clients.sh
 
 # What was proved, for archive and package: wants what the whole gate wrote of these sources (`make test WHOLE=1`), and checks each
 # crate of the programs over what earlier checks kept (some minutes).
-proof: $(PROGRAM) $(ORGQ)
+proof: $(PROGRAM) $(ORGQ) $(ORGLS)
 	@$(NEEDS_RT)
 	@sh contrib/proof.sh
 
@@ -188,11 +201,11 @@ kept-test:
 	@sh tests/kept.sh
 
 # An archive of what `install` installs, the same to the byte whenever it is made of the same, into this folder.
-dist: $(PROGRAM) $(ORGQ) $(PACKED) proof
+dist: $(PROGRAM) $(ORGQ) $(ORGLS) $(PACKED) proof
 	@sh contrib/dist.sh
 
 # A Debian package of it, into this folder.
-deb: $(PROGRAM) $(ORGQ) $(PACKED) proof
+deb: $(PROGRAM) $(ORGQ) $(ORGLS) $(PACKED) proof
 	@sh contrib/deb.sh
 
 # What of all this can be tried without a proof and without root. No part of the gate.

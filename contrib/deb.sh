@@ -24,7 +24,7 @@ doc=$share/doc/orgviews
 
 mv "$share/zsh/site-functions" "$share/zsh/vendor-completions" || exit 1
 mkdir -p "$tree/usr/lib/systemd" && mv "$share/systemd/user" "$tree/usr/lib/systemd/" && rmdir "$share/systemd" || exit 1
-strip --remove-section=.comment --remove-section=.note "$tree/usr/bin/orgviews" "$tree/usr/bin/orgq" || exit 1
+strip --remove-section=.comment --remove-section=.note "$tree/usr/bin/orgviews" "$tree/usr/bin/orgq" "$tree/usr/bin/orgls" || exit 1
 
 {
     echo "Made from orgviews $(cat VERSION); the SPDX expression of its licence is Apache-2.0 OR MIT."
@@ -51,7 +51,7 @@ fi
 # dpkg-shlibdeps looks for a source package around it.
 mkdir -p "$work/debian" "$tree/DEBIAN"
 printf 'Source: orgviews\n\nPackage: orgviews\nArchitecture: any\n' > "$work/debian/control"
-depends=$(cd "$work" && dpkg-shlibdeps -O -etree/usr/bin/orgviews -etree/usr/bin/orgq | sed -n 's/^shlibs:Depends=//p')
+depends=$(cd "$work" && dpkg-shlibdeps -O -etree/usr/bin/orgviews -etree/usr/bin/orgq -etree/usr/bin/orgls | sed -n 's/^shlibs:Depends=//p')
 if [ -z "$depends" ]; then
     echo "orgviews: dpkg-shlibdeps doesn't say what the programs depend on" >&2
     exit 1

@@ -21,7 +21,7 @@ tree() {
     done
 }
 
-put 755 bin crates/orgviews/out/orgviews crates/orgq/out/orgq contrib/orgq-notify
+put 755 bin crates/orgviews/out/orgviews crates/orgq/out/orgq crates/orgls/out/orgls contrib/orgq-notify
 put 644 share/man/man1 docs/*.1
 put 644 share/doc/orgviews README.md CHANGELOG.md LICENSE contrib/out/THIRD-PARTY-NOTICES
 [ -z "$PROOF" ] || put 644 share/doc/orgviews contrib/out/PROOF
@@ -33,6 +33,7 @@ for document in docs/*.md; do
     esac
 done
 put 644 share/doc/orgviews docs/*.json
+put 644 share/doc/orgviews/language-server contrib/language-server/*
 put 644 share/doc/orgviews/recipes contrib/recipes/*.md
 for recipe in contrib/recipes/*; do
     case $recipe in *.md) ;; *) put 755 share/doc/orgviews/recipes "$recipe" ;; esac

@@ -27,7 +27,7 @@ below() {
     fi
 }
 
-todo="orgviews orgq" seen=" "
+todo="orgviews orgq orgls" seen=" "
 while [ -n "$todo" ]; do
     next=""
     for name in $todo; do
@@ -65,7 +65,7 @@ while read -r name; do
 done < "$work/names"
 
 line=------------------------------------------------------------------------
-echo "Notices of the libraries that the programs orgviews and orgq hold besides their own code. They come with the toolchain,"
+echo "Notices of the libraries that the programs orgviews, orgq and orgls hold besides their own code. They come with the toolchain,"
 echo "$(cat "$kit/KIT-ID"), and stand here as they stand there, each text once, after the names of the libraries that have it."
 if [ -s "$work/without" ]; then
     echo

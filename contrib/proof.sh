@@ -14,7 +14,7 @@ work=$(mktemp -d) || exit 2
 trap 'rm -rf "$work"' EXIT
 commit=$(git rev-parse HEAD 2> /dev/null || echo unknown)
 [ -z "$(git status --porcelain 2> /dev/null)" ] || commit="$commit, and changes that are not committed"
-for program in orgviews orgq; do
+for program in orgviews orgq orgls; do
     built=crates/$program/out/$program
     # What rt notes beside a program ends with the program's sum.
     case $(cat $built.stamp 2> /dev/null) in
@@ -27,7 +27,7 @@ for program in orgviews orgq; do
 done
 # What another kit built, or of other sources, rt proves and builds anew now; else it does nothing. So the record names the kit that
 # built the programs.
-if ! { (cd crates/orgviews && rt run -- --at "2024-02-28 10:30" < /dev/null) && (cd crates/orgq && rt run -- --version); } > /dev/null; then
+if ! { (cd crates/orgviews && rt run -- --at "2024-02-28 10:30" < /dev/null) && (cd crates/orgq && rt run -- --version) && (cd crates/orgls && rt run -- --version); } > /dev/null; then
     echo "orgviews: the programs can't be built by this kit, so there is no record and no archive" >&2
     exit 1
 fi
@@ -41,14 +41,14 @@ if ! tail -n 1 "$work/gate" | grep -qE '^[1-9][0-9]* passed, 0 failed$' ||
 fi
 sources=$({
     echo "$commit $of"
-    cat VERSION crates/orgviews/out/orgviews.stamp crates/orgq/out/orgq.stamp "$work/gate"
+    cat VERSION crates/orgviews/out/orgviews.stamp crates/orgq/out/orgq.stamp crates/orgls/out/orgls.stamp "$work/gate"
 } | sha256sum)
 if [ -f $record ] && [ "$(cat contrib/out/proof.sum 2> /dev/null)" = "$sources" ]; then
     exit 0
 fi
 
 # The crates below the programs, and these, in the order of crates.txt.
-crates=" orgviews orgq "
+crates=" orgviews orgq orgls "
 before=""
 while [ "$crates" != "$before" ]; do
     before=$crates
@@ -81,7 +81,7 @@ done
     cat HANDLES
     echo
     echo "SHA-256 of the programs as they were built:"
-    for program in orgviews orgq; do
+    for program in orgviews orgq orgls; do
         (cd crates/$program/out && sha256sum $program)
     done
     echo

@@ -98,6 +98,9 @@ for kind in done add in out cancel; do
     counted saves crates/orgq/out/orgq "$kind"
 done
 
+echo "gate: the language server, beside a client that keeps the texts, and by Neovim"
+counted orgls crates/orgls/out/orgls crates/orgq/out/orgq
+
 echo "gate: what acts changed is taken back"
 counted undo crates/orgq/out/orgq
 

@@ -58,7 +58,7 @@ listing() {
 
 # 1. Licence.
 spdx() {
-    programs="crates/orgq/src/main.rt crates/orgviews/src/main.rt"
+    programs="crates/orgq/src/main.rt crates/orgviews/src/main.rt crates/orgls/src/main.rt"
     missing=$(cd "$here" && git ls-files -co --exclude-standard LICENSE Makefile clients contrib $programs |
         grep -v -e '\.md$' -e '\.txt$' | while read -r file; do
             head -n 12 "$file" | grep -q 'SPDX-License-Identifier: Apache-2.0 OR MIT' || echo "$file"
@@ -72,7 +72,8 @@ one_version() {
     version=$(cat "$here/VERSION")
     cd "$here" && grep -qx "pkgver=$version" contrib/aur/PKGBUILD && grep -qx "## $version" CHANGELOG.md &&
         grep -q "orgviews $version 2" crates/org_engine/src/engine.rt &&
-        grep -qx "$version" crates/orgq_args/src/arguments.rt && grep -qx "$version" crates/orgviews/src/arguments.rt &&
+        grep -qx "$version" crates/orgq_args/src/arguments.rt && grep -qx "$version" crates/orgviews/src/arguments.rt && grep -qx "$version" crates/orgls/src/arguments.rt &&
+        grep -q "\"version\": \"$version\"" crates/orgls/src/editor.rt &&
         [ "$(grep -ohE 'orgviews[-_][0-9.]+[0-9]' docs/building.md | sed 's/orgviews.//' | sort -u)" = "$version" ]
 }
 check "VERSION, the change log, the page on installing, the recipes, the reply to version and --version say one version" one_version
@@ -96,14 +97,15 @@ echo mine > "$root/usr/share/doc/orgviews/mine"
 listing "$root" > "$work/before"
 check "make install" quiet_make "$first" install DESTDIR="$root" PREFIX=/usr
 installed() {
-    for file in bin/orgq bin/orgviews bin/orgq-notify; do
+    for file in bin/orgq bin/orgviews bin/orgls bin/orgq-notify; do
         [ -x "$root/usr/$file" ] || { echo "no $file"; return 1; }
     done
     for file in share/man/man1/orgq-notify.1 share/doc/orgviews/THIRD-PARTY-NOTICES share/doc/orgviews/LICENSE \
         share/bash-completion/completions/orgq share/zsh/site-functions/_orgq share/fish/vendor_completions.d/orgq.fish \
         share/systemd/user/orgq-notify.timer share/doc/orgviews/manual.md share/doc/orgviews/stream.md \
         share/doc/orgviews/using.md share/doc/orgviews/acting.md share/doc/orgviews/org.md \
-        share/doc/orgviews/recipes/orgq-pick share/doc/orgviews/recipes/README.md; do
+        share/doc/orgviews/recipes/orgq-pick share/doc/orgviews/recipes/README.md \
+        share/man/man1/orgls.1 share/doc/orgviews/language-server.md share/doc/orgviews/language-server/neovim.lua; do
         [ -s "$root/usr/$file" ] || { echo "no $file"; return 1; }
     done
     ls "$root"/usr/share/emacs/site-lisp/elpa/org-views-*/org-views-autoloads.el
@@ -168,7 +170,7 @@ record() {
     proof=$work/unpacked/$archive/share/doc/orgviews/PROOF
     cat "$proof"
     grep -qx "commit $(git -C "$first" rev-parse HEAD)" "$proof" && grep -qx 'kit rattle-kit-0 logic 00' "$proof" &&
-        grep -qx 'org_base: logic=proved functions=3 sum=00' "$proof" && grep -qx '3 crates, 9 functions: all proved' "$proof" &&
+        grep -qx 'org_base: logic=proved functions=3 sum=00' "$proof" && grep -qx '4 crates, 12 functions: all proved' "$proof" &&
         ! grep -q org_base_tests "$proof"
 }
 check "it says what was proved, by what and of which commit" record
@@ -300,7 +302,7 @@ check "the unit has a limit of time" in_time
 # 8. The Debian package, over two programs that every Debian has; lintian's word where it is there.
 if command -v dpkg-shlibdeps strip dpkg-deb > /dev/null; then
     for folder in "$work/debian" "$work/elsewhere/debian"; do
-        git clone -q "$first" "$folder" && built "$folder" orgviews /usr/bin/sort && built "$folder" orgq /usr/bin/env || exit 2
+        git clone -q "$first" "$folder" && built "$folder" orgviews /usr/bin/sort && built "$folder" orgq /usr/bin/env && built "$folder" orgls /usr/bin/cat || exit 2
         mkdir -p "$folder/contrib/out" && cp "$first/contrib/out/THIRD-PARTY-NOTICES" "$folder/contrib/out/"
     done
     package=orgviews_$(cat "$here/VERSION")_$(dpkg --print-architecture).deb

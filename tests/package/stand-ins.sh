@@ -1,6 +1,6 @@
 # SPDX-License-Identifier: Apache-2.0 OR MIT
 # Part of tests/package.sh, which reads it with `here` and `work` set: a kit and an `rt` to stand in for the real ones, and in
-# `first` a copy of the folder over three crates, with stand-ins for the programs.
+# `first` a copy of the folder over four crates, with stand-ins for the programs.
 
 # A kit of five libraries: one that two others stand on, one without a notice, one with a notice at the head of a source, and one
 # that no program names.
@@ -53,21 +53,21 @@ built() {
 
 # Scripts that stand where the real programs would.
 stand_in() {
-    for program in orgviews orgq; do
+    for program in orgviews orgq orgls; do
         printf '#!/bin/sh\necho %s\n' "$program" > "$work/script" && built "$1" $program "$work/script" || return 1
     done
 }
 
-# The folder as it stands, with what isn't committed, as a repository of one commit over three crates.
+# The folder as it stands, with what isn't committed, as a repository of one commit over four crates.
 first=$work/first
 mkdir "$first"
 (cd "$here" && git ls-files -co --exclude-standard | grep -v '^crates/' | tar -cf - -T - | tar -C "$first" -xf -) || exit 2
 cp "$here/crates/orgviews/src/main.rt" "$first/" && cp "$here/crates/orgq/src/main.rt" "$first/main-orgq.rt" || exit 2
-for crate in org_base orgviews orgq; do
+for crate in org_base orgviews orgq orgls; do
     mkdir -p "$first/crates/$crate/src"
     echo "fn $crate() {}" > "$first/crates/$crate/src/lib.rt"
 done
-printf 'org_base: jiff # a remark\norgviews: org_base clap\norgq: org_base clap memchr\norg_base_tests: unused\n' > "$first/crates.txt"
+printf 'org_base: jiff # a remark\norgviews: org_base clap\norgq: org_base clap memchr\norgls: org_base clap\norg_base_tests: unused\n' > "$first/crates.txt"
 rm "$first/main.rt" "$first/main-orgq.rt"
 (cd "$first" && git init -q && git add -A && git commit -q -m first) || exit 2
 stand_in "$first" || exit 2

@@ -68,7 +68,7 @@ pub use kind::{ALL_KINDS, Kind};
 pub use look::{Look, Mark};
 pub use looks::looks_like_stamp;
 pub use select::{Selection, kind_names, unknown_kind};
-pub use show::{Form, Wanted, finding_line, report};
+pub use show::{Form, Wanted, finding_line, report, sentence_of};
 pub use table::Severity;
 pub use unread::next_look;
 pub use unread_kinds::{DrawerKind, MinutesKind, PlanningKind, StampKind};

@@ -4,6 +4,7 @@ ghost use Rattle.org_base.specs.Results.{Adds, Gives, GivesItems};
 ghost use Rattle.org_check.specs.Clean.{AreCleanLines, KeepsClean};
 ghost use Rattle.org_check.specs.Printed.{finding_text, form_text, found_text, kind_members, number_member, object_text, other_member, place_members, plain_text, lines_by, spot_text, string_member};
 ghost use Rattle.org_check.specs.Sentences.{said_of};
+ghost use Rattle.org_visible.specs.Visible.{visible};
 
 use crate::clean::CleanLine;
 use crate::draft::Draft;
@@ -13,6 +14,7 @@ use crate::kind::Kind;
 use crate::select::Selection;
 use crate::sentence::{LONGEST_QUOTE, push_sentence};
 use org_text::Text;
+use org_visible::Escape;
 use std::alloc::{AllocError, Global};
 
 /// In which form findings are printed.
@@ -79,6 +81,18 @@ pub fn finding_line<T: Text>(
     let mut out = Draft::new(alloc)?;
     push_form(&mut out, form, name, finding, said.as_slice())?;
     out.clean_line()
+}
+
+/// What is said of a finding, without its place. Nothing of the file reaches it as a control character.
+pub fn sentence_of<T: Text>(
+    alloc: Global,
+    text: &T,
+    finding: &Finding,
+) -> Result<CleanLine, AllocError>
+    ensures value { Gives result (visible Escape.Question (said_of finding.now (T.content text.now))) }
+{
+    let said = said_of(alloc, text, finding)?;
+    said.clean_line()
 }
 
 // What is said of a finding.
