@@ -32,7 +32,7 @@ fail() {
 run() {
     from=$1
     shift
-    rm -f "$work/counts"
+    : > "$work/counts"
     env "$@" FAULTS="$work/counts" LD_PRELOAD="$shim" "$program" --at "$moment" < "$from" > "$work/out" 2> "$work/err"
     status=$?
     reads=0

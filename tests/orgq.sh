@@ -262,13 +262,16 @@ for expected in "$here"/orgq/*.stdout; do
     fi
     grep -q -x -e --json "$given.args" && [ -s "$room/out" ] || continue
     has python3 || { lack "what $name writes as JSON" python3; continue; }
-    while IFS= read -r object; do
-        if printf '%s\n' "$object" | python3 -m json.tool > /dev/null 2>&1; then
-            passed=$((passed + 1))
-        else
-            fail "$name: no object of JSON: $object"
-        fi
-    done < "$room/out"
+    if bad=$(python3 -c 'import json, sys
+for number, line in enumerate(sys.stdin.buffer, 1):
+    try:
+        json.loads(line)
+    except ValueError as error:
+        sys.exit(f"line {number}: {error}")' < "$room/out" 2>&1); then
+        passed=$((passed + $(wc -l < "$room/out")))
+    else
+        fail "$name: no object of JSON: $bad"
+    fi
     case $name in
         check-* | keywords-* | tags-* | done-* | set-* | config-* | ical-*) ;;
         *) follow_schema "$name" ;;
@@ -332,6 +335,7 @@ fi
 # Whether no control character stands in a text but line feeds and, where the second argument is there, colours of ours; and,
 # where no third argument is there, no mark that turns or hides text.
 is_clean() {
+    [ -s "$1" ] || return 0
     LC_ALL=C od -An -v -tu1 "$1" | LC_ALL=C tr -s ' ' '\n' | awk -v colors="$2" -v marks="$3" '
         $1 == "" { next }
         colors != "" && escape && $1 == 91 { escape = 0; number = 1; next }
@@ -346,6 +350,13 @@ is_clean() {
         marks == "" && first == 243 && before == 160 && (last == 128 || last == 129) { exit 1 }
         { first = before; before = last; last = $1 }
     '
+}
+
+# Which answers of a file aren't so: behind each a line says whose it is.
+unclean() {
+    rm -f "$room"/part.*
+    LC_ALL=C awk -v to="$room/part." '{ print > (to count + 0) } /^-- / { close(to count + 0); count++ }' "$1"
+    for part in "$room"/part.*; do is_clean "$part" "$2" || tail -n 1 "$part"; done
 }
 
 # Bytes by their numbers.
@@ -395,16 +406,24 @@ for number in $numbers; do
         printf '* K%s k%sk :v%sv:\n- State "K%s" from "TODO" [2024-02-28 Wed 09:00]\n' "$of" "$of" "$of" "$of"
     } > "$number.org"
     printf '* TODO named\n' > "n${of}n.org"
+    : > "$room/plain"
+    : > "$room/colored"
+    : > "$room/said"
     for form in --json --csv --color=always "-n --color=always" "--format {file}{category}{title}{tags}{keyword}{text}" "--json --properties area"; do
+        case $form in *color*) to=$room/colored ;; *) to=$room/plain ;; esac
         for view in "agenda" "agenda --grid" "calendar" "calendar week --columns=120" "todo" "todo K$of" "match LEVEL>0" "clock" "clocks" "log" "next" "keywords" "tags"; do
             case "$form $view" in --format*keywords | --format*tags | *properties*keywords | *properties*tags) continue ;; esac
             # shellcheck disable=SC2086
-            "$orgq" --at "2024-02-28 10:30" $form --inherit area -f "$number.org" -f "n${of}n.org" ${view%% *} ${view#"${view%% *}"} > "$room/out" 2> "$room/err"
-            [ $? -eq "$left" ] || fail "character $number, $form $view: $(cat "$room/err")"
-            case $form in *color*) is_clean "$room/out" colors ;; *) is_clean "$room/out" "" ;; esac || fail "character $number stands in $form $view"
-            is_clean "$room/err" "" || fail "character $number stands in what $form $view says"
+            "$orgq" --at "2024-02-28 10:30" $form --inherit area -f "$number.org" -f "n${of}n.org" ${view%% *} ${view#"${view%% *}"} >> "$to" 2>> "$room/said"
+            [ $? -eq "$left" ] || fail "character $number, $form $view: $(tail -n 1 "$room/said")"
+            # (all answers of a form are looked at in one go, so a line behind each says whose it is)
+            printf '\n-- %s\n' "$form ${view%% *}" >> "$to"
+            printf '\n-- %s\n' "$form ${view%% *}" >> "$room/said"
         done
     done
+    is_clean "$room/plain" "" || fail "character $number stands in $(unclean "$room/plain" "")"
+    is_clean "$room/colored" colors || fail "character $number stands in $(unclean "$room/colored" colors)"
+    is_clean "$room/said" "" || fail "character $number stands in what is said by $(unclean "$room/said" "")"
     "$orgq" --at "2024-02-28 10:30" -f "$number.org" -f "n${of}n.org" ical > "$room/out" 2> "$room/err"
     [ $? -eq "$left" ] && [ -s "$room/out" ] || fail "character $number, ical: $(cat "$room/err")"
     LC_ALL=C sed 's/\r$//' "$room/out" > "$room/lines"
@@ -421,11 +440,15 @@ for number in $numbers; do
         is_clean "$room/out" "" || fail "character $number stands in what check $form finds"
         is_clean "$room/err" "" || fail "character $number stands in what check $form says"
     done
+    : > "$room/said"
     for words in "match -- a${of}(" "clock x${of}" "agenda x${of}" "agenda --tag x${of}" "agenda --match x${of}(" "next --since x${of}" "clock --from x${of}" "--color x${of}" "--at x${of}" "-d x${of}" "x${of}" "--x${of}" "--profile x${of}" "clock --step x${of}" "check --only x${of}" "check --severity x${of}"; do
         # shellcheck disable=SC2086
         (IFS=' '; "$orgq" --at "2024-02-28 10:30" -f 1.org $words) > "$room/out" 2> "$room/err"
-        [ $? -eq 2 ] && [ -s "$room/err" ] && is_clean "$room/err" "" || fail "character $number in the arguments $words"
+        [ $? -eq 2 ] && [ -s "$room/err" ] || fail "character $number in the arguments $words"
+        cat "$room/err" >> "$room/said"
+        printf '\n-- %s\n' "${words%"$of"*}" >> "$room/said"
     done
+    is_clean "$room/said" "" || fail "character $number stands in what is said of the arguments $(unclean "$room/said" "")"
 done
 [ "$count" -eq 75 ] && passed=$((passed + 1)) || fail "$count control characters and marks, not 75"
 echo "orgq: $count control characters and marks in categories, titles, tags, keywords, properties, names and arguments"
@@ -462,7 +485,7 @@ refuse_memory() {
     "$orgq" --at "2024-02-28 10:30" "$@" > "$room/wanted"
     answered=$?
     while [ "$met" -gt 0 ] && [ "$growth" -lt 20000 ]; do
-        rm -f "$room/counts"
+        : > "$room/counts"
         REFUSE=$growth FAULTS=$room/counts LD_PRELOAD=$shim "$orgq" --at "2024-02-28 10:30" "$@" > "$room/out" 2> "$room/err"
         status=$?
         met=0
@@ -491,7 +514,7 @@ refuse_act() {
     answered=$?
     cp "$folder/a.org" "$folder/new.org"
     while [ "$met" -gt 0 ] && [ "$growth" -lt 20000 ]; do
-        rm -f "$room/counts"
+        : > "$room/counts"
         cp "$folder/old.org" "$folder/a.org"
         REFUSE=$growth FAULTS=$room/counts LD_PRELOAD=$shim "$orgq" --at "2024-02-28 10:30" -f "$folder/a.org" "$@" > "$room/out" 2> "$room/err"
         status=$?

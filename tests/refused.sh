@@ -37,14 +37,14 @@ ample() {
 # What is to be written where the command of the given number is refused: what those before it give, that reply, and what
 # those behind it give in a stream without it.
 expect() {
-    number=0
-    : > "$work/front"
-    : > "$work/without"
-    for command in "$work"/commands/*; do
-        number=$((number + 1))
-        [ "$number" -ge "$1" ] || cat "$command" >> "$work/front"
-        [ "$number" -eq "$1" ] || cat "$command" >> "$work/without"
-    done
+    front=$(head -n $(($1 - 1)) "$work/names")
+    others=$(sed "$1d" "$work/names")
+    (
+        cd "$work/commands" || exit 2
+        # (names of digits and a dash; without a front nothing is given)
+        cat /dev/null $front > "$work/front"
+        cat /dev/null $others > "$work/without"
+    )
     ample < "$work/front" > "$work/expected"
     before=$(wc -c < "$work/expected")
     echo "err 1 memory" >> "$work/expected"
@@ -54,7 +54,7 @@ expect() {
 # Runs something with one growth refused; the shim tells how many there were, and whether one was refused. It tells nothing
 # where the program didn't end by itself, and that ends a round.
 run_refused() {
-    rm -f "$work/counts"
+    : > "$work/counts"
     REFUSE=$growth FAULTS=$work/counts LD_PRELOAD=$shim "$@" > "$work/out" 2> "$work/err"
     status=$?
     growths=0
@@ -97,7 +97,8 @@ cut_twice() {
         cp "$command" "$work/commands/$(basename "$command")-1"
         mv "$command" "$work/commands/$(basename "$command")-2"
     done
-    commands=$(ls "$work/commands" | wc -l)
+    ls "$work/commands" > "$work/names"
+    commands=$(wc -l < "$work/names")
     cat "$work"/commands/* > "$work/stream"
 }
 

@@ -296,17 +296,21 @@ mv d/a.org "d/ä b.org"
 put "d/ä b.org"
 is "a name with a space" "$status $(changed "d/ä b.org")" "0 $after"
 
-# A file of some length, and what it was.
+# A file of some length, and what it was and will be.
+length=0
 long() {
     rm -rf d
     mkdir d
-    {
-        echo "$before"
-        head -c "$1" /dev/zero | tr '\0' a
-        echo
-    } > d/a.org
-    cp d/a.org was
-    if grows; then { cat was; echo "$after"; }; else { echo "$after"; tail -n "+$((lines_before + 1))" was; }; fi > will
+    if [ "$1" -ne "$length" ]; then
+        {
+            echo "$before"
+            head -c "$1" /dev/zero | tr '\0' a
+            echo
+        } > was
+        if grows; then { cat was; echo "$after"; }; else { echo "$after"; tail -n "+$((lines_before + 1))" was; }; fi > will
+        length=$1
+    fi
+    cp was d/a.org
 }
 
 # Makes the file as it was where the act can't be done twice.

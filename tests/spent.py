@@ -23,8 +23,9 @@ sys.dont_write_bytecode = True
 
 TICKS = os.sysconf("SC_CLK_TCK")
 PAGE = os.sysconf("SC_PAGE_SIZE")
-# The most memory that a check with one job has been seen to take: docs/new-code.md says which, and how it was measured.
-MOST = 5_800_000_000
+# The most memory that checks with one job have been seen to take, of another crate each, the most first: docs/new-code.md says
+# which, and how it was measured.
+MOST = (7_700_000_000, 5_800_000_000, 5_600_000_000, 5_100_000_000)
 KINDS = ("proofs", "edits", "tests", "builds")
 LINE = rf"\w+ ({'|'.join(KINDS)}) [0-9.]+ [0-9]+"
 
@@ -132,11 +133,19 @@ def tell(path, whole=None):
     print(f"gate: the most memory that a check took: {most[0] / 1000:.1f} GB, {most[2]} of {most[1]}")
 
 
+def side_by_side(room):
+    """Returns how many checks fit into so much memory, were they the dearest ones."""
+    fit = 0
+    while sum(MOST[: fit + 1]) + max(fit + 1 - len(MOST), 0) * MOST[-1] <= room:
+        fit += 1
+    return fit
+
+
 def lanes():
     loader = importlib.machinery.SourceFileLoader("rt", os.path.realpath(shutil.which("rt") or ""))
     rt = importlib.util.module_from_spec(importlib.util.spec_from_loader("rt", loader))
     loader.exec_module(rt)
-    fit = min(rt.processors(), int(0.85 * rt.free() / MOST))
+    fit = min(rt.processors(), side_by_side(0.85 * rt.free()))
     if fit > 1:
         print(fit)
 

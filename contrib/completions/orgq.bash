@@ -200,7 +200,7 @@ _orgq_argument() {
     case $name in
         *DATE*none) found+=("${days[@]}" none) ;;
         *DATE* | *BLOCK*) found+=("${days[@]}" "${blocks[@]}") ;;
-        *VIEW*) found+=(month week "${days[@]}" "${blocks[@]}") ;;
+        *VIEW*) found+=(month week year "${days[@]}" "${blocks[@]}") ;;
         *KEYWORD*) _orgq_listed keywords ;;
         *NAME*) _orgq_views ;;
         *PLACE* | *MORE*)

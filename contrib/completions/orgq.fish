@@ -132,7 +132,7 @@ function _orgq_offers
         case '*DATE*' '*BLOCK*'
             printf '%s\n' $days $blocks
         case '*VIEW*'
-            printf '%s\n' month week $days $blocks
+            printf '%s\n' month week year $days $blocks
         case '*KEYWORD*'
             _orgq_listed keywords
         case '*NAME*'

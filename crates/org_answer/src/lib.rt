@@ -12,7 +12,7 @@
 //! let lines = lines_within(answer.lines.as_slice(), look.limit);
 //! ```
 //!
-//! Lines of `orgq/src/session.rt`. Tests: worked cases `tests/orgq`.
+//! Lines of `orgq_answers/src/text.rt`. Tests: worked cases `tests/orgq`.
 #![tactic(auto)]
 
 mod any_row;

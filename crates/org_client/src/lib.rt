@@ -16,7 +16,7 @@
 //! let text = arranged_bytes(alloc, &files, &answer, question, look)?;
 //! ```
 //!
-//! Lines of `orgq/src/session.rt`. Tests: cases `tests/orgq/*`.
+//! Lines of `orgq_answers/src/text.rt`. Tests: cases `tests/orgq/*`.
 #![tactic(auto)]
 
 mod asked;

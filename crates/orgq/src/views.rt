@@ -1,9 +1,9 @@
 //! The views of one's own, and the command that lists them.
 
-use crate::call::Call;
 use crate::session::{wants_color, without_front};
 use clap::ArgMatches;
 use org_answer::{Form, push_seen};
+use orgq_answers::Call;
 use orgq_args::form;
 use orgq_files::read_view_file;
 use orgq_messages::{BAD_ARGUMENTS, NO_MATCH, Problem, out_of_memory, print_all, say_of};

@@ -51,7 +51,7 @@ fn change_named<
     let words = typed_words(rt.alloc(), own)?;
     let named = named_words(name, own, words.as_slice())?;
     let asked = wished_act(rt.alloc(), name, own, named.wanted, moment.day)?;
-    refuse_words(matches)?;
+    refuse_words(rt.alloc(), matches)?;
     let mut wish = read_wish(rt.alloc(), matches, own, asked, moment)?;
     wish.look.is_seen = is_seen;
     Ok(Some(by_wish(rt, matches, own, named.places, &wish)?))
@@ -97,7 +97,7 @@ fn add<R: AllocGlobal + Clock + Env + Files<File = File> + Input + Print + Eprin
     moment: Moment,
     is_seen: bool,
 ) -> Result<u8, Problem> {
-    refuse_words(matches)?;
+    refuse_words(rt.alloc(), matches)?;
     let look = Look {
         has_place: true,
         is_quiet: matches.get_flag("quiet"),

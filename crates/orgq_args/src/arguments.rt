@@ -94,7 +94,7 @@ o;output;FILE;The file that it is written into, in place of an older page";
 
 const OF_NEXT: &str = "\
 d;days;N;How many days from today on, 1 to 366; without it 30
-;within;MINUTES;Only what begins in so many minutes, 0 to 100000
+;within;MINUTES;Only what begins in so many minutes, as 90 or 1h30, 0 to 100000
 ;since;DATE TIME;What begins after that moment and no later than now, each time of a stamp
 ;lead;MINUTES;With --since, so many minutes ahead, 0 to 100000";
 
@@ -110,18 +110,6 @@ const OF_FOLLOW: &str = ";times;N;So many views, and no more";
 const VERSION: &str = "\
 0.4.0
 kit and commit: not known to a build; where a package has the file PROOF, that names both";
-
-// The commands.
-const COMMANDS: [&str; 24] = [
-    "agenda", "calendar", "todo", "match", "search", "clock", "clocks", "log", "next", "ical",
-    "page", "view", "views", "keywords", "tags", "check", "follow", "done", "set", "schedule",
-    "deadline", "add", "undo", "config",
-];
-
-/// Whether a word is the name of a command.
-pub fn is_command(word: &str) -> bool {
-    COMMANDS.iter().any(|name| *name == word)
-}
 
 /// Whether an option that may stand before a command takes a value; its name or its letter says which one.
 pub fn takes_value(name: &str) -> bool {
@@ -215,13 +203,13 @@ fn agenda<'a>(alloc: Global) -> Result<Command<'a>, AllocError> {
 }
 
 fn calendar<'a>(alloc: Global) -> Result<Command<'a>, AllocError> {
-    let view = word(alloc, "VIEW", "month or week; without it the month");
+    let view = word(alloc, "VIEW", "month, week or year; without it the month");
     let date = word(
         alloc,
         "DATE",
         "A day in it: tomorrow, -1w, 2024-02-28, nextmonth; without it today",
     );
-    let calendar = Command::new(alloc, "calendar").about("A month or a week as a picture");
+    let calendar = Command::new(alloc, "calendar").about("A month, a week or a year as a picture");
     let calendar = calendar.arg(view.allow_hyphen_values(true))?;
     let calendar = calendar.arg(date.allow_hyphen_values(true))?;
     with_options(alloc, calendar, OF_CALENDAR, false)

@@ -78,6 +78,40 @@ fn asked_days(own: &ArgMatches<'_>, days: Option<u32>, moment: &Moment) -> Resul
     days_from(period.first, count)
 }
 
+// Within how many minutes a row has to begin, if that is asked for.
+fn within_of(own: &ArgMatches<'_>) -> Result<Option<u32>, Problem> {
+    let Some(text) = own.get_str("within") else {
+        return Ok(None);
+    };
+    match minutes_of(text) {
+        Some(minutes) if minutes <= MOST_MINUTES => Ok(Some(minutes)),
+        _ => Err(Problem::Within),
+    }
+}
+
+// How many minutes `--within` names at most.
+const MOST_MINUTES: u32 = 100_000;
+
+// The minutes that a text says: `90`, `1h`, `1h30` or `1:30`.
+fn minutes_of(text: &str) -> Option<u32> {
+    match text.split_once(['h', ':']) {
+        None => digits_of(text),
+        Some((hours, "")) if text.ends_with('h') => digits_of(hours)?.checked_mul(60),
+        Some((hours, minutes)) => digits_of(hours)?
+            .checked_mul(60)?
+            .checked_add(digits_of(minutes)?),
+    }
+}
+
+// The number that digits say.
+fn digits_of(text: &str) -> Option<u32> {
+    if text.bytes().all(|byte| byte.is_ascii_digit()) {
+        text.parse::<u32>().ok()
+    } else {
+        None
+    }
+}
+
 // Days from today on as a calendar that is made at a moment.
 fn asked_ical<'a>(
     own: &ArgMatches<'a>,
@@ -99,7 +133,7 @@ fn asked_next<'a>(
     days: Option<u32>,
     moment: &Moment,
 ) -> Result<Query<'a>, Problem> {
-    let within = own.get_one::<u32>("within");
+    let within = within_of(own)?;
     let count = own.get_one::<u32>("days").or(days);
     let lead = own.get_one::<u32>("lead");
     let Some(since) = own.get_str("since") else {

@@ -37,7 +37,7 @@ mod wish;
 
 pub use act_words::{ActWords, date_words, keyword_words, typed_words};
 pub use adding::{WishedHeading, added_place, lend, read_body, wished_heading};
-pub use arguments::{command, is_command};
+pub use arguments::command;
 pub use ask::{asked_period, read_filters, read_question};
 pub use calendar::{columns_for, environment_columns};
 pub use call::call_words;
@@ -52,7 +52,7 @@ pub use ordering::{Ordering, has_order, read_ordering};
 pub use place::{HeadingPlace, TypedPlace, is_place, read_place};
 pub use planning::{planning_keyword, wished_planning};
 pub use search::read_search;
-pub use sections::{DayOptions, names_day_option};
+pub use sections::{DayOptions, environment_lines, names_day_option};
 pub use trace::WishedTrace;
 pub use undoing::{UndoWish, read_undo};
 pub use usage::parser_said;

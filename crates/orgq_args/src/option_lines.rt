@@ -78,7 +78,7 @@ fn option<'a>(alloc: Global, line: &'static str) -> Arg<'a> {
         "columns" => arg.value_parser(value_parser!(u32).range(20..=1000)),
         "lines" if value == "HEIGHT" => arg.value_parser(value_parser!(u32).range(5..=1000)),
         "lines" => arg.value_parser(value_parser!(u32).range(2..=60)),
-        "within" | "lead" | "alarm" => arg.value_parser(value_parser!(u32).range(0..=100_000)),
+        "lead" | "alarm" => arg.value_parser(value_parser!(u32).range(0..=100_000)),
         _ => arg,
     }
 }

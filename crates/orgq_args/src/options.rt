@@ -10,6 +10,9 @@ use std::collections::BTreeSet;
 
 /// The form that the options name: of several the first in this order counts, but `--format` stands alone.
 pub fn form<'a>(matches: &ArgMatches<'a>) -> Result<Form<'a>, Problem> {
+    if matches.get_flag("json") && matches.get_flag("csv") {
+        return Err(Problem::TwoForms);
+    }
     let Some(text) = matches.get_str("format") else {
         return Ok(named_form(matches));
     };

@@ -9,7 +9,7 @@
 //! let left_out = load_all(rt, &mut files, paths.as_slice(), &Reading::of(matches))?;
 //! ```
 //!
-//! Lines of `orgq/src/check.rt`. Tests: `tests/orgq.sh`.
+//! Lines of `orgq_answers/src/check.rt`. Tests: `tests/orgq.sh`.
 #![tactic(auto)]
 
 mod checked;

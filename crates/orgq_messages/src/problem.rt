@@ -24,7 +24,8 @@ pub enum Problem {
     /// A form is asked for that the acts of `clock` don't have.
     ClockForm,
     Color,
-    Command,
+    /// A word is no command; one may be meant.
+    Command(Option<&'static str>),
     /// The file of settings can't be read.
     Config,
     /// A form is asked for that what `config` prints doesn't have.
@@ -133,12 +134,16 @@ pub enum Problem {
     Tables,
     Tag,
     To,
-    /// A calendar is asked for of something else than a month or a week.
+    /// Rows are asked for in two forms.
+    TwoForms,
+    /// A calendar is asked for of something else than a month, a week or a year.
     View,
     /// The file of views can't be read.
     ViewFile,
     /// A form is asked for that views don't have.
     ViewForm,
+    /// A word says no minutes.
+    Within,
     Zone,
     Fault(Fault),
 }
@@ -172,14 +177,14 @@ impl Problem {
                 "clock in, out and cancel print lines: --json, --csv and --format are no forms of theirs"
             }
             Problem::Color => "--color is auto, always or never",
-            Problem::Command => "no such command; for a file or folder write -f before its name",
+            Problem::Command(_) => NO_COMMAND,
             Problem::Config => {
                 "the file of settings, orgq/config in XDG_CONFIG_HOME or ~/.config, can't be read as a file of UTF-8"
             }
             Problem::ConfigForm =>
                 "config has lines alone, without -n, --json, --csv and --days-too",
             Problem::Date => {
-                "no such date; there are today, tomorrow, yesterday, mon to sun, such as +3d, -1w, +2m, 2024-02-28, and the blocks thisweek, nextweek, lastweek, thismonth and so on, 2024-W09, 2024-02"
+                "no such date; there are today, tomorrow, yesterday, mon to sun, eow, eom, eoy, such as +3d, -1w, dec 24, 24.12., 2024-02-28, and the blocks week, nextweek, lastweek, month and so on, 2024-W09, 2024-02"
             }
             Problem::DayOf => "--plain, --columns, --lines and --ascii in front are for the agenda",
             Problem::Days => "days past 9999-12-31",
@@ -268,7 +273,7 @@ impl Problem {
             Problem::Tables => "--step cuts these days into more than 366 tables",
             Problem::Tag => "no such tag: a tag has letters, digits, _, @, # and %",
             Problem::To => "--to wants --from",
-            Problem::View => "calendar shows a month or a week, and the day after it",
+            Problem::View => "calendar shows a month, a week or a year, and the day after it",
             Problem::ViewFile => {
                 "the file of views, orgq/views in XDG_CONFIG_HOME or ~/.config, can't be read as a file of UTF-8"
             }
@@ -276,16 +281,21 @@ impl Problem {
                 "view has lines, -n and --json, and views has lines: other forms are of single commands"
             }
             Problem::Zone => "TZ leads out of the folder of time zones",
+            Problem::TwoForms => "--json and --csv are two forms of rows: one of them is wanted",
+            Problem::Within =>
+                "--within takes minutes, as 90, 1h, 1h30 or 1:30, 0 to 100000 of them",
             Problem::Fault(fault) => why_code(fault.code()),
         }
     }
 }
 
+const NO_COMMAND: &str = "no such command; for a file or folder write -f before its name";
+
 const NO_BLOCK: &str =
     "no such block of time; there are today, yesterday, thisweek, lastweek, nextweek, and so month and year, such as 2024, 2024-Q1, 2024-02, 2024-W09, 2024-02-28, and such days as -1d";
 
 const NO_DATE: &str =
-    "no such date; there are today, tomorrow, yesterday, mon to sun, such as +3d, -1w, +2m, 2024-02-28, and a time behind it, 9:30 or 9:30-10:15";
+    "no such date; there are today, tomorrow, yesterday, mon to sun, eow, eom, eoy, such as +3d, -1w, dec 24, 24.12., 2024-02-28, and a time behind it, 9:30 or 9:30-10:15";
 
 const NO_KEY: &str =
     "no such key of --sort; there are time, deadline, scheduled, priority, effort, keyword, title, category, file, closed and urgency, with commas between them, each with - in front for down";
@@ -309,11 +319,22 @@ pub fn report_problem<R: Eprint + AllocGlobal>(rt: &R, problem: Problem, express
     match problem {
         Problem::Fault(fault) if fault.code() == Code::Memory => out_of_memory(rt),
         Problem::Fault(Fault::MatchAt(at)) => point_at(rt, expression, at as usize),
+        Problem::Command(Some(name)) => {
+            report_command(rt, name);
+            BAD_ARGUMENTS
+        }
         _ => {
             say(rt, problem.why());
             BAD_ARGUMENTS
         }
     }
+}
+
+// Says which command a word may be meant as, which is none.
+fn report_command<R: Eprint + AllocGlobal>(rt: &R, name: &str) {
+    let _ = eprintln!(rt;
+        "orgq: no such command; did you mean {name}? For a file or folder write -f before its name"
+    );
 }
 
 // Shows an expression with a caret below the character after the bytes that still begin one.
@@ -328,5 +349,19 @@ fn point_at<R: Eprint + AllocGlobal>(rt: &R, expression: &str, at: usize) -> u8 
     let width = before.as_str().width().saturating_add(13);
     let _ = eprintln!(rt; "orgq: match {whole}");
     let _ = eprintln!(rt; "{:>width$}", "^");
+    if wants_quotes(expression, at) {
+        say(rt, QUOTES);
+    }
     BAD_ARGUMENTS
 }
+
+// Whether a text without quotation marks stands behind a comparison, where an expression ends.
+fn wants_quotes(expression: &str, at: usize) -> bool {
+    let (Some(before), Some(behind)) = (expression.get(..at), expression.get(at..)) else {
+        return false;
+    };
+    before.ends_with(['=', '<', '>']) && behind.starts_with(char::is_alphabetic)
+}
+
+const QUOTES: &str =
+    "a text stands in quotation marks, which a shell takes away: 'TODO=\"NEXT\"' in apostrophes keeps them";

@@ -1,5 +1,6 @@
 //! The command that says what looks planned and will not show.
 
+use crate::options::without_days;
 use clap::ArgMatches;
 use org_cal::Moment;
 use org_check::{Form, Selection, Severity, Wanted, kind_names, unknown_kind};
@@ -82,9 +83,7 @@ fn least(word: Option<&str>) -> Result<Severity, Problem> {
 
 // The form of findings, where no option asks for one of rows alone.
 fn form(matches: &ArgMatches<'_>) -> Result<Form, Problem> {
-    if matches.get_one::<u32>("days").is_some() {
-        return Err(Problem::DaysOf);
-    }
+    without_days(matches)?;
     without_rows(matches)?;
     if matches.get_flag("csv") {
         return Err(Problem::Fields);

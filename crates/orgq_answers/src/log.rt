@@ -1,7 +1,7 @@
 //! The command that lists what was closed, changed its state and was clocked.
 
 use crate::call::Call;
-use crate::search::Among;
+use crate::options::{RowOptions, without_days};
 use clap::ArgMatches;
 use org_answer::{Form, PrintOptions, log_lines};
 use org_base::Fault;
@@ -10,7 +10,7 @@ use org_inherit::Inherits;
 use org_text::Whole;
 use org_trace::LogRow;
 use orgq_args::{asked_log, property_names};
-use orgq_messages::{Problem, report_problem, status_of};
+use orgq_messages::Problem;
 use std::alloc::Global;
 
 /// Prints the log of the days that the command's own words name, and gives the exit status.
@@ -18,34 +18,27 @@ pub fn print_log(
     rt: &HostRuntime,
     matches: &ArgMatches<'_>,
     call: &mut Call,
-    among: &Among<'_, '_, '_>,
+    options: &RowOptions<'_, '_, '_>,
     look: &PrintOptions<'_, '_>,
 ) -> Result<u8, Problem> {
     let Some(("log", own)) = matches.subcommand() else {
         return Err(Problem::Option);
     };
-    if matches.get_one::<u32>("days").is_some() {
-        return Err(Problem::DaysOf);
-    }
-    let asked = asked_log(own, among.moment.day)?;
-    let expressions = match among.filters.expressions(rt.alloc()) {
+    without_days(matches)?;
+    let asked = asked_log(own, options.moment.day)?;
+    let expressions = match options.expressions(rt) {
         Ok(expressions) => expressions,
-        Err(problem) => {
-            return Ok(report_problem(rt, problem, among.filters.expression.unwrap_or("")));
-        }
+        Err(status) => return Ok(status),
     };
     let choice = LogChoice {
         asked: &asked,
         expressions: expressions.as_slice(),
-        moment: among.moment,
+        moment: options.moment,
     };
     let asked = call.files(rt, matches)?;
     let lines = log_bytes(rt.alloc(), &asked.file_set, &choice, look)?;
-    let status = status_of(!lines.is_empty(), asked.left_out);
-    if matches.get_flag("quiet") {
-        return Ok(status);
-    }
-    Ok(call.print(rt, lines.as_slice(), status))
+    let left_out = asked.left_out;
+    Ok(call.print_lines(rt, matches, lines.as_slice(), left_out))
 }
 
 // What is printed of a log: as many rows as there may be at most.

@@ -2,6 +2,7 @@
 
 use crate::call::Call;
 use crate::clocks::clock_ids;
+use crate::options::without_days;
 use clap::ArgMatches;
 use org_answer::{PrintOptions, running_clocks, running_lines};
 use org_base::Fault;
@@ -9,7 +10,7 @@ use org_cal::Moment;
 use org_client::{FileSet, LoadReport};
 use org_text::Whole;
 use orgq_args::property_names;
-use orgq_messages::{Problem, status_of};
+use orgq_messages::Problem;
 use std::alloc::Global;
 
 /// Prints the clocks that run at a moment, and gives the exit status.
@@ -20,16 +21,11 @@ pub fn print_status(
     moment: Moment,
     look: &PrintOptions<'_, '_>,
 ) -> Result<u8, Problem> {
-    if matches.get_one::<u32>("days").is_some() {
-        return Err(Problem::DaysOf);
-    }
+    without_days(matches)?;
     let asked = call.files(rt, matches)?;
     let lines = status_bytes(rt.alloc(), &asked.file_set, moment, look)?;
-    let status = status_of(!lines.is_empty(), asked.left_out);
-    if matches.get_flag("quiet") {
-        return Ok(status);
-    }
-    Ok(call.print(rt, lines.as_slice(), status))
+    let left_out = asked.left_out;
+    Ok(call.print_lines(rt, matches, lines.as_slice(), left_out))
 }
 
 fn status_bytes(

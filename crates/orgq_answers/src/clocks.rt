@@ -1,6 +1,7 @@
 //! The command that lists clock lines.
 
 use crate::call::Call;
+use crate::options::without_days;
 use clap::ArgMatches;
 use org_answer::{PrintOptions, clock_lines};
 use org_base::Fault;
@@ -9,7 +10,7 @@ use org_client::{FileSet, HeadingAt, LoadReport, RowIds, ShownClock, clock_rows,
 use org_inherit::Inherits;
 use org_text::Whole;
 use orgq_args::{asked_period, property_names};
-use orgq_messages::{Problem, status_of};
+use orgq_messages::Problem;
 use std::alloc::{AllocError, Global};
 
 /// Prints the clock lines of the days that the command's own words name, and gives the exit status.
@@ -23,17 +24,12 @@ pub fn print_clocks(
     let Some(("clocks", own)) = matches.subcommand() else {
         return Err(Problem::Option);
     };
-    if matches.get_one::<u32>("days").is_some() {
-        return Err(Problem::DaysOf);
-    }
+    without_days(matches)?;
     let period = asked_period(own, today)?;
     let asked = call.files(rt, matches)?;
     let lines = clock_bytes(rt.alloc(), &asked.file_set, &period, look)?;
-    let status = status_of(!lines.is_empty(), asked.left_out);
-    if matches.get_flag("quiet") {
-        return Ok(status);
-    }
-    Ok(call.print(rt, lines.as_slice(), status))
+    let left_out = asked.left_out;
+    Ok(call.print_lines(rt, matches, lines.as_slice(), left_out))
 }
 
 // What is printed of the clock lines of some days.

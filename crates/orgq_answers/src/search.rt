@@ -1,7 +1,8 @@
 //! The command that looks for words.
 
 use crate::call::Call;
-use crate::session::ids_of_lines;
+use crate::options::{RowOptions, without_days};
+use crate::text::ids_of_lines;
 use clap::ArgMatches;
 use org_answer::{PrintOptions, found_bytes, lines_within};
 use org_base::Fault;
@@ -12,16 +13,9 @@ use org_layout::{Line, list_lines};
 use org_match::Match;
 use org_search::{Scan, Search};
 use org_text::Whole;
-use orgq_args::{Filters, property_names, read_search};
-use orgq_messages::{Problem, report_problem, status_of};
+use orgq_args::{property_names, read_search};
+use orgq_messages::{Problem, status_of};
 use std::alloc::Global;
-
-/// What chooses among the headings that are found, and the moment at which it does.
-#[derive(Clone, Copy, Debug)]
-pub struct Among<'a, 'b, 'c> {
-    pub filters: &'c Filters<'a, 'b>,
-    pub moment: Moment,
-}
 
 // What is looked for, and which expressions the headings meet at a moment.
 #[derive(Clone, Copy)]
@@ -36,26 +30,22 @@ pub fn print_search(
     rt: &HostRuntime,
     matches: &ArgMatches<'_>,
     call: &mut Call,
-    among: &Among<'_, '_, '_>,
+    options: &RowOptions<'_, '_, '_>,
     look: &PrintOptions<'_, '_>,
 ) -> Result<u8, Problem> {
     let Some(("search", own)) = matches.subcommand() else {
         return Err(Problem::Option);
     };
-    if matches.get_one::<u32>("days").is_some() {
-        return Err(Problem::DaysOf);
-    }
+    without_days(matches)?;
     let search = read_search(rt.alloc(), own)?;
-    let expressions = match among.filters.expressions(rt.alloc()) {
+    let expressions = match options.expressions(rt) {
         Ok(expressions) => expressions,
-        Err(problem) => {
-            return Ok(report_problem(rt, problem, among.filters.expression.unwrap_or("")));
-        }
+        Err(status) => return Ok(status),
     };
     let sought = Sought {
         search: &search,
         expressions: expressions.as_slice(),
-        moment: among.moment,
+        moment: options.moment,
     };
     over_files(rt, matches, call, &sought, look)
 }

@@ -3,7 +3,8 @@
 use crate::head::Head;
 use clap::ArgMatches;
 use orgq_files::{Asked, asked_files};
-use orgq_messages::{NO_MATCH, Problem, out_of_memory, print_all};
+use orgq_messages::{NO_MATCH, Problem, out_of_memory, print_all, status_of};
+use std::alloc::{AllocError, Global};
 
 /// One call of the program, and what its answers share.
 #[derive(Drop)]
@@ -12,6 +13,8 @@ pub struct Call {
     pub on_terminal: bool,
     /// Whether the program ends behind the answer: memory isn't given back then.
     pub is_last: bool,
+    // How many lines an answer has room for, if that counts.
+    room: Option<usize>,
     files: Option<Asked>,
     head: Option<Head>,
     // Whether an answer below a head was printed.
@@ -24,10 +27,16 @@ impl Call {
         Call {
             on_terminal,
             is_last,
+            room: None,
             files: None,
             head: None,
             has_printed: false,
         }
+    }
+
+    /// Leaves out the last lines of an answer that there is no room for, and counts them.
+    pub fn fit(&mut self, room: usize) {
+        self.room = Some(room);
     }
 
     /// The files that the arguments name: in each call they are read once, and which can't be read is said then.
@@ -44,8 +53,26 @@ impl Call {
         self.head = Some(head);
     }
 
+    /// Prints the lines of rows, unless the words want none printed, and gives the status.
+    pub fn print_lines(
+        &mut self,
+        rt: &HostRuntime,
+        matches: &ArgMatches<'_>,
+        lines: &[u8],
+        left_out: bool,
+    ) -> u8 {
+        let status = status_of(!lines.is_empty(), left_out);
+        if matches.get_flag("quiet") {
+            return status;
+        }
+        self.print(rt, lines, status)
+    }
+
     /// Prints an answer, below its head if it has one, and gives the status.
     pub fn print(&mut self, rt: &HostRuntime, text: &[u8], status: u8) -> u8 {
+        if let Some(room) = self.room {
+            return print_within(rt, text, room, status);
+        }
         let Some(head) = &self.head else {
             return print_all(rt, text, status);
         };
@@ -58,4 +85,28 @@ impl Call {
         self.has_printed = true;
         print_all(rt, text.as_slice(), status)
     }
+}
+
+// Prints the lines that there is room for, and gives the status.
+fn print_within(rt: &HostRuntime, text: &[u8], room: usize, status: u8) -> u8 {
+    match lines_within(rt.alloc(), text, room) {
+        Ok(text) => print_all(rt, text.as_slice(), status),
+        Err(_) => out_of_memory(rt),
+    }
+}
+
+// The first lines of a text, the last of which counts the others where there are more than have room.
+fn lines_within(alloc: Global, text: &[u8], room: usize) -> Result<Vec<u8>, AllocError> {
+    let count = text.split_inclusive(|byte| *byte == b'\n').count();
+    if count <= room {
+        return Vec::from_slice(alloc, text);
+    }
+    let shown = room.saturating_sub(1);
+    let mut out = Vec::new(alloc);
+    for line in text.split_inclusive(|byte| *byte == b'\n').take(shown) {
+        out.extend_from_slice(line)?;
+    }
+    let more = format!(in alloc; "+{} more\n", count.saturating_sub(shown))?;
+    out.extend_from_slice(more.as_bytes())?;
+    Ok(out)
 }

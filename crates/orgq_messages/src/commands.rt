@@ -1,0 +1,50 @@
+//! The names of commands, and which one is meant.
+
+use std::alloc::{AllocError, Global};
+use strsim::osa_distance;
+
+// The commands.
+const COMMANDS: [&str; 24] = [
+    "agenda", "calendar", "todo", "match", "search", "clock", "clocks", "log", "next", "ical",
+    "page", "view", "views", "keywords", "tags", "check", "follow", "done", "set", "schedule",
+    "deadline", "add", "undo", "config",
+];
+
+// How many bytes a word has at most that may be meant as a command.
+const LONGEST: usize = 32;
+
+/// Whether a word is the name of a command.
+pub fn is_command(word: &str) -> bool {
+    COMMANDS.iter().any(|name| *name == word)
+}
+
+/// The command that a word which is none is taken for: the only one that begins so, else the first one of those that are nearest to
+/// it, by one letter or two that are wrong, missing, too many or exchanged, but not by half of them.
+pub fn nearest_command(alloc: Global, word: &str) -> Result<Option<&'static str>, AllocError> {
+    if word.len() > LONGEST {
+        return Ok(None);
+    }
+    if let Some(name) = begun_command(word) {
+        return Ok(Some(name));
+    }
+    let mut nearest = None;
+    let mut least = 3;
+    for name in COMMANDS {
+        let distance = osa_distance(alloc, word, name)?;
+        if distance < least && distance * 2 < name.len() {
+            least = distance;
+            nearest = Some(name);
+        }
+    }
+    Ok(nearest)
+}
+
+// The command that begins with a word, if there is one and no other.
+fn begun_command(word: &str) -> Option<&'static str> {
+    let mut begun = COMMANDS.iter().filter(|name| name.starts_with(word));
+    let first = begun.next()?;
+    match begun.next() {
+        None => Some(*first),
+        Some(_) => None,
+    }
+}
