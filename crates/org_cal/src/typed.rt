@@ -13,12 +13,12 @@ use crate::year_day::year_day_typed;
 use org_base::words::same_word;
 
 impl Day {
-    /// The day that a text says on a day, as people type them (Org manual 9.6, "The date/time prompt"), in letters of any
-    /// case: `today`, `tomorrow`, `yesterday`; `mon` to `sun`, also as whole names, today or the first such day after it;
-    /// `eow`, `eom`, `eoy`, the last day of this week, month or year; `+3d`, `-1w`, `+2m`, `-10y`, with one to four
-    /// digits, where a month that is shorter gives its last day, and `+3` for days; `YYYY-MM-DD`; or `24.12.` and
-    /// `dec 24`, today or the next such day of this year or the next one. `None` where it says no day of the years 1 to
-    /// 9999.
+    /// The day that a text says on a day, as people type them (Org manual 9.6, "The date/time prompt"), its words and
+    /// names in letters of any case: `today`, `tomorrow`, `yesterday`; `mon` to `sun`, also as whole names, today or
+    /// the first such day after it; `eow`, `eom`, `eoy`, the last day of this week, month or year; `+3d`, `-1w`, `+2m`,
+    /// `-10y`, with one to four digits, where a month that is shorter gives its last day, and `+3` for days;
+    /// `YYYY-MM-DD`; or `24.12.` and `dec 24`, today or the next such day of this year or the next one. `None` where it
+    /// says no day of the years 1 to 9999.
     pub fn of_word(text: &[u8], today: Day) -> Option<Day>
         ensures value { result ≡ typed_day text.now today }
     {
