@@ -13,7 +13,7 @@ NEEDS_RT = $(if $(shell command -v rt),,$(error there is no `rt`: building wants
 built already is an archive or a package, see docs/building.md))
 
 .PHONY: run try build check changed test rows orgq-test reading faults emacs-test vim-test ical-test bench collide install deb clean
-.PHONY: completions-test recipes-test agenda-test search-test acts-test stranger org-agenda-test org-agenda-bench
+.PHONY: completions-test recipes-test agenda-test search-test review-test acts-test stranger org-agenda-test org-agenda-bench
 
 # Builds the program where it isn't fresh, and runs the first example.
 run: $(PROGRAM)
@@ -109,14 +109,18 @@ completions-test: $(ORGQ)
 recipes-test: $(ORGQ)
 	@sh tests/recipes.sh $(ORGQ)
 
-# `orgq` beside a real Emacs: agendas as fields, searches, and files after the same acts; left out where Emacs isn't installed. No
-# part of the gate.
+# `orgq` beside a real Emacs: agendas as fields, searches, projects, habits, and files after the same acts; left out where Emacs isn't
+# installed. No part of the gate.
 agenda-test: $(ORGQ)
 	@sh tests/agenda-csv.sh $(ORGQ)
 	@sh tests/sort.sh $(ORGQ)
 
 search-test: $(ORGQ)
 	@sh tests/search-view.sh $(ORGQ)
+
+review-test: $(ORGQ)
+	@sh tests/projects.sh $(ORGQ)
+	@sh tests/habits.sh $(ORGQ)
 
 acts-test: $(ORGQ)
 	@sh tests/acts.sh $(ORGQ)

@@ -51,7 +51,7 @@ words_of() {
         # What can be helped with: the commands beside it.
         help | *" help") below=$(commands_of "${1%help}") ;;
         agenda | clock | clocks | log | *" agenda" | *" clock" | *" clocks" | *" log") below="$below $days" ;;
-        calendar | *" calendar") below="$below month week $(taken_by "$1")" ;;
+        calendar | *" calendar") below="$below month week year $(taken_by "$1")" ;;
         view) below="$below $(orgq views | sed 's/ .*//' | tr '\n' ' ')" ;;
         todo | *" todo") below="$below $(orgq keywords | tr '\n' ' ')" ;;
         # Where a heading is named, the short ids of those that are open.

@@ -1,10 +1,17 @@
 #!/bin/sh
 # Checks the layers of crates.txt: no crate of the store of files stands on one of views or of patterns, straight or through
-# others. Says which does; and prints the longest chain of crates. The last line counts.
+# others. Says which does; and prints the longest chain of crates. And that the crates of over 2,500 lines are those of which
+# docs/architecture.md says why. The last line counts.
 cd "$(dirname "$0")/.." || exit 2
+large=$(for crate in crates/*/; do
+    lines=$(find "$crate/src" -name '*.rt' -exec cat {} + | wc -l)
+    [ "$lines" -le 2500 ] || basename "$crate"
+done | sort)
+said=$(sed -n '/^### Crates of over/,/^##* [^C]/s/^| `\([a-z_0-9]*\)` |.*/\1/p' docs/architecture.md | sort)
+[ "$large" = "$said" ] || echo "layers: over 2,500 lines are" $large "and the page says" $said
 store="org_text org_sequence org_pieces org_lines org_settings org_class org_head org_entry org_outline org_inherit org_index org_stamp_index org_store"
 above="org_expression org_match org_agenda org_near org_clocktable org_layout regex"
-sed 's/#.*//; /^ *$/d' crates.txt | awk -v store="$store" -v above="$above" '
+sed 's/#.*//; /^ *$/d' crates.txt | awk -v store="$store" -v above="$above" -v is_said="$([ "$large" = "$said" ] && echo 1 || echo 0)" '
     {
         name = $1
         sub(/:.*/, "", name)
@@ -41,6 +48,7 @@ sed 's/#.*//; /^ *$/d' crates.txt | awk -v store="$store" -v above="$above" '
             for (j = 1; j <= most; j++) if (reaches(low[i], high[j])) { print "layers: " low[i] " stands on " high[j]; bad = 1 }
             if (bad) failed++; else passed++
         }
+        if (is_said) passed++; else failed++
         longest = 0
         for (name in own) if (depth(name) > longest) longest = depth(name)
         print "layers: the longest chain has " longest " crates"

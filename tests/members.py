@@ -38,7 +38,7 @@ def table():
 def written():
     """The names that the code writes: each call of `Members`, or of a function that hands a name to one."""
     names = set()
-    for path in [*glob.glob(os.path.join(ROOT, "crates/org_client/src/*.rt")), os.path.join(ROOT, "crates/orgq/src/head.rt")]:
+    for path in [*glob.glob(os.path.join(ROOT, "crates/org_client/src/*.rt")), *glob.glob(os.path.join(ROOT, "crates/org_review/src/*.rt")), os.path.join(ROOT, "crates/orgq_answers/src/head.rt")]:
         code = re.sub(r"//[^\n]*", "", read(os.path.relpath(path, ROOT)))
         names.update(re.findall(r'\b(?:to|self|line|value)\.(?:date|time|number|text|texts|flag|object)\(\s*"([a-z_]+)"', code))
         names.update(re.findall(r'\bput_\w+\([^()]*?"([a-z_]+)"', code))

@@ -16,6 +16,7 @@ import sys
 ROOT = os.path.dirname(os.path.dirname(os.path.abspath(__file__)))
 SOURCES = ["crates/orgq_args/src/arguments.rt", "crates/orgq_args/src/act_arguments.rt"]
 LINES = "crates/orgq_args/src/option_lines.rt"
+COMMANDS = "crates/orgq_messages/src/commands.rt"
 STREAM = "crates/orgviews/src/arguments.rt"
 COMPLETIONS = "contrib/completions"
 # Where the manual says of several commands at once what their options are, beside the sections that their rows lead to.
@@ -52,7 +53,7 @@ class Table:
             is_below = name.startswith("clock_") or name == "with_clock_acts"
             for word in called or names:
                 self.commands[f"clock {word}" if is_below else word] = own
-        listed = re.search(r"const COMMANDS: [^=]*= \[(.*?)\];", code, re.S)[1]
+        listed = re.search(r"const COMMANDS: [^=]*= \[(.*?)\];", read(COMMANDS), re.S)[1]
         self.listed = re.findall(r'"([a-z]+)"', listed)
         self.repeated = re.search(r"(?m)^ +((?:\"[a-z]+\" \| )*\"[a-z]+\") => arg\.action\(ArgAction::Append\)", read(LINES))[1]
 
@@ -234,7 +235,7 @@ def check_stream(checks):
 def main():
     checks, table = Checks(), Table()
     top = {it for it in table.commands if " " not in it}
-    checks.each("crates/orgq_args: COMMANDS", top - set(table.listed), set(table.listed) - top)
+    checks.each(f"{COMMANDS}: COMMANDS", top - set(table.listed), set(table.listed) - top)
     check_man(checks, table)
     check_manual(checks, table)
     check_completions(checks, table)

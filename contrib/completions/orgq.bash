@@ -174,7 +174,7 @@ _orgq_enter() {
 _orgq_behind() {
     local front kinds
     case $1 in
-        -f | --file | -o | --output | --under) _orgq_paths '' ;;
+        -f | --file | --inbox | -o | --output | --under) _orgq_paths '' ;;
         --only | --not)
             # A list, with commas between.
             case ${typed[-1]} in *,*) front=${typed[-1]%,*}, ;; *) front='' ;; esac
@@ -200,7 +200,7 @@ _orgq_argument() {
     case $name in
         *DATE*none) found+=("${days[@]}" none) ;;
         *DATE* | *BLOCK*) found+=("${days[@]}" "${blocks[@]}") ;;
-        *VIEW*) found+=(month week "${days[@]}" "${blocks[@]}") ;;
+        *VIEW*) found+=(month week year "${days[@]}" "${blocks[@]}") ;;
         *KEYWORD*) _orgq_listed keywords ;;
         *NAME*) _orgq_views ;;
         *PLACE* | *MORE*)

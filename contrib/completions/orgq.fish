@@ -97,7 +97,7 @@ function _orgq_offers
     end
     if set -q valued[1]
         switch $valued
-            case -f --file -o --output --under
+            case -f --file --inbox -o --output --under
                 _orgq_paths
             case --only --not
                 __fish_complete_list , _orgq_kinds
@@ -132,7 +132,7 @@ function _orgq_offers
         case '*DATE*' '*BLOCK*'
             printf '%s\n' $days $blocks
         case '*VIEW*'
-            printf '%s\n' month week $days $blocks
+            printf '%s\n' month week year $days $blocks
         case '*KEYWORD*'
             _orgq_listed keywords
         case '*NAME*'

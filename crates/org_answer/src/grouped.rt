@@ -20,8 +20,8 @@ use org_text::Text;
 use std::alloc::{AllocError, Global};
 
 /// A line of an answer in groups.
-#[derive(Clone, Copy, PartialEq, Eq)]
-enum GroupedLine {
+#[derive(Clone, Copy, Debug, PartialEq, Eq)]
+pub enum GroupedLine {
     /// One that the answer has.
     Own(Line),
     /// One for a group, whose name stands at a place, if it has one.
@@ -29,10 +29,56 @@ enum GroupedLine {
 }
 
 /// The lines of an answer in groups, and the names of the groups.
-#[derive(Drop)]
-struct GroupedLines {
+#[derive(Debug, Drop)]
+pub struct GroupedLines {
     lines: Vec<GroupedLine>,
     names: Texts,
+}
+
+impl GroupedLines {
+    /// The lines.
+    pub fn lines(&self) -> &[GroupedLine] {
+        self.lines.as_slice()
+    }
+
+    /// The name of the group at a place, if it has one.
+    pub fn name(&self, place: Option<usize>) -> Option<&[u8]> {
+        name_at(&self.names, place)
+    }
+}
+
+/// The lines of an answer as they are arranged: in groups where these are asked for, each row in each of its groups.
+pub fn arranged_lines(
+    alloc: Global,
+    inherits: &Inherits<'_>,
+    answer: &Answer,
+    arrangement: &Arrangement<'_>,
+) -> Result<GroupedLines, Fault> {
+    let lines = answer.lines.as_slice();
+    match arrangement.by {
+        Some(by) => grouped_lines(alloc, inherits, lines, by, arrangement),
+        None => own_lines(alloc, lines),
+    }
+}
+
+// Lines in no groups.
+fn own_lines(alloc: Global, lines: &[Line]) -> Result<GroupedLines, Fault> {
+    let mut own = GroupedLines {
+        lines: Vec::new(alloc),
+        names: Texts::new(alloc),
+    };
+    for line in lines {
+        own.lines.push(GroupedLine::Own(*line))?;
+    }
+    Ok(own)
+}
+
+/// What the group of a name is called, or the one without a name.
+pub fn group_title(name: Option<&[u8]>, by: GroupBy) -> &str {
+    match name {
+        Some(name) => text_of(name),
+        None => by.without(),
+    }
 }
 
 /// The bytes of the first rows of an answer in groups, those of each day by themselves: a line for each group, or what a row's
@@ -209,16 +255,8 @@ fn push_name(
     ensures clean { IsSafe shown.now.look.now → KeepsClean result out.old out.new }
 {
     match shown.look.form {
-        Form::Plain | Form::Places => push_title(out, title_of(name, shown.by), shown.look),
+        Form::Plain | Form::Places => push_title(out, group_title(name, shown.by), shown.look),
         Form::Json | Form::Csv | Form::Template(_) => Ok(()),
-    }
-}
-
-// What the group of a name is called, or the one without a name.
-fn title_of(name: Option<&[u8]>, by: GroupBy) -> &str {
-    match name {
-        Some(name) => text_of(name),
-        None => by.without(),
     }
 }
 

@@ -12,7 +12,7 @@
 //! let lines = lines_within(answer.lines.as_slice(), look.limit);
 //! ```
 //!
-//! Lines of `orgq/src/session.rt`. Tests: worked cases `tests/orgq`.
+//! Lines of `orgq_answers/src/text.rt`. Tests: worked cases `tests/orgq`.
 #![tactic(auto)]
 
 mod any_row;
@@ -55,18 +55,18 @@ pub use clocks::clock_lines;
 pub use day::{DayCanvas, DayText, day_text};
 pub use expression::read_expression;
 pub use found::found_bytes;
-pub use grouped::grouped_bytes;
+pub use grouped::{GroupedLine, GroupedLines, arranged_lines, group_title, grouped_bytes};
 pub use hours::day_picture;
 pub use ical::{Ical, IcalQuery, ical_of};
 pub use limits::lines_within;
-pub use line_ids::headings_of_lines;
+pub use line_ids::{headings_of_lines, push_line_id};
 pub use log::log_lines;
 pub use paint::picture_bytes;
 pub use picture::{Picture, calendar_picture};
-pub use placed::{heading_of, push_file_name, seems_placed};
+pub use placed::{heading_of, push_file_name, push_place, seems_placed};
 pub use print::answer_bytes;
 pub use query::{ClockQuery, Query, Question, answer, check};
 pub use running::{running_clocks, running_lines};
-pub use show::{Form, PrintOptions, has_stamp, push_seen};
+pub use show::{Form, PrintOptions, has_stamp, push_seen, push_title, push_whole};
 pub use view::{Answer, Chosen, Days, match_list};
 pub use words::{WordKind, word_lines, words_of};

@@ -12,7 +12,7 @@ use std::alloc::{AllocError, Global};
 
 /// Appends the short id of a line's heading, if rows have ids and it has a heading, and a byte behind it.
 #[tactic(auto, using(crate::proofs::ShownLemmas::places_nothing))]
-pub(crate) fn push_line_id<T: Text>(
+pub fn push_line_id<T: Text>(
     out: &mut Vec<u8>,
     files: &LoadReport<'_, '_, T>,
     line: &Line,

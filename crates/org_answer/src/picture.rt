@@ -28,7 +28,8 @@ pub struct Picture {
     pub has_row: bool,
 }
 
-/// The calendar that is asked for, over the stamps that are chosen: a grid, or a list where a grid has no room.
+/// The calendar that is asked for, over the stamps that are chosen: a grid, or a list where a grid has no room. A year is its
+/// months, one below the other.
 pub fn calendar_picture(
     alloc: Global,
     inherits: &Inherits<'_>,
@@ -37,6 +38,36 @@ pub fn calendar_picture(
 ) -> Result<Picture, Fault>
     requires read { AreRead inherits.now }
 {
+    let mut picture = Picture {
+        sheet: Sheet::new(alloc),
+        has_row: false,
+    };
+    if calendar.view != View::Year {
+        push_picture(alloc, &mut picture, inherits, chosen, calendar)?;
+        return Ok(picture);
+    }
+    for month in 1..13 {
+        if let Some(calendar) = calendar.of_month(month) {
+            push_picture(alloc, &mut picture, inherits, chosen, &calendar)?;
+        }
+    }
+    Ok(picture)
+}
+
+// Puts a month or a week below what is drawn.
+fn push_picture(
+    alloc: Global,
+    picture: &mut Picture,
+    inherits: &Inherits<'_>,
+    chosen: &Chosen<'_>,
+    calendar: &Calendar,
+) -> Result<(), Fault>
+    requires read { AreRead inherits.now }
+{
+    let above = picture.sheet.text.as_str();
+    if !above.is_empty() && !above.ends_with("\n\n") {
+        picture.sheet.text.push('\n')?;
+    }
     let agenda = agenda_over(alloc, inherits, chosen, calendar.days)?;
     let grid = Grid::within(calendar.canvas.columns, calendar.canvas.signs);
     let drawing = Drawing {
@@ -46,15 +77,14 @@ pub fn calendar_picture(
             has_keyword: calendar.view == View::Week || grid.is_none(),
             has_time: true,
             signs: calendar.canvas.signs,
-            most: (calendar.view == View::Month && grid.is_some()).then_some(calendar.lines),
+            most: (calendar.view != View::Week && grid.is_some()).then_some(calendar.lines),
         },
     };
     let titles = KeptHeadings::new(alloc, inherits)?;
     let weeks = all_weeks(alloc, &titles, &agenda, &drawing)?;
-    let mut sheet = Sheet::new(alloc);
-    drawing.push(alloc, &mut sheet, weeks.as_slice())?;
-    let has_row = weeks.iter().any(has_row);
-    Ok(Picture { sheet, has_row })
+    drawing.push(alloc, &mut picture.sheet, weeks.as_slice())?;
+    picture.has_row = picture.has_row || weeks.iter().any(has_row);
+    Ok(())
 }
 
 // A calendar as it is drawn: on which day, and how rows are said.
@@ -206,7 +236,7 @@ impl Drawing<'_> {
         cell: usize,
     ) -> Result<Vec<Week>, AllocError> {
         let plan = match self.calendar.view {
-            View::Month => Plan {
+            View::Month | View::Year => Plan {
                 lines: self.calendar.lines,
                 breaks: None,
             },
@@ -236,7 +266,7 @@ impl Drawing<'_> {
         let mut title = String::new(alloc);
         let day = self.calendar.day;
         match self.calendar.view {
-            View::Month => {
+            View::Month | View::Year => {
                 let (year, month, _) = day.parts();
                 write!(title, "{} {year}", month_name(month))?;
             }

@@ -11,10 +11,10 @@ use org_layout::Line;
 use org_text::Text;
 use std::alloc::{AllocError, Global};
 
-// Appends the file and the line of a row's heading; before a row of a clock table, which begins with a number, a space, so
-// that editors take no number of it as a column.
+/// Appends the file and the line of a row's heading; before a row of a clock table, which begins with a number, a space, so
+/// that editors take no number of it as a column.
 #[tactic(auto, using(crate::proofs::ShownLemmas::places_alone, crate::proofs::ShownLemmas::places_after, crate::proofs::ShownLemmas::places_nothing, crate::proofs::IdLemmas::places_with_id))]
-pub(crate) fn push_place<T: Text>(
+pub fn push_place<T: Text>(
     alloc: Global,
     out: &mut Vec<u8>,
     files: &LoadReport<'_, '_, T>,

@@ -201,7 +201,7 @@ pub(crate) fn push_line<T: Text>(
 
 /// Appends a title, bold where colours are asked for.
 #[tactic(auto, using(crate::proofs::ShownLemmas::keeps_title))]
-pub(crate) fn push_title(
+pub fn push_title(
     out: &mut Vec<u8>,
     title: &str,
     look: &PrintOptions<'_, '_>,
@@ -365,7 +365,7 @@ fn push_day(
 }
 
 /// Appends a line, which has no control character, and a line feed.
-pub(crate) fn push_whole(out: &mut Vec<u8>, line: &OneLine) -> Result<(), AllocError>
+pub fn push_whole(out: &mut Vec<u8>, line: &OneLine) -> Result<(), AllocError>
     ensures value { Adds result out.old out.new (line.now ++ 10 ∷ []) }
     ensures clean { KeepsClean result out.old out.new }
 {

@@ -37,5 +37,6 @@ pub mod EventRules
 pub mod Components
 pub mod Urgency
 pub mod RowOrder
+pub mod Efforts
 pub mod ViewRows
 pub mod Examples

@@ -4,6 +4,7 @@ use Rattle.org_agenda.specs.Holding.{holds_of}
 use Rattle.org_agenda.specs.declared.row.Row.{Row}
 use Rattle.org_agenda.specs.declared.source.HeadingStamp.{HeadingStamp}
 use Rattle.org_cal.specs.declared.moment.Moment.{Moment}
+use Rattle.org_client.specs.declared.clocks.ClockRow.{ClockRow}
 use Rattle.org_client.specs.declared.next.Upcoming.{Upcoming}
 use Rattle.org_expression.specs.Grammar.{Expr}
 use Rattle.org_inherit.specs.Scope.{Scope}
@@ -30,6 +31,9 @@ is_of_matching held stamp = heading_holds_at held stamp.owner.file stamp.owner.h
 
 abbrev pub is_row_matching : List (List Bool) → Row → Bool
 is_row_matching held row = heading_holds_at held row.file row.heading
+
+abbrev pub is_clock_matching : List (List Bool) → ClockRow → Bool
+is_clock_matching held row = heading_holds_at held row.file row.heading
 
 -- the expression holds of the heading at a place of the file at a place
 abbrev pub meets : Expr → Moment → List Scope → ℕ → ℕ → Bool
@@ -66,3 +70,14 @@ met_rows expr moment scopes rows = filter (of_row (meets expr moment scopes)) ro
 abbrev pub all_meeting : List Expr → Moment → List Scope → List Row → List Row
 all_meeting [] moment scopes rows = rows
 all_meeting (expr ∷ exprs) moment scopes rows = all_meeting exprs moment scopes (met_rows expr moment scopes rows)
+
+-- the same of clock lines
+abbrev pub of_clock : (ℕ → ℕ → Bool) → ClockRow → Bool
+of_clock holds row = holds row.file row.heading
+
+abbrev pub met_clocks : Expr → Moment → List Scope → List ClockRow → List ClockRow
+met_clocks expr moment scopes rows = filter (of_clock (meets expr moment scopes)) rows
+
+abbrev pub all_clocks : List Expr → Moment → List Scope → List ClockRow → List ClockRow
+all_clocks [] moment scopes rows = rows
+all_clocks (expr ∷ exprs) moment scopes rows = all_clocks exprs moment scopes (met_clocks expr moment scopes rows)

@@ -29,13 +29,26 @@ pub fn grouped_json_line<T: Text>(
     let mut members = Members::of_object(alloc, kind_of(row))?;
     put_members(alloc, &mut members, files, row)?;
     let mut line = members.into_line();
-    push_properties(alloc, &mut line, files, row)?;
-    push_id_member(alloc, &mut line, files, row)?;
+    end_object(alloc, &mut line, files, row, shown)?;
+    Ok(line)
+}
+
+/// Appends to an object of a row what stands at its end: the properties that are asked for, its short id, its group, and the text
+/// of its line.
+pub fn end_object<T: Text>(
+    alloc: Global,
+    line: &mut OneLine,
+    files: &LoadReport<'_, '_, T>,
+    row: &ViewRow,
+    shown: &GroupedText<'_>,
+) -> Result<(), Fault> {
+    push_properties(alloc, line, files, row)?;
+    push_id_member(alloc, line, files, row)?;
     if let Some(group) = shown.group {
         line.text("group", group)?;
     }
-    end(&mut line, shown.text)?;
-    Ok(line)
+    end(line, shown.text)?;
+    Ok(())
 }
 
 /// Appends a row's group as one more field; it is empty where the row is in none.

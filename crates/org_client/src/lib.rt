@@ -16,7 +16,7 @@
 //! let text = arranged_bytes(alloc, &files, &answer, question, look)?;
 //! ```
 //!
-//! Lines of `orgq/src/session.rt`. Tests: cases `tests/orgq/*`.
+//! Lines of `orgq_answers/src/text.rt`. Tests: cases `tests/orgq/*`.
 #![tactic(auto)]
 
 mod asked;
@@ -26,6 +26,7 @@ mod clock_places;
 mod clocks;
 mod components;
 mod details;
+mod efforts;
 mod event_rules;
 mod fields;
 mod file_set;
@@ -65,23 +66,28 @@ pub use calendar_names::{full_day_name, month_name, short_month};
 pub use clock_places::shown_clocks;
 pub use clocks::{ClockRow, clock_rows, push_clock_minute};
 pub use components::{CalendarDays, push_events, push_tasks, task_stamps};
+pub use efforts::{Efforts, has_effort, rows_of_efforts, stamps_of_efforts};
 pub use fields::csv_line;
 pub use file_set::FileSet;
 pub use found::{found_line, found_rows, push_first_match};
-pub use grouped_lines::{GroupedText, grouped_json_line, grouped_template_line, push_group_field};
+pub use grouped_lines::{
+    GroupedText, end_object, grouped_json_line, grouped_template_line, push_group_field,
+};
 pub use json::{day_line, json_line};
 pub use kept_headings::KeptHeadings;
 pub use line_starts::{LinePlace, LineStarts};
 pub use log_labels::log_label;
 pub use logged::{LogChoice, log_rows};
-pub use matching::{matching_rows, matching_stamps};
+pub use matching::{matching_clocks, matching_rows, matching_stamps};
+pub use members::Members;
 pub use next::{Upcoming, next_rows};
 pub use one_line::OneLine;
 pub use read_file::ReadFile;
 pub use reminders::{Window, rows_between};
 pub use row_groups::{GroupBy, group_names};
 pub use row_ids::{HeadingAt, RowIds, all_headings};
+pub use row_members::put_members;
 pub use row_order::{SortBy, SortKey, ranks_of};
 pub use rows::{LoadReport, ShownClock, ShownSum, ViewRow};
-pub use template::{MEMBERS, Template, template_line};
+pub use template::{MEMBERS, Part, Template, first_part, template_line};
 pub use when::{date_of, time_of};

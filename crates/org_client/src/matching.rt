@@ -3,8 +3,9 @@ ghost use Rattle.std.specs.Prelude.{◌≡◌, filter, map, IsOkUnless};
 ghost use Rattle.org_base.specs.Codes.{memory_fault};
 ghost use Rattle.org_base.specs.Results.{Gives, GivesItems};
 ghost use Rattle.org_agenda.specs.Holding.{holds_of};
-ghost use Rattle.org_client.specs.Matching.{all_meeting, heading_holds_at, holds_at, is_of_matching, is_row_matching, matching, meeting, met_rows};
+ghost use Rattle.org_client.specs.Matching.{all_clocks, all_meeting, heading_holds_at, holds_at, is_clock_matching, is_of_matching, is_row_matching, matching, meeting, met_clocks, met_rows};
 
+use crate::clocks::ClockRow;
 use org_agenda::{HeadingStamp, Row, holds_of};
 use org_base::Fault;
 use org_cal::Moment;
@@ -172,6 +173,57 @@ fn rows_meeting(
 {
     let held = held_files(alloc, inherits, expression, moment)?;
     let some = rows_held(alloc, rows, held.as_slice())?;
+    Ok(some)
+}
+
+/// Those of some clock lines whose headings meet each of these expressions at a moment, in their order.
+pub fn matching_clocks(
+    alloc: Global,
+    inherits: &Inherits<'_>,
+    rows: Vec<ClockRow>,
+    expressions: &[Match],
+    moment: &Moment,
+) -> Result<Vec<ClockRow>, Fault>
+    ensures value { GivesItems result (all_clocks expressions.now moment.now inherits.now rows.items) }
+    ensures memory { IsOkUnless result memory_fault }
+{
+    let mut some = rows;
+    for expression in expressions {
+        some = clocks_meeting(alloc, inherits, some.as_slice(), expression, moment)?;
+    }
+    Ok(some)
+}
+
+// Those of some clock lines whose headings meet an expression.
+fn clocks_meeting(
+    alloc: Global,
+    inherits: &Inherits<'_>,
+    rows: &[ClockRow],
+    expression: &Match,
+    moment: &Moment,
+) -> Result<Vec<ClockRow>, Fault>
+    ensures value { GivesItems result (met_clocks expression.now moment.now inherits.now rows.now) }
+    ensures memory { IsOkUnless result memory_fault }
+{
+    let held = held_files(alloc, inherits, expression, moment)?;
+    let some = clocks_held(alloc, rows, held.as_slice())?;
+    Ok(some)
+}
+
+// Those of some clock lines of whose headings it holds.
+fn clocks_held(
+    alloc: Global,
+    rows: &[ClockRow],
+    held: &[HeldFile],
+) -> Result<Vec<ClockRow>, AllocError>
+    ensures value { GivesItems result (filter (is_clock_matching held.now) rows.now) }
+{
+    let mut some = Vec::new(alloc);
+    for row in rows {
+        if heading_holds_at(held, row.file, row.heading) {
+            some.push(*row)?;
+        }
+    }
     Ok(some)
 }
 

@@ -17,8 +17,8 @@ use std::marker::Model;
 
 /// Members of a row, written one after the other: as those of an object of JSON, or the value of the one that has a name, as
 /// a person is told it.
-#[derive(Drop)]
-pub(crate) struct Members<'a> {
+#[derive(Debug, Drop)]
+pub struct Members<'a> {
     alloc: Global,
     only: Option<&'a str>,
     line: OneLine,

@@ -54,7 +54,7 @@ fn kind_name(kind: RowKind) -> &'static str
 }
 
 /// Puts what is said of a row beside its kind and its line: those members that apply, in their order.
-pub(crate) fn put_members<T: Text>(
+pub fn put_members<T: Text>(
     alloc: Global,
     to: &mut Members<'_>,
     files: &LoadReport<'_, '_, T>,

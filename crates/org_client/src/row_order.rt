@@ -172,8 +172,8 @@ fn priority_of(heading: &Heading<'_, '_>) -> Option<u64>
     }
 }
 
-// The minutes of an effort.
-fn effort_of(entry: &Entry) -> Option<u64>
+/// The minutes of an effort.
+pub(crate) fn effort_of(entry: &Entry) -> Option<u64>
     ensures value { result ≡ effort_in entry.now }
 {
     match entry.details.property(b"Effort") {

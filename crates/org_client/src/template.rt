@@ -13,7 +13,7 @@ use org_text::Text;
 use std::alloc::Global;
 
 /// The names of the members that rows have, but for `properties`.
-pub const MEMBERS: [&str; 35] = [
+pub const MEMBERS: [&str; 46] = [
     "kind",
     "day",
     "start",
@@ -47,6 +47,17 @@ pub const MEMBERS: [&str; 35] = [
     "group",
     "state",
     "state_before",
+    "open_below",
+    "done_below",
+    "next_below",
+    "next_date",
+    "effort_left",
+    "clocked",
+    "stuck",
+    "blocked",
+    "repeater",
+    "last_done",
+    "graph",
     "id",
     "text",
 ];
@@ -57,12 +68,14 @@ pub struct Template<'a> {
     pub(crate) text: &'a str,
 }
 
-// A part of a template.
-#[derive(Clone, Copy)]
-pub(crate) enum Part<'a> {
+/// A part of a template.
+#[derive(Clone, Copy, Debug)]
+pub enum Part<'a> {
+    /// Text that stands as it is.
     Text(&'a str),
+    /// The name of a member.
     Name(&'a str),
-    // A brace that is alone.
+    /// A brace that is alone, which no template has that was read.
     Brace,
 }
 
@@ -81,6 +94,11 @@ impl<'a> Template<'a> {
             rest = behind;
         }
         Some(Template { text })
+    }
+
+    /// Its text.
+    pub fn text(&self) -> &'a str {
+        self.text
     }
 
     /// Whether a member is named.
@@ -115,8 +133,8 @@ fn is_known(part: Part<'_>) -> bool {
     }
 }
 
-// The first part of a text, and what stands behind it; of an empty text it is empty.
-pub(crate) fn first_part(text: &str) -> (Part<'_>, &str) {
+/// The first part of a template's text, and what stands behind it; of an empty text it is empty.
+pub fn first_part(text: &str) -> (Part<'_>, &str) {
     if let Some(behind) = text.strip_prefix("{{") {
         return (Part::Text("{"), behind);
     }

@@ -11,7 +11,7 @@
 //! let found = found_lines(alloc, file_set, &inherits, &mut scan, sought)?;
 //! ```
 //!
-//! Lines of `orgq/src/search.rt`. Tests: cases `tests/orgq/search-*`.
+//! Lines of `orgq_answers/src/search.rt`. Tests: cases `tests/orgq/search-*`.
 #![tactic(auto)]
 
 mod fold;

@@ -66,12 +66,16 @@ fn named_choices(
         columns: !takes_columns(rt, matches),
         color: matches.get_str("color").is_some(),
         file: is_named || !takes_files(rt, matches, config),
+        inbox: matches.get_str("inbox").is_some(),
         inherit: matches.get_strs("inherit").is_some(),
         keywords: matches.get_str("keywords").is_some(),
         log_done: matches.get_str("log-done").is_some(),
         log_into_drawer: matches.get_str("log-into-drawer").is_some(),
         log_repeat: matches.get_str("log-repeat").is_some(),
+        next_action: matches.get_str("next-action").is_some(),
         profile: matches.get_one::<u32>("profile").is_some(),
+        project: matches.get_str("project").is_some(),
+        words: matches.get_str("words").is_some(),
     })
 }
 
@@ -93,12 +97,23 @@ fn names_no_columns<'a>(rt: &HostRuntime, front: &ArgMatches<'a>, own: &ArgMatch
 }
 
 // Whether a command takes the files that the settings name. One that adds a heading takes a single one, where it isn't to go
-// below a heading of another.
+// below a heading of another or into an inbox.
 fn takes_files(rt: &HostRuntime, matches: &ArgMatches<'_>, config: &Config) -> bool {
     match matches.subcommand() {
-        Some(("add", own)) => own.get_str("under").is_none() && has_one_file(rt, config),
+        Some(("add", own)) => {
+            let is_free = own.get_str("under").is_none() && own.get_str("inbox").is_none();
+            is_free && !has_inbox(config) && has_one_file(rt, config)
+        }
         _ => true,
     }
+}
+
+// Whether the settings name an inbox.
+fn has_inbox(config: &Config) -> bool {
+    config
+        .settings
+        .iter()
+        .any(|setting| setting.choice == Choice::Inbox)
 }
 
 // Whether the settings name one file, and no folder.

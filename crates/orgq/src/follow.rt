@@ -1,11 +1,12 @@
 //! The command that shows a view anew whenever a file changed or a minute passed.
 
-use crate::call::Call;
 use crate::session::answer_query;
 use clap::ArgMatches;
-use orgq_args::{Filters, has_order, is_command, names_day_option};
+use org_answer::Form;
+use orgq_answers::Call;
+use orgq_args::{Filters, environment_lines, form, has_order, names_day_option};
 use orgq_files::{INPUT, paths, push_paths};
-use orgq_messages::{BAD_ARGUMENTS, Problem, STOPPED};
+use orgq_messages::{BAD_ARGUMENTS, Problem, STOPPED, is_command};
 use std::alloc::AllocError;
 use std::io::{Write, writer};
 use std::time::{Clock, Duration, SystemTime, UNIX_EPOCH};
@@ -42,6 +43,7 @@ pub fn follow(
         Some(times) => u64::from(times),
         None => u64::MAX,
     };
+    let room = room_for(rt, own, on_terminal)?;
     let mut state = state_of(rt, own)?;
     for number in 0..times {
         if number > 0 {
@@ -50,12 +52,29 @@ pub fn follow(
         if !begin_view(rt, number > 0, on_terminal) {
             return Ok(STOPPED);
         }
-        let status = answer_query(rt, own, &mut Call::new(on_terminal, false))?;
+        let mut call = Call::new(on_terminal, false);
+        if let Some(room) = room {
+            call.fit(room);
+        }
+        let status = answer_query(rt, own, &mut call)?;
         if number + 1 == times || status == BAD_ARGUMENTS || status == STOPPED {
             return Ok(status);
         }
     }
     Ok(0)
+}
+
+// How many lines a view has room for: on a terminal all but the one below it, where rows are lines.
+fn room_for(
+    rt: &HostRuntime,
+    own: &ArgMatches<'_>,
+    on_terminal: bool,
+) -> Result<Option<usize>, Problem> {
+    if !on_terminal || !matches!(form(own)?, Form::Plain | Form::Places) {
+        return Ok(None);
+    }
+    let lines = environment_lines(rt)?;
+    Ok(lines.map(|lines| lines.saturating_sub(1)))
 }
 
 // Whether options or files stand in front of the command that are not of all commands.

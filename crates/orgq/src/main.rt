@@ -2,21 +2,12 @@
 //! The program `orgq`: agendas, lists and clock tables of one's own files, and what in them will not show.
 #![tactic(auto)]
 
-mod call;
-mod check;
-mod clock_status;
-mod clocks;
 mod counted;
 mod follow;
-mod head;
-mod log;
-mod page;
-mod search;
 mod session;
 mod shown_config;
 mod view;
 mod views;
-mod words;
 
 use crate::counted::run_with_config;
 use org_save::hold_streams;

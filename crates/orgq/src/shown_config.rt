@@ -71,6 +71,10 @@ fn push_named(
         "log-done",
         "log-repeat",
         "log-into-drawer",
+        "project",
+        "next-action",
+        "inbox",
+        "words",
     ] {
         if let Some(value) = matches.get_str(option) {
             push_line(alloc, lines, COMMAND_LINE, option, value)?;

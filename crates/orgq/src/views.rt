@@ -1,11 +1,11 @@
 //! The views of one's own, and the command that lists them.
 
-use crate::call::Call;
 use crate::session::{wants_color, without_front};
 use clap::ArgMatches;
 use org_answer::{Form, push_seen};
+use orgq_answers::Call;
 use orgq_args::form;
-use orgq_files::read_view_file;
+use orgq_files::{ViewFile, read_view_files};
 use orgq_messages::{BAD_ARGUMENTS, NO_MATCH, Problem, out_of_memory, print_all, say_of};
 use orgq_views::{Block, Refusal, View, read_views};
 use std::alloc::{AllocError, Global};
@@ -17,10 +17,10 @@ pub struct Named {
     pub views: Vec<View>,
 }
 
-/// The views that there are, or the exit status where their file is refused, which is said.
+/// The views that there are, by their files, or the exit status where a file is refused, which is said.
 #[derive(Drop)]
 pub enum Found {
-    Views(Named),
+    Views(Vec<Named>),
     Refused(u8),
 }
 
@@ -35,25 +35,74 @@ pub fn print_views(rt: &HostRuntime, matches: &ArgMatches<'_>, call: &Call) -> R
         Found::Views(named) => named,
         Found::Refused(status) => return Ok(status),
     };
-    let status = if named.views.is_empty() { NO_MATCH } else { 0 };
+    let is_none = named.iter().all(|file| file.views.is_empty());
+    let status = if is_none { NO_MATCH } else { 0 };
     if matches.get_flag("quiet") {
         return Ok(status);
     }
-    let lines = view_lines(rt.alloc(), named.views.as_slice(), is_seen)?;
+    let lines = view_lines(rt.alloc(), named.as_slice(), is_seen)?;
     Ok(print_all(rt, lines.as_slice(), status))
 }
 
-/// The views of the configuration folder's file.
+/// The views of the configuration folder's files, each name once.
 pub fn load_views(rt: &HostRuntime) -> Result<Found, Problem> {
-    let file = read_view_file(rt)?;
-    match read_views(rt.alloc(), file.text.as_str()) {
-        Ok(views) => Ok(Found::Views(Named {
-            path: file.path,
-            views,
-        })),
-        Err(refusal) => Ok(Found::Refused(refuse_file(rt, file.path.as_str(), refusal))),
+    let files = read_view_files(rt)?;
+    let mut named: Vec<Named> = Vec::new(rt.alloc());
+    for file in files.as_slice() {
+        match views_of(rt.alloc(), named.as_slice(), file) {
+            Ok(own) => named.push(own).map_err(AllocError::from)?,
+            Err(refusal) => {
+                return Ok(Found::Refused(refuse_file(rt, file.path.as_str(), refusal)));
+            }
+        }
     }
+    Ok(Found::Views(named))
 }
+
+// The views of a file, none of which has the name of one before it.
+fn views_of(alloc: Global, before: &[Named], file: &ViewFile) -> Result<Named, Refusal> {
+    let views = read_views(alloc, file.text.as_str())?;
+    let mut known: usize = 0;
+    for named in before {
+        known = known.saturating_add(named.views.len());
+    }
+    if known.saturating_add(views.len()) > MOST_VIEWS {
+        return Err(Refusal::Line(1, MANY));
+    }
+    if let Some(line) = known_line(before, views.as_slice()) {
+        return Err(Refusal::Line(line, TWICE));
+    }
+    let Ok(path) = String::from_str(alloc, file.path.as_str()) else {
+        return Err(Refusal::Memory);
+    };
+    Ok(Named { path, views })
+}
+
+// The line of the first of some views whose name stands in a file before.
+fn known_line(before: &[Named], views: &[View]) -> Option<usize> {
+    for view in views {
+        if before.iter().any(|named| view_of(
+            named.views.as_slice(),
+            view.name.as_str(),
+        ).is_some())
+        {
+            return Some(view.line);
+        }
+    }
+    None
+}
+
+/// The view of a name.
+pub fn view_of<'a>(views: &'a [View], name: &str) -> Option<&'a View> {
+    views.iter().find(|view| view.name.as_str() == name)
+}
+
+// The most views of all files.
+const MOST_VIEWS: usize = 200;
+
+const MANY: &str = "with those of this file there are more than 200 views";
+
+const TWICE: &str = "a view of this name stands in another file";
 
 // Says why a file of views is refused, and gives the status.
 fn refuse_file(rt: &HostRuntime, path: &str, refusal: Refusal) -> u8 {
@@ -75,10 +124,12 @@ pub fn say_at(rt: &HostRuntime, path: &str, number: usize, why: &str) {
 }
 
 // A line for each view: its name, and what it is for, or else what it shows.
-fn view_lines(alloc: Global, views: &[View], is_seen: bool) -> Result<Vec<u8>, AllocError> {
+fn view_lines(alloc: Global, named: &[Named], is_seen: bool) -> Result<Vec<u8>, AllocError> {
     let mut lines = Vec::new(alloc);
-    for view in views {
-        push_view(&mut lines, view, is_seen)?;
+    for file in named {
+        for view in &file.views {
+            push_view(&mut lines, view, is_seen)?;
+        }
     }
     Ok(lines)
 }

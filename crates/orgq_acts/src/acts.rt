@@ -13,9 +13,9 @@ use org_act::Unamended;
 use org_cal::{Day, Moment};
 use org_save::{Disk, Opened, open};
 use orgq_args::{
-    ActWords, HeadingPlace, Look, TypedPlace, Wish, WishedAct, added_place, date_words,
-    done_keyword, keyword_words, lend, planning_keyword, read_body, read_wish, set_keyword,
-    typed_words, wished_heading, wished_planning,
+    ActWords, HeadingPlace, Look, TypedPlace, Wish, WishedAct, added_place, captured_heading,
+    date_words, done_keyword, keyword_words, lend, planning_keyword, read_body, read_wish,
+    set_keyword, typed_words, wished_planning,
 };
 use orgq_files::{LeftOut, refuse_words};
 use orgq_messages::{
@@ -51,7 +51,7 @@ fn change_named<
     let words = typed_words(rt.alloc(), own)?;
     let named = named_words(name, own, words.as_slice())?;
     let asked = wished_act(rt.alloc(), name, own, named.wanted, moment.day)?;
-    refuse_words(matches)?;
+    refuse_words(rt.alloc(), matches)?;
     let mut wish = read_wish(rt.alloc(), matches, own, asked, moment)?;
     wish.look.is_seen = is_seen;
     Ok(Some(by_wish(rt, matches, own, named.places, &wish)?))
@@ -97,7 +97,7 @@ fn add<R: AllocGlobal + Clock + Env + Files<File = File> + Input + Print + Eprin
     moment: Moment,
     is_seen: bool,
 ) -> Result<u8, Problem> {
-    refuse_words(matches)?;
+    refuse_words(rt.alloc(), matches)?;
     let look = Look {
         has_place: true,
         is_quiet: matches.get_flag("quiet"),
@@ -124,7 +124,7 @@ fn add_at<R: AllocGlobal + Clock + Env + Files<File = File> + Input + Print + Ep
     asked: (Moment, bool),
 ) -> Result<u8, Problem> {
     let (moment, is_seen) = asked;
-    let mut heading = wished_heading(rt.alloc(), own, place, moment.day)?;
+    let mut heading = captured_heading(rt.alloc(), own, place, moment.day)?;
     match read_body(rt, own) {
         Ok(body) => heading.body = body,
         Err(LeftOut::Memory) => return Ok(out_of_memory(rt)),

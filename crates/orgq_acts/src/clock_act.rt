@@ -94,7 +94,7 @@ fn begin<R: AllocGlobal + Clock + Env + Files<File = File> + Input + Print + Epr
     rt: &R,
     asked: &Asked<'_, '_>,
 ) -> Result<u8, Problem> {
-    refuse_words(asked.matches)?;
+    refuse_words(rt.alloc(), asked.matches)?;
     let wish = asked.wish(rt.alloc(), ClockStep::In(asked.moment))?;
     match find_heading(rt, asked, &wish)? {
         Search::One(place) => begin_at(rt, asked, place, &wish),

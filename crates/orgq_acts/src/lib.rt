@@ -4,7 +4,7 @@
 //! that the act makes.
 //!
 //! ```
-//! if let Some(status) = act(rt, matches, moment, on_terminal || is_colored)? {
+//! if let Some(status) = act(rt, matches, options.moment, is_seen)? {
 //!     return Ok(status);
 //! }
 //! ```

@@ -92,8 +92,8 @@ pub fn lend<'a>(alloc: Global, tags: &'a [String]) -> Result<Vec<&'a str>, Alloc
     Ok(lent)
 }
 
-/// Where the heading goes: the file that is named, and the line of the heading below which it goes, 0 without one; or the heading
-/// below which it goes.
+/// Where the heading goes: the file that is named, else the inbox, and the line of the heading below which it goes, 0 without one;
+/// or the heading below which it goes.
 pub fn added_place(
     alloc: Global,
     matches: &ArgMatches<'_>,
@@ -112,13 +112,22 @@ pub fn added_place(
             TypedPlace::Id(id) => Ok(TypedPlace::Id(id)),
             TypedPlace::At(_) | TypedPlace::AtWithId(..) => Err(Problem::FileBeside),
         },
-        (None, [name]) if *name != INPUT => Ok(TypedPlace::At(HeadingPlace {
-            name: String::from_str(alloc, name)?,
-            line: 0,
-            found_in: None,
-        })),
+        (None, [name]) if *name != INPUT => behind_all(alloc, name),
+        (None, []) => match own.get_str("inbox") {
+            Some(name) => behind_all(alloc, name),
+            None => Err(Problem::OneFile),
+        },
         (None, _) => Err(Problem::OneFile),
     }
+}
+
+// The place behind all headings of a file.
+fn behind_all(alloc: Global, name: &str) -> Result<TypedPlace, Problem> {
+    Ok(TypedPlace::At(HeadingPlace {
+        name: String::from_str(alloc, name)?,
+        line: 0,
+        found_in: None,
+    }))
 }
 
 /// The heading that the words of `add` ask for, and the line below which it goes, without its body.
@@ -159,8 +168,8 @@ fn date_of(text: Option<&str>, today: Day) -> Result<Option<TypedDate>, Problem>
     }
 }
 
-// The words of the title; the last one stands for a body where it is a dash.
-fn title_words<'a, 'b>(own: &'b ArgMatches<'a>) -> (&'b [&'a str], bool) {
+/// The words of the title; the last one stands for a body where it is a dash.
+pub(crate) fn title_words<'a, 'b>(own: &'b ArgMatches<'a>) -> (&'b [&'a str], bool) {
     match own.get_strs("TITLE").unwrap_or(&[]) {
         [words @ .., last] if *last == INPUT => (words, true),
         words => (words, false),

@@ -12,6 +12,8 @@ f;file;PATH;A file, or a folder, whose *.org files are meant; - is standard inpu
 ;at;DATE TIME;The moment, as \"2024-02-28 10:30\"; without it now
 ;keywords;WORDS;Keywords of files without such a line, as \"TODO NEXT | DONE\"
 ;inherit;NAME;A property whose values headings inherit
+;project;EXPR;Projects are the headings of which the expression holds
+;next-action;EXPR;What keeps a project from being stuck, as an expression
 ;profile;N;The profile that agendas follow, 1 or 2
 n;places;;FILE:LINE: in front of each row, as grep -n has it
 i;ids;;Short ids of headings: in front of rows, in JSON and in fields
@@ -25,6 +27,8 @@ i;ids;;Short ids of headings: in front of rows, in JSON and in fields
 ;log-done;HOW;How it is logged that a heading is done, where its file doesn't say: no, time or note
 ;log-repeat;HOW;How a task that comes again is logged, where its file doesn't say: no, time or note
 ;log-into-drawer;DRAWER;The drawer of log lines, where a file doesn't say; no, yes for LOGBOOK, or its name
+;inbox;FILE;The file that add writes, where neither -f nor --under names one
+;words;WHETHER;Words at the end of add's title say date, tags and priority: yes or no
 q;quiet;;Nothing is printed; the status tells whether there is a row
 ;no-config;;The settings of the file config don't count";
 
@@ -48,6 +52,7 @@ const OF_ROWS: &str = "\
 ;match;EXPR;Only rows of headings of which the expression holds
 ;tag;TAG;Only rows of headings with the tag; of several, with all of them
 ;category;NAME;Only rows of headings of that category
+;effort;RANGE;Only rows of headings with so much effort: -0:30, 0:30-2:00, 1:00-
 ;limit;N;At most so many rows, the first ones";
 
 // How the rows of lists and of each day stand.
@@ -62,6 +67,9 @@ const OF_CLOCK: &str = "\
 ;step;STEP;A table for each day or week: day or week
 ;effort;;Effort sums beside those of clocks
 ;match;EXPR;Only headings of which the expression holds count
+;tag;TAG;Only headings with the tag count; of several, with all of them
+;category;NAME;Only headings of that category count
+;limit;N;At most so many rows, the first ones
 ;chart;;Bars: each row's part of the total, or with --step a line for each step";
 
 const OF_CALENDAR: &str = "\
@@ -70,11 +78,19 @@ const OF_CALENDAR: &str = "\
 ;ascii;;Signs that any terminal has, in place of those for boxes
 ;match;EXPR;Only rows of headings of which the expression holds
 ;tag;TAG;Only rows of headings with the tag; of several, with all of them
-;category;NAME;Only rows of headings of that category";
+;category;NAME;Only rows of headings of that category
+;effort;RANGE;Only rows of headings with so much effort: -0:30, 0:30-2:00, 1:00-";
 
 const OF_CLOCKS: &str = "\
 ;from;DATE;The first day, in place of a block
 ;to;DATE;The last day; without it today";
+
+const OF_PROJECTS: &str = "\
+;all;;Those too that stand below other projects
+;stuck;;Those that nothing keeps going
+;blocked;;Tasks that wait for others, in place of projects";
+
+const OF_HABITS: &str = ";ascii;;Signs that any terminal has, in graphs";
 
 const OF_LOG: &str = "\
 ;from;DATE;The first day, in place of a block
@@ -94,7 +110,7 @@ o;output;FILE;The file that it is written into, in place of an older page";
 
 const OF_NEXT: &str = "\
 d;days;N;How many days from today on, 1 to 366; without it 30
-;within;MINUTES;Only what begins in so many minutes, 0 to 100000
+;within;MINUTES;Only what begins in so many minutes, as 90 or 1h30, 0 to 100000
 ;since;DATE TIME;What begins after that moment and no later than now, each time of a stamp
 ;lead;MINUTES;With --since, so many minutes ahead, 0 to 100000";
 
@@ -110,18 +126,6 @@ const OF_FOLLOW: &str = ";times;N;So many views, and no more";
 const VERSION: &str = "\
 0.4.0
 kit and commit: not known to a build; where a package has the file PROOF, that names both";
-
-// The commands.
-const COMMANDS: [&str; 24] = [
-    "agenda", "calendar", "todo", "match", "search", "clock", "clocks", "log", "next", "ical",
-    "page", "view", "views", "keywords", "tags", "check", "follow", "done", "set", "schedule",
-    "deadline", "add", "undo", "config",
-];
-
-/// Whether a word is the name of a command.
-pub fn is_command(word: &str) -> bool {
-    COMMANDS.iter().any(|name| *name == word)
-}
 
 /// Whether an option that may stand before a command takes a value; its name or its letter says which one.
 pub fn takes_value(name: &str) -> bool {
@@ -154,6 +158,8 @@ fn with_commands<'a>(
         .subcommand(todo(alloc)?)?
         .subcommand(match_list(alloc)?)?
         .subcommand(search(alloc)?)?
+        .subcommand(projects(alloc)?)?
+        .subcommand(habits(alloc)?)?
         .subcommand(clock)?
         .subcommand(clocks(alloc)?)?
         .subcommand(log(alloc)?)?
@@ -215,13 +221,13 @@ fn agenda<'a>(alloc: Global) -> Result<Command<'a>, AllocError> {
 }
 
 fn calendar<'a>(alloc: Global) -> Result<Command<'a>, AllocError> {
-    let view = word(alloc, "VIEW", "month or week; without it the month");
+    let view = word(alloc, "VIEW", "month, week or year; without it the month");
     let date = word(
         alloc,
         "DATE",
         "A day in it: tomorrow, -1w, 2024-02-28, nextmonth; without it today",
     );
-    let calendar = Command::new(alloc, "calendar").about("A month or a week as a picture");
+    let calendar = Command::new(alloc, "calendar").about("A month, a week or a year as a picture");
     let calendar = calendar.arg(view.allow_hyphen_values(true))?;
     let calendar = calendar.arg(date.allow_hyphen_values(true))?;
     with_options(alloc, calendar, OF_CALENDAR, false)
@@ -255,6 +261,32 @@ fn search<'a>(alloc: Global) -> Result<Command<'a>, AllocError> {
     with_options(alloc, search.arg(words)?, OF_ROWS, false)
 }
 
+fn projects<'a>(alloc: Global) -> Result<Command<'a>, AllocError> {
+    let projects = Command::new(alloc, "projects").about(
+        "The headings with tasks below: how many are open, done and next",
+    );
+    let projects = with_options(alloc, projects, OF_PROJECTS, false)?;
+    with_options(
+        alloc,
+        with_options(alloc, projects, OF_ROWS, false)?,
+        OF_ORDER,
+        false,
+    )
+}
+
+fn habits<'a>(alloc: Global) -> Result<Command<'a>, AllocError> {
+    let habits = Command::new(alloc, "habits").about(
+        "The habits, each with a graph of when it was done",
+    );
+    let habits = with_options(alloc, habits, OF_HABITS, false)?;
+    with_options(
+        alloc,
+        with_options(alloc, habits, OF_ROWS, false)?,
+        OF_ORDER,
+        false,
+    )
+}
+
 fn clock<'a>(alloc: Global) -> Result<Command<'a>, AllocError> {
     let block = word(
         alloc,
@@ -274,7 +306,12 @@ fn clocks<'a>(alloc: Global) -> Result<Command<'a>, AllocError> {
     );
     let clocks = Command::new(alloc, "clocks").about("The clock lines of some days");
     let clocks = clocks.arg(block.allow_hyphen_values(true))?;
-    with_options(alloc, clocks, OF_CLOCKS, false)
+    with_options(
+        alloc,
+        with_options(alloc, clocks, OF_CLOCKS, false)?,
+        OF_ROWS,
+        false,
+    )
 }
 
 fn log<'a>(alloc: Global) -> Result<Command<'a>, AllocError> {

@@ -33,13 +33,14 @@ pub fn read_question<'a>(
         Some(("ical", own)) => asked_ical(own, days, moment.day, made),
         None => Ok(Query::Agenda(days_from(moment.day, days.unwrap_or(1))?)),
         Some(_) if days.is_some() => Err(Problem::DaysOf),
-        Some((name, own)) => asked_list(alloc, name, own, moment),
+        Some((name, own)) => asked_list(alloc, matches, name, own, moment),
     }
 }
 
 // What a command asks for that has no days of its own.
 fn asked_list<'a>(
     alloc: Global,
+    matches: &ArgMatches<'a>,
     name: &str,
     own: &ArgMatches<'a>,
     moment: &Moment,
@@ -47,7 +48,7 @@ fn asked_list<'a>(
     match name {
         "todo" => Ok(Query::Todo(texts(alloc, own.get_strs("KEYWORD"))?)),
         "match" => Ok(Query::Match(own.get_str("EXPR").unwrap_or(""))),
-        _ => asked_table(alloc, own, moment),
+        _ => asked_table(alloc, matches, own, moment),
     }
 }
 
@@ -78,6 +79,40 @@ fn asked_days(own: &ArgMatches<'_>, days: Option<u32>, moment: &Moment) -> Resul
     days_from(period.first, count)
 }
 
+// Within how many minutes a row has to begin, if that is asked for.
+fn within_of(own: &ArgMatches<'_>) -> Result<Option<u32>, Problem> {
+    let Some(text) = own.get_str("within") else {
+        return Ok(None);
+    };
+    match minutes_of(text) {
+        Some(minutes) if minutes <= MOST_MINUTES => Ok(Some(minutes)),
+        _ => Err(Problem::Within),
+    }
+}
+
+// How many minutes `--within` names at most.
+const MOST_MINUTES: u32 = 100_000;
+
+// The minutes that a text says: `90`, `1h`, `1h30` or `1:30`.
+fn minutes_of(text: &str) -> Option<u32> {
+    match text.split_once(['h', ':']) {
+        None => digits_of(text),
+        Some((hours, "")) if text.ends_with('h') => digits_of(hours)?.checked_mul(60),
+        Some((hours, minutes)) => digits_of(hours)?
+            .checked_mul(60)?
+            .checked_add(digits_of(minutes)?),
+    }
+}
+
+// The number that digits say.
+fn digits_of(text: &str) -> Option<u32> {
+    if text.bytes().all(|byte| byte.is_ascii_digit()) {
+        text.parse::<u32>().ok()
+    } else {
+        None
+    }
+}
+
 // Days from today on as a calendar that is made at a moment.
 fn asked_ical<'a>(
     own: &ArgMatches<'a>,
@@ -99,7 +134,7 @@ fn asked_next<'a>(
     days: Option<u32>,
     moment: &Moment,
 ) -> Result<Query<'a>, Problem> {
-    let within = own.get_one::<u32>("within");
+    let within = within_of(own)?;
     let count = own.get_one::<u32>("days").or(days);
     let lead = own.get_one::<u32>("lead");
     let Some(since) = own.get_str("since") else {
@@ -165,6 +200,7 @@ fn days_from(first: Day, count: u32) -> Result<Days, Problem> {
 
 fn asked_table<'a>(
     alloc: Global,
+    matches: &ArgMatches<'a>,
     own: &ArgMatches<'a>,
     moment: &Moment,
 ) -> Result<Query<'a>, Problem> {
@@ -178,9 +214,11 @@ fn asked_table<'a>(
     if table_count(&period, step) > MOST_DAYS as usize {
         return Err(Problem::Tables);
     }
+    let filters = read_filters(matches)?;
+    let expression = filters.one_expression(alloc)?;
     Ok(Query::Clock(ClockQuery {
-        options: clock_options(alloc, own)?,
-        expression: own.get_str("match").unwrap_or(""),
+        options: clock_options(alloc, own, expression.as_str())?,
+        expression: filters.expression.unwrap_or(""),
         period,
         is_chart: own.get_flag("chart"),
     }))
@@ -220,15 +258,45 @@ fn typed_days(text: &str, today: Day) -> Option<Period> {
     Period::of_word(text.as_bytes(), today)
 }
 
+// Whether a command's rows are chosen by their headings.
+fn takes_filters(name: &str) -> bool {
+    matches!(
+        name,
+        "agenda"
+            | "calendar"
+            | "clocks"
+            | "habits"
+            | "ical"
+            | "log"
+            | "match"
+            | "next"
+            | "projects"
+            | "search"
+            | "todo"
+    )
+}
+
+// What chooses among the headings that count in a clock table.
+fn of_table<'a, 'b>(filters: Filters<'a, 'b>, is_chart: bool) -> Result<Filters<'a, 'b>, Problem> {
+    if filters.efforts.is_some() {
+        return Err(Problem::EffortOf);
+    }
+    if filters.limit.is_some() && is_chart {
+        return Err(Problem::LimitOf);
+    }
+    Ok(filters)
+}
+
 /// What chooses among the rows: words of the command itself, and words in front of it.
 pub fn read_filters<'a, 'b>(matches: &'b ArgMatches<'a>) -> Result<Filters<'a, 'b>, Problem> {
     let front = Filters::of(matches);
     match matches.subcommand() {
         None => Ok(front),
         Some(("calendar", _)) if front.limit.is_some() => Err(Problem::LimitOf),
-        Some(
-            ("agenda" | "next" | "calendar" | "ical" | "log" | "search" | "todo" | "match", own),
-        ) => Ok(Filters::of(own).or(&front)),
+        Some(("clock", own)) if own.subcommand().is_none() => {
+            of_table(Filters::of_table(own).or(&front), own.get_flag("chart"))
+        }
+        Some((name, own)) if takes_filters(name) => Ok(Filters::of(own).or(&front)),
         Some(_) if front.chooses() => Err(Problem::FilterOf),
         Some(_) if front.limit.is_some() => Err(Problem::LimitOf),
         Some(_) => Ok(Filters::within(None)),

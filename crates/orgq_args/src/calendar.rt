@@ -2,8 +2,8 @@
 
 use crate::options::refused_word;
 use clap::ArgMatches;
-use org_answer::{Calendar, Canvas, Days, View};
-use org_cal::{Day, Moment, Period, Unit};
+use org_answer::{Calendar, Canvas, View};
+use org_cal::{Day, Moment, Period};
 use org_look::Signs;
 use orgq_messages::{Problem, Variable, value_of};
 use std::rt::Env;
@@ -27,6 +27,8 @@ pub fn asked_calendar(
     let (view, date) = match (own.get_str("VIEW"), own.get_str("DATE")) {
         (Some("month"), date) => (View::Month, date),
         (Some("week"), date) => (View::Week, date),
+        (Some("year"), date) => (View::Year, date),
+        (Some(date), None) if is_year(date) => (View::Year, Some(date)),
         (date, None) => (View::Month, date),
         (Some(word), Some(_)) => return Err(refused_word(word, Problem::View)),
         (None, Some(_)) => return Err(Problem::View),
@@ -36,13 +38,13 @@ pub fn asked_calendar(
         None => moment.day,
     };
     let lines = own.get_one::<u32>("lines").unwrap_or(LINES);
-    Ok(Calendar {
-        view,
-        day,
-        days: days_of(view, day)?,
-        lines: lines as usize,
-        canvas: canvas_of(own, columns),
-    })
+    Calendar::of(view, day, lines as usize, canvas_of(own, columns)).ok_or(Problem::Days)
+}
+
+// Whether a word names a year.
+fn is_year(word: &str) -> bool {
+    let is_number = word.len() == 4 && word.bytes().all(|byte| byte.is_ascii_digit());
+    is_number || matches!(word, "thisyear" | "lastyear" | "nextyear")
 }
 
 // How many lines a day of a month takes at most, where none is named.
@@ -53,24 +55,6 @@ fn day_typed(text: &str, today: Day) -> Result<Day, Problem> {
         Some(period) => Ok(period.first),
         None => Err(refused_word(text, Problem::Date)),
     }
-}
-
-// The whole weeks of a view.
-fn days_of(view: View, day: Day) -> Result<Days, Problem> {
-    let days = match view {
-        View::Week => Days::new(day.monday(), 7),
-        View::Month => days_of_month(day),
-    };
-    days.ok_or(Problem::Days)
-}
-
-fn days_of_month(day: Day) -> Option<Days> {
-    let (year, month, _) = day.parts();
-    let first = Day::of(year, month, 1).ok()?;
-    let next = first.add_units(1, Unit::Month)?;
-    let monday = first.monday();
-    let count = next.number().saturating_sub(monday.number());
-    Days::new(monday, count.div_ceil(7) * 7)
 }
 
 // How wide a terminal is where nothing says it.

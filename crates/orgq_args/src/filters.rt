@@ -1,19 +1,23 @@
-//! Which headings' rows agendas and what comes next show, and how many rows.
+//! Which headings' rows commands show, and how many rows.
 
+use crate::efforts::read_efforts;
+use crate::terms::with_terms;
 use clap::ArgMatches;
 use org_answer::read_expression;
 use org_base::Fault;
+use org_client::Efforts;
 use org_match::Match;
 use orgq_messages::Problem;
-use std::alloc::Global;
+use std::alloc::{AllocError, Global};
 
-/// What rows are shown: those of headings that meet the expression, have the tags and are of the category, as many as the
-/// limit says; what isn't named leaves out none.
+/// What rows are shown: those of headings that meet the expression, have the tags and the effort and are of the category, as many as
+/// the limit says; what isn't named leaves out none.
 #[derive(Clone, Copy, Debug)]
 pub struct Filters<'a, 'b> {
     pub expression: Option<&'a str>,
     pub tags: Option<&'b [&'a str]>,
     pub category: Option<&'a str>,
+    pub efforts: Option<&'a str>,
     pub limit: Option<u32>,
 }
 
@@ -24,16 +28,25 @@ impl<'a, 'b> Filters<'a, 'b> {
             expression: None,
             tags: None,
             category: None,
+            efforts: None,
             limit,
         }
     }
 
     /// Those of a command's words.
     pub fn of(matches: &'b ArgMatches<'a>) -> Filters<'a, 'b> {
+        let mut filters = Filters::of_table(matches);
+        filters.efforts = matches.get_str("effort");
+        filters
+    }
+
+    /// Those of the words of a command whose efforts are sums.
+    pub fn of_table(matches: &'b ArgMatches<'a>) -> Filters<'a, 'b> {
         Filters {
             expression: matches.get_str("match"),
             tags: matches.get_strs("tag"),
             category: matches.get_str("category"),
+            efforts: None,
             limit: matches.get_one::<u32>("limit"),
         }
     }
@@ -44,16 +57,38 @@ impl<'a, 'b> Filters<'a, 'b> {
             expression: self.expression.or(others.expression),
             tags: self.tags.or(others.tags),
             category: self.category.or(others.category),
+            efforts: self.efforts.or(others.efforts),
             limit: self.limit.or(others.limit),
         }
     }
 
     /// Whether headings are chosen.
     pub fn chooses(&self) -> bool {
-        self.expression.is_some() || self.tags.is_some() || self.category.is_some()
+        self.expression.is_some()
+            || self.tags.is_some()
+            || self.category.is_some()
+            || self.efforts.is_some()
     }
 
-    /// Each of them as an expression, which is read.
+    /// The efforts, which are read.
+    pub fn efforts(&self) -> Result<Option<Efforts>, Problem> {
+        read_efforts(self.efforts)
+    }
+
+    /// All of them but efforts as one expression, which isn't read; empty where there are none.
+    pub(crate) fn one_expression(&self, alloc: Global) -> Result<String, AllocError> {
+        let mut terms = String::new(alloc);
+        for tag in self.tags.unwrap_or(&[]) {
+            write!(terms, "+{tag}")?;
+        }
+        if let Some(category) = self.category {
+            write!(terms, "+CATEGORY=\"{category}\"")?;
+        }
+        let expression = self.expression.unwrap_or("");
+        with_terms(alloc, expression, terms.as_str())
+    }
+
+    /// Each of them but efforts as an expression, which is read.
     pub fn expressions(&self, alloc: Global) -> Result<Vec<Match>, Problem> {
         let mut expressions = Vec::new(alloc);
         if let Some(expression) = self.expression {
@@ -82,7 +117,8 @@ fn read_tag(alloc: Global, tag: &str) -> Result<Match, Problem> {
     Ok(read_expression(alloc, tag)?)
 }
 
-fn is_of_tag(character: char) -> bool {
+/// Whether a character may stand in a tag.
+pub(crate) fn is_of_tag(character: char) -> bool {
     character.is_alphanumeric() || matches!(character, '_' | '@' | '#' | '%')
 }
 

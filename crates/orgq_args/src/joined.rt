@@ -1,6 +1,7 @@
 //! Values of options that are spelled as commands are.
 
-use crate::arguments::{is_command, takes_value};
+use crate::arguments::takes_value;
+use orgq_messages::is_command;
 use std::alloc::{AllocError, Global};
 
 /// The words, with the value of an option joined to it where it has the name of a command: the parser would take it for one.

@@ -70,6 +70,7 @@ fn option<'a>(alloc: Global, line: &'static str) -> Arg<'a> {
         | "link"
         | "output"
         | "note"
+        | "effort"
         | "sort" => { arg.allow_hyphen_values(true) }
         "limit" | "times" => arg.value_parser(value_parser!(u32).range(1..=1_000_000)),
         "profile" => arg.value_parser(value_parser!(u32).range(1..=2)),
@@ -78,7 +79,7 @@ fn option<'a>(alloc: Global, line: &'static str) -> Arg<'a> {
         "columns" => arg.value_parser(value_parser!(u32).range(20..=1000)),
         "lines" if value == "HEIGHT" => arg.value_parser(value_parser!(u32).range(5..=1000)),
         "lines" => arg.value_parser(value_parser!(u32).range(2..=60)),
-        "within" | "lead" | "alarm" => arg.value_parser(value_parser!(u32).range(0..=100_000)),
+        "lead" | "alarm" => arg.value_parser(value_parser!(u32).range(0..=100_000)),
         _ => arg,
     }
 }

@@ -10,6 +10,9 @@ use std::collections::BTreeSet;
 
 /// The form that the options name: of several the first in this order counts, but `--format` stands alone.
 pub fn form<'a>(matches: &ArgMatches<'a>) -> Result<Form<'a>, Problem> {
+    if matches.get_flag("json") && matches.get_flag("csv") {
+        return Err(Problem::TwoForms);
+    }
     let Some(text) = matches.get_str("format") else {
         return Ok(named_form(matches));
     };
@@ -111,8 +114,13 @@ pub fn without_rows(matches: &ArgMatches<'_>) -> Result<(), Problem> {
     Ok(())
 }
 
-/// The options of a clock table, as the text that tables are asked for by.
-pub fn clock_options(alloc: Global, own: &ArgMatches<'_>) -> Result<String, AllocError> {
+/// The options of a clock table, as the text that tables are asked for by, with the expression that holds of the headings that count,
+/// if it isn't empty.
+pub fn clock_options(
+    alloc: Global,
+    own: &ArgMatches<'_>,
+    expression: &str,
+) -> Result<String, AllocError> {
     let level = own.get_one::<u32>("level").unwrap_or(2);
     // Its days are read apart.
     let mut text = format!(in alloc; "block=today maxlevel={level}")?;
@@ -122,7 +130,7 @@ pub fn clock_options(alloc: Global, own: &ArgMatches<'_>) -> Result<String, Allo
     if own.get_flag("effort") {
         text.push_str(" effort")?;
     }
-    if let Some(expression) = own.get_str("match") {
+    if !expression.is_empty() {
         write!(text, " match={expression}")?;
     }
     Ok(text)

@@ -74,7 +74,9 @@ fn order_words<'a>(matches: &ArgMatches<'a>) -> Result<OrderWords<'a>, Problem> 
         Some(("agenda", own)) if own.get_flag("grid") => {
             in_picture(OrderWords::of(own).or(&front))
         }
-        Some(("agenda" | "next" | "todo" | "match", own)) => Ok(OrderWords::of(own).or(&front)),
+        Some(("agenda" | "habits" | "next" | "projects" | "todo" | "match", own)) => {
+            Ok(OrderWords::of(own).or(&front))
+        }
         Some(_) if !front.is_empty() => Err(Problem::OrderOf),
         Some(_) => Ok(front),
     }

@@ -95,16 +95,11 @@ impl DayOptions {
         if let Some(lines) = self.lines {
             return Ok(Some(lines as usize));
         }
-        let Some(text) = value_of(rt, Variable::Lines)? else {
-            return Ok(None);
-        };
-        match text.as_str().parse::<u16>() {
-            Ok(lines) if lines > 0 => Ok(Some(usize::from(lines))),
-            _ => Ok(None),
-        }
+        environment_lines(rt)
     }
 
-    fn background<R: AllocGlobal + Env>(&self, rt: &R) -> Result<Background, Problem> {
+    /// On what letters stand where they have colours.
+    pub fn background<R: AllocGlobal + Env>(&self, rt: &R) -> Result<Background, Problem> {
         if let Some(background) = self.background {
             return Ok(background);
         }
@@ -112,6 +107,17 @@ impl DayOptions {
             Some(colors) => Ok(background_of(colors.as_str())),
             None => Ok(Background::Unknown),
         }
+    }
+}
+
+/// How many lines the environment names, if it does.
+pub fn environment_lines<R: AllocGlobal + Env>(rt: &R) -> Result<Option<usize>, Problem> {
+    let Some(text) = value_of(rt, Variable::Lines)? else {
+        return Ok(None);
+    };
+    match text.as_str().parse::<u16>() {
+        Ok(lines) if lines > 0 => Ok(Some(usize::from(lines))),
+        _ => Ok(None),
     }
 }
 

@@ -10,9 +10,9 @@ pub record ExamplesHold : Type 0 where
   pub own_keywords : names_keywords (codes "#+TODO: A | B\n* A x\n") ≡ true
   pub named_in_a_block : names_keywords (codes "#+BEGIN_EXAMPLE\n#+TODO: A | B\n#+END_EXAMPLE\n") ≡ false
   pub none_named : with_keywords (codes "* A x") (codes "A | B") ≡ codes "* A x\n#+TODO: A | B\n"
-  pub none_named_before : words_with (record { background = false; color = false; columns = false; file = false; inherit = false; keywords = false; log_done = false; log_into_drawer = false; log_repeat = false; profile = false })
+  pub none_named_before : words_with (record { background = false; color = false; columns = false; file = false; inbox = false; inherit = false; keywords = false; log_done = false; log_into_drawer = false; log_repeat = false; next_action = false; profile = false; project = false; words = false })
       ((Color, codes "never") ∷ (File, codes "a b.org") ∷ []) (codes "orgq" ∷ codes "todo" ∷ [])
       ≡ codes "orgq" ∷ codes "--color=never" ∷ codes "--file=a b.org" ∷ codes "todo" ∷ []
-  pub color_named_before : words_with (record { background = false; color = true; columns = false; file = false; inherit = true; keywords = false; log_done = false; log_into_drawer = false; log_repeat = false; profile = false })
+  pub color_named_before : words_with (record { background = false; color = true; columns = false; file = false; inbox = false; inherit = true; keywords = false; log_done = false; log_into_drawer = false; log_repeat = false; next_action = false; profile = false; project = false; words = false })
       ((Color, codes "never") ∷ (File, codes "a b.org") ∷ []) (codes "orgq" ∷ codes "todo" ∷ [])
       ≡ codes "orgq" ∷ codes "--file=a b.org" ∷ codes "todo" ∷ []

@@ -3,7 +3,7 @@
 -- Characters by their codes: 45 minus, 61 equals sign.
 use Rattle.std.specs.Prelude.{◌≡◌, ℕ, ◌++◌, Bool, not, if◌then◌else◌, List, [], ◌∷◌, OnOk, IfOk, Result, String, Vec, codes, map, string_bytes}
 use Rattle.orgq_files.specs.declared.setting.Choice.{Choice}
-use Rattle.orgq_files.specs.declared.setting.Choice.TheVariants.{Background, Color, Columns, File, Inherit, Keywords, LogDone, LogIntoDrawer, LogRepeat, Profile}
+use Rattle.orgq_files.specs.declared.setting.Choice.TheVariants.{Background, Color, Columns, File, Inbox, Inherit, Keywords, LogDone, LogIntoDrawer, LogRepeat, NextAction, Profile, Project, Words}
 use Rattle.orgq_files.specs.declared.setting.NamedChoices.{NamedChoices}
 use Rattle.orgq_files.specs.declared.setting.Setting.{Setting}
 
@@ -12,12 +12,16 @@ choice_name Background = codes "background"
 choice_name Color = codes "color"
 choice_name Columns = codes "columns"
 choice_name File = codes "file"
+choice_name Inbox = codes "inbox"
 choice_name Inherit = codes "inherit"
 choice_name Keywords = codes "keywords"
 choice_name LogDone = codes "log-done"
 choice_name LogIntoDrawer = codes "log-into-drawer"
 choice_name LogRepeat = codes "log-repeat"
+choice_name NextAction = codes "next-action"
 choice_name Profile = codes "profile"
+choice_name Project = codes "project"
+choice_name Words = codes "words"
 
 -- the command line or the environment names an option
 abbrev pub is_named : NamedChoices → Choice → Bool
@@ -25,12 +29,16 @@ is_named named Background = named.background
 is_named named Color = named.color
 is_named named Columns = named.columns
 is_named named File = named.file
+is_named named Inbox = named.inbox
 is_named named Inherit = named.inherit
 is_named named Keywords = named.keywords
 is_named named LogDone = named.log_done
 is_named named LogIntoDrawer = named.log_into_drawer
 is_named named LogRepeat = named.log_repeat
+is_named named NextAction = named.next_action
 is_named named Profile = named.profile
+is_named named Project = named.project
+is_named named Words = named.words
 
 -- an option of the file counts where it isn't named before
 abbrev pub counts : NamedChoices → Choice → Bool

@@ -53,7 +53,7 @@ impl<T: Drop> From<AllocFailed<T>> for BadLine {
 }
 
 const NO_OPTION: &str =
-    "no option of this file; there are file, keywords, inherit, profile, color, background, columns, log-done, log-repeat and log-into-drawer, each with its value behind a space";
+    "no option of this file; there are file, inbox, words, keywords, inherit, profile, color, background, columns, project, next-action, log-done, log-repeat and log-into-drawer, each with its value behind a space";
 
 const NO_COLOR: &str = "color is auto, always or never";
 
@@ -62,6 +62,8 @@ const NO_BACKGROUND: &str = "background is dark or light";
 const NO_COLUMNS: &str = "columns is a number, 20 to 1000";
 
 const NO_PROFILE: &str = "profile is 1 or 2";
+
+const NO_WORDS: &str = "words is yes or no";
 
 const NO_LOG: &str = "log-done and log-repeat are no, time or note";
 
@@ -140,7 +142,7 @@ fn push_line(
         return Err(BadLine::Because(TWICE));
     }
     let value = match choice {
-        Choice::File => path_of(alloc, value, home)?,
+        Choice::File | Choice::Inbox => path_of(alloc, value, home)?,
         _ => String::from_str(alloc, value)?,
     };
     settings.push(Setting {
@@ -166,6 +168,7 @@ fn read_line(line: &str) -> Result<(Choice, &str), BadLine> {
             Err(BadLine::Because(NO_BACKGROUND))
         }
         Some(Choice::Columns) if !is_width(value) => Err(BadLine::Because(NO_COLUMNS)),
+        Some(Choice::Words) if !matches!(value, "yes" | "no") => Err(BadLine::Because(NO_WORDS)),
         Some(Choice::Profile) if !matches!(value, "1" | "2") => {
             Err(BadLine::Because(NO_PROFILE))
         }

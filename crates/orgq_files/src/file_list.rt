@@ -10,7 +10,7 @@ use std::rt::{Env, Files};
 /// The path that stands for standard input.
 pub const INPUT: &str = "-";
 
-/// A file of the configuration folder: its path, its text, and the folder that `~/` stands for in it.
+/// The configuration folder's list of files: its path, its text, and the folder that `~/` stands for in it.
 #[derive(Debug, Drop)]
 pub struct FileList {
     pub path: String,
@@ -20,26 +20,12 @@ pub struct FileList {
 
 /// The configuration folder's list of files, which is empty where there is none.
 pub fn read_list<R: AllocGlobal + Files + Env>(rt: &R) -> Result<FileList, Problem> {
-    read_own(rt, "files", Problem::List)
-}
-
-/// The configuration folder's views with names; the text is empty where there are none.
-pub fn read_view_file<R: AllocGlobal + Files + Env>(rt: &R) -> Result<FileList, Problem> {
-    read_own(rt, "views", Problem::ViewFile)
-}
-
-// A file of the configuration folder, which is empty where there is none; where it can't be read this is the problem.
-fn read_own<R: AllocGlobal + Files + Env>(
-    rt: &R,
-    name: &str,
-    unread: Problem,
-) -> Result<FileList, Problem> {
     let home = match value_of(rt, Variable::Home)? {
         Some(home) => home,
         None => String::new(rt.alloc()),
     };
-    let path = folder_path(rt, home.as_str(), name)?;
-    let text = match text_of_list(rt, path.as_str(), unread)? {
+    let path = folder_path(rt, home.as_str(), "files")?;
+    let text = match text_of_list(rt, path.as_str(), Problem::List)? {
         Some(text) => text,
         None => String::new(rt.alloc()),
     };

@@ -9,7 +9,7 @@
 //! let left_out = load_all(rt, &mut files, paths.as_slice(), &Reading::of(matches))?;
 //! ```
 //!
-//! Lines of `orgq/src/check.rt`. Tests: `tests/orgq.sh`.
+//! Lines of `orgq_answers/src/check.rt`. Tests: `tests/orgq.sh`.
 #![tactic(auto)]
 
 mod checked;
@@ -21,10 +21,11 @@ mod keywords;
 pub mod laws;
 mod setting;
 mod sources;
+mod view_files;
 
 pub use checked::CheckedFiles;
 pub use config::{Config, Unread, no_config, read_config};
-pub use file_list::{FileList, INPUT, listed_word, path_of, read_list, read_view_file};
+pub use file_list::{FileList, INPUT, listed_word, path_of, read_list};
 pub use files::{
     FileNumber, FileSink, LeftOut, Named, file_number, push_paths, read_input, read_text,
     read_whole, real_path,
@@ -33,3 +34,4 @@ pub use findings::{Report, report_of};
 pub use keywords::{line_behind, say_unknown};
 pub use setting::{Choice, NamedChoices, Setting, words_with};
 pub use sources::{Asked, Reading, asked_files, is_path, load_all, paths, refuse_words, texts};
+pub use view_files::{ViewFile, read_view_files};

@@ -12,12 +12,16 @@ pub enum Choice {
     Color,
     Columns,
     File,
+    Inbox,
     Inherit,
     Keywords,
     LogDone,
     LogIntoDrawer,
     LogRepeat,
+    NextAction,
     Profile,
+    Project,
+    Words,
 }
 
 impl Choice {
@@ -28,12 +32,16 @@ impl Choice {
             "color" => Some(Choice::Color),
             "columns" => Some(Choice::Columns),
             "file" => Some(Choice::File),
+            "inbox" => Some(Choice::Inbox),
             "inherit" => Some(Choice::Inherit),
             "keywords" => Some(Choice::Keywords),
             "log-done" => Some(Choice::LogDone),
             "log-into-drawer" => Some(Choice::LogIntoDrawer),
             "log-repeat" => Some(Choice::LogRepeat),
+            "next-action" => Some(Choice::NextAction),
             "profile" => Some(Choice::Profile),
+            "project" => Some(Choice::Project),
+            "words" => Some(Choice::Words),
             _ => None,
         }
     }
@@ -47,12 +55,16 @@ impl Choice {
             Choice::Color => "color",
             Choice::Columns => "columns",
             Choice::File => "file",
+            Choice::Inbox => "inbox",
             Choice::Inherit => "inherit",
             Choice::Keywords => "keywords",
             Choice::LogDone => "log-done",
             Choice::LogIntoDrawer => "log-into-drawer",
             Choice::LogRepeat => "log-repeat",
+            Choice::NextAction => "next-action",
             Choice::Profile => "profile",
+            Choice::Project => "project",
+            Choice::Words => "words",
         }
     }
 
@@ -77,12 +89,16 @@ pub struct NamedChoices {
     pub color: bool,
     pub columns: bool,
     pub file: bool,
+    pub inbox: bool,
     pub inherit: bool,
     pub keywords: bool,
     pub log_done: bool,
     pub log_into_drawer: bool,
     pub log_repeat: bool,
+    pub next_action: bool,
     pub profile: bool,
+    pub project: bool,
+    pub words: bool,
 }
 
 impl NamedChoices {
@@ -95,12 +111,16 @@ impl NamedChoices {
             Choice::Color => self.color,
             Choice::Columns => self.columns,
             Choice::File => self.file,
+            Choice::Inbox => self.inbox,
             Choice::Inherit => self.inherit,
             Choice::Keywords => self.keywords,
             Choice::LogDone => self.log_done,
             Choice::LogIntoDrawer => self.log_into_drawer,
             Choice::LogRepeat => self.log_repeat,
+            Choice::NextAction => self.next_action,
             Choice::Profile => self.profile,
+            Choice::Project => self.project,
+            Choice::Words => self.words,
         }
     }
 

@@ -8,7 +8,7 @@ use clap::ArgMatches;
 use org_base::{Fault, Texts};
 use org_client::FileSet;
 use org_text::Whole;
-use orgq_messages::{Problem, Variable, say, say_of, value_of};
+use orgq_messages::{Problem, Variable, nearest_command, say, say_of, value_of};
 use std::alloc::{AllocError, Global};
 use std::io::ErrorKind;
 use std::rt::{Env, Files};
@@ -20,7 +20,7 @@ pub fn paths<R: AllocGlobal + Files + Env>(
     matches: &ArgMatches<'_>,
     own: &[&str],
 ) -> Result<Vec<String>, Problem> {
-    refuse_words(matches)?;
+    refuse_words(rt.alloc(), matches)?;
     let bare = matches.get_strs("PATH").unwrap_or(&[]);
     let named = matches.get_strs("file").unwrap_or(&[]);
     let has_input = named.contains(&INPUT) || own.contains(&INPUT);
@@ -39,12 +39,12 @@ pub fn paths<R: AllocGlobal + Files + Env>(
 }
 
 /// Refuses words before a command that name neither a file nor a folder.
-pub fn refuse_words(matches: &ArgMatches<'_>) -> Result<(), Problem> {
+pub fn refuse_words(alloc: Global, matches: &ArgMatches<'_>) -> Result<(), Problem> {
     let bare = matches.get_strs("PATH").unwrap_or(&[]);
-    if bare.iter().any(|word| !is_path(word)) {
-        return Err(Problem::Command);
+    match bare.iter().find(|word| !is_path(word)) {
+        Some(word) => Err(Problem::Command(nearest_command(alloc, word)?)),
+        None => Ok(()),
     }
-    Ok(())
 }
 
 fn join_paths(

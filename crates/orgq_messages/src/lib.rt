@@ -12,6 +12,7 @@
 //! Lines of `orgq_files/src/sources.rt`. Tests: `tests/orgq.sh`.
 #![tactic(auto)]
 
+mod commands;
 mod environment;
 mod exit;
 mod problem;
@@ -19,6 +20,7 @@ mod standard_error;
 mod standard_output;
 mod unwritten;
 
+pub use commands::{CommandName, is_command, nearest_command};
 pub use environment::{Variable, value_of};
 pub use exit::{
     BAD_ARGUMENTS, LEFT_OUT, NO_MATCH, STOPPED, UNTOLD, UNWRITTEN, check_status, status_of,

@@ -1,5 +1,6 @@
 //! Why nothing is answered.
 
+use crate::commands::CommandName;
 use crate::environment::Variable;
 use crate::exit::BAD_ARGUMENTS;
 use crate::standard_error::{out_of_memory, say, visible_text};
@@ -16,6 +17,8 @@ pub enum Problem {
     All,
     Background,
     Block,
+    /// Blocked tasks are asked for, and some projects.
+    BlockedBeside,
     /// The category of `--category` has a quotation mark.
     Category,
     /// Bars are asked for in a form that they don't have.
@@ -24,7 +27,8 @@ pub enum Problem {
     /// A form is asked for that the acts of `clock` don't have.
     ClockForm,
     Color,
-    Command,
+    /// A word is no command; one may be meant.
+    Command(Option<CommandName>),
     /// The file of settings can't be read.
     Config,
     /// A form is asked for that what `config` prints doesn't have.
@@ -35,6 +39,10 @@ pub enum Problem {
     Days,
     DaysOf,
     DaysToo,
+    /// Efforts that are summed are chosen by.
+    EffortOf,
+    /// A range of efforts that there isn't.
+    Efforts,
     /// A word to look for is empty.
     EmptyWord,
     /// A variable of the environment isn't UTF-8.
@@ -133,12 +141,18 @@ pub enum Problem {
     Tables,
     Tag,
     To,
-    /// A calendar is asked for of something else than a month or a week.
+    /// Rows are asked for in two forms.
+    TwoForms,
+    /// A calendar is asked for of something else than a month, a week or a year.
     View,
     /// The file of views can't be read.
     ViewFile,
     /// A form is asked for that views don't have.
     ViewForm,
+    /// A word says no minutes.
+    Within,
+    /// Neither yes nor no is said of words at the end of a title.
+    Words,
     Zone,
     Fault(Fault),
 }
@@ -163,6 +177,8 @@ impl Problem {
             Problem::All => "--all goes with --match",
             Problem::Background => "--background is dark or light",
             Problem::Block => NO_BLOCK,
+            Problem::BlockedBeside =>
+                "--blocked shows tasks, and goes neither with --stuck nor with --all",
             Problem::Category => "a category of --category has no quotation mark in it",
             Problem::Chart => "--chart has lines alone, without -n, --json, --csv and --format",
             Problem::Clock => {
@@ -172,7 +188,7 @@ impl Problem {
                 "clock in, out and cancel print lines: --json, --csv and --format are no forms of theirs"
             }
             Problem::Color => "--color is auto, always or never",
-            Problem::Command => "no such command; for a file or folder write -f before its name",
+            Problem::Command(_) => NO_COMMAND,
             Problem::Config => {
                 "the file of settings, orgq/config in XDG_CONFIG_HOME or ~/.config, can't be read as a file of UTF-8"
             }
@@ -185,20 +201,25 @@ impl Problem {
             Problem::Days => "days past 9999-12-31",
             Problem::DaysOf => "-d is an option of agenda, ical, next and page",
             Problem::DaysToo => "--days-too is for --json",
+            Problem::EffortOf =>
+                "of a clock table efforts are sums: --effort before it chooses none",
+            Problem::Efforts =>
+                "--effort takes a range of efforts, as -0:30, 0:30-2:00, 1:00- or 0:45",
             Problem::EmptyWord => "search looks for no empty word",
             Problem::Environment(variable) => variable.why(),
             Problem::Fields => "--csv is no form of check, which has lines and --json",
             Problem::FileBeside => "--under names the file too: without -f",
-            Problem::OneFile => "add writes one file: -f FILE, or --under FILE:LINE",
+            Problem::OneFile =>
+                "add writes one file: -f FILE, --under FILE:LINE, or an inbox, by --inbox or in the file config",
             Problem::Files =>
                 "no files: name them by -f, ORGQ_FILES, ~/.config/orgq/config or ~/.config/orgq/files",
             Problem::FilterOf =>
-                "--match, --tag and --category are options of agenda, calendar, ical, log, match, next, search and todo",
+                "--match, --tag, --category and --effort are options of agenda, calendar, clocks, habits, ical, log, match, next, projects, search and todo, and but for --effort of clock",
             Problem::FollowFront => "files without -f and options of rows stand after follow",
             Problem::FollowInput =>
                 "follow reads files again and again, and standard input only once",
             Problem::FollowOf => {
-                "follow shows agenda, calendar, todo, match, search, clock, clocks, next, keywords, tags or check, and no other command"
+                "follow shows agenda, calendar, todo, match, search, projects, habits, clock, clocks, log, next, keywords, tags or check, and no other command"
             }
             Problem::Format => NO_FORMAT,
             Problem::FormatBeside => "--format goes neither with --json nor with --csv nor with -n",
@@ -221,7 +242,7 @@ impl Problem {
                 "--log-into-drawer is no, yes, or the name of a drawer, without white space and colons",
             Problem::LogHow => "--log-done and --log-repeat are no, time or note",
             Problem::LimitOf =>
-                "--limit is an option of agenda, ical, log, next, todo, match and search",
+                "--limit is an option of agenda, clock, clocks, habits, ical, log, match, next, projects, search and todo",
             Problem::List => {
                 "the list of files, orgq/files in XDG_CONFIG_HOME or ~/.config, can't be read as a file of UTF-8"
             }
@@ -245,7 +266,9 @@ impl Problem {
             Problem::PlaceBeside => "a heading is named either by FILE:LINE or by --match",
             Problem::Option => "no such option of this command; --help behind it names them",
             Problem::Order => "the day of --to is before that of --from",
-            Problem::OrderOf => "--sort and --group-by are options of agenda, next, todo and match",
+            Problem::OrderOf => {
+                "--sort and --group-by are options of agenda, habits, match, next, projects and todo"
+            }
             Problem::Page => "page has one form, without -n, --json, --csv and --format",
             Problem::Properties => {
                 "--properties takes names with commas between them, and goes with --json"
@@ -268,18 +291,24 @@ impl Problem {
             Problem::Tables => "--step cuts these days into more than 366 tables",
             Problem::Tag => "no such tag: a tag has letters, digits, _, @, # and %",
             Problem::To => "--to wants --from",
-            Problem::View => "calendar shows a month or a week, and the day after it",
+            Problem::View => "calendar shows a month, a week or a year, and the day after it",
             Problem::ViewFile => {
-                "the file of views, orgq/views in XDG_CONFIG_HOME or ~/.config, can't be read as a file of UTF-8"
+                "a file of views, orgq/views or one in orgq/views.d, in XDG_CONFIG_HOME or ~/.config, can't be read as a file of UTF-8"
             }
             Problem::ViewForm => {
                 "view has lines, -n and --json, and views has lines: other forms are of single commands"
             }
             Problem::Zone => "TZ leads out of the folder of time zones",
+            Problem::TwoForms => "--json and --csv are two forms of rows: one of them is wanted",
+            Problem::Within =>
+                "--within takes minutes, as 90, 1h, 1h30 or 1:30, 0 to 100000 of them",
+            Problem::Words => "--words is yes or no",
             Problem::Fault(fault) => why_code(fault.code()),
         }
     }
 }
+
+const NO_COMMAND: &str = "no such command; for a file or folder write -f before its name";
 
 const NO_BLOCK: &str =
     "no such block of time; there are today, yesterday, thisweek, lastweek, nextweek, and so month and year, such as 2024, 2024-Q1, 2024-02, 2024-W09, 2024-02-28, and such days as -1d";
@@ -291,7 +320,7 @@ const NO_KEY: &str =
     "no such key of --sort; there are time, deadline, scheduled, priority, effort, keyword, title, category, file, closed and urgency, with commas between them, each with - in front for down";
 
 const NO_FORMAT: &str =
-    "--format takes names of members in braces, and {{ and }} for braces; there are kind, day, start, end, days, day_of, days_in, file, line, byte, stamp, stamp_line, stamp_column, category, level, keyword, done, priority, title, words, tags, scheduled, deadline, closed, effort, path, from, to, clock, minutes, group, state, state_before, id, text";
+    "--format takes names of members in braces, and {{ and }} for braces; there are kind, day, start, end, days, day_of, days_in, file, line, byte, stamp, stamp_line, stamp_column, category, level, keyword, done, priority, title, words, tags, scheduled, deadline, closed, effort, path, from, to, clock, minutes, group, state, state_before, open_below, done_below, next_below, next_date, effort_left, clocked, stuck, blocked, repeater, last_done, graph, id, text";
 
 fn why_code(code: Code) -> &'static str {
     match code {
@@ -309,11 +338,22 @@ pub fn report_problem<R: Eprint + AllocGlobal>(rt: &R, problem: Problem, express
     match problem {
         Problem::Fault(fault) if fault.code() == Code::Memory => out_of_memory(rt),
         Problem::Fault(Fault::MatchAt(at)) => point_at(rt, expression, at as usize),
+        Problem::Command(Some(name)) => {
+            report_command(rt, name.as_str());
+            BAD_ARGUMENTS
+        }
         _ => {
             say(rt, problem.why());
             BAD_ARGUMENTS
         }
     }
+}
+
+// Says which command a word may be meant as, which is none.
+fn report_command<R: Eprint + AllocGlobal>(rt: &R, name: &str) {
+    let _ = eprintln!(rt;
+        "orgq: no such command; did you mean {name}? For a file or folder write -f before its name"
+    );
 }
 
 // Shows an expression with a caret below the character after the bytes that still begin one.
@@ -328,5 +368,19 @@ fn point_at<R: Eprint + AllocGlobal>(rt: &R, expression: &str, at: usize) -> u8 
     let width = before.as_str().width().saturating_add(13);
     let _ = eprintln!(rt; "orgq: match {whole}");
     let _ = eprintln!(rt; "{:>width$}", "^");
+    if wants_quotes(expression, at) {
+        say(rt, QUOTES);
+    }
     BAD_ARGUMENTS
 }
+
+// Whether a text without quotation marks stands behind a comparison, where an expression ends.
+fn wants_quotes(expression: &str, at: usize) -> bool {
+    let (Some(before), Some(behind)) = (expression.get(..at), expression.get(at..)) else {
+        return false;
+    };
+    before.ends_with(['=', '<', '>']) && behind.starts_with(char::is_alphabetic)
+}
+
+const QUOTES: &str =
+    "a text stands in quotation marks, which a shell takes away: 'TODO=\"NEXT\"' in apostrophes keeps them";

@@ -16,7 +16,7 @@ pub struct Block {
 }
 
 const NO_COMMAND: &str =
-    "a view shows agenda, calendar, clock, clocks, log, match, next, search or todo, and no other command";
+    "a view shows agenda, calendar, clock, clocks, habits, log, match, next, projects, search or todo, and no other command";
 
 const OF_CALL: &str =
     "this option belongs to the call, for all that the view shows alike: orgq view NAME";
@@ -82,7 +82,16 @@ fn is_shown(words: &[String]) -> bool {
         return false;
     };
     match first.as_str() {
-        "agenda" | "calendar" | "clocks" | "log" | "match" | "next" | "search" | "todo" => true,
+        "agenda"
+        | "calendar"
+        | "clocks"
+        | "habits"
+        | "log"
+        | "match"
+        | "next"
+        | "projects"
+        | "search"
+        | "todo" => true,
         "clock" => others.first().is_none_or(|word| !is_act(word.as_str())),
         _ => false,
     }

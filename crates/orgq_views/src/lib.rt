@@ -6,10 +6,7 @@
 //! is refused.
 //!
 //! ```
-//! match read_views(rt.alloc(), file.text.as_str()) {
-//!     // ..
-//!     Err(refusal) => Ok(Found::Refused(refuse_file(rt, file.path.as_str(), refusal))),
-//! }
+//! let views = read_views(alloc, file.text.as_str())?;
 //! ```
 //!
 //! Lines of `orgq/src/views.rt`. Tests: cases `tests/orgq/view-*` and `tests/orgq/views-*`.

@@ -1,0 +1,4 @@
+pub mod Habits
+pub mod Urgencies
+pub mod Graphs
+pub mod Examples

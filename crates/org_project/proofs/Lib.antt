@@ -1,0 +1,4 @@
+pub mod BelowLemmas
+pub mod WaitLemmas
+pub mod BetweenLemmas
+pub mod FlagLemmas
