@@ -1,5 +1,5 @@
 -- Files with minutes, one by one.
-use Rattle.std.proofs.Common.{◌≡◌, ◌∙◌, ◌+◌, ℕ, zero, suc, List, [], ◌∷◌, ◌++◌, drop, ap, append_assoc, arith, sym}
+use Rattle.std.proofs.Common.{◌≡◌, ◌∙◌, ◌+◌, ℕ, zero, suc, Bool, List, [], ◌∷◌, ◌++◌, drop, ap, append_assoc, arith, sym}
 use Rattle.std.specs.Prelude.{Some, slice_get}
 use Rattle.org_inherit.specs.Scope.{Scope}
 use Rattle.org_overview.specs.Charts.{clocked_file, clocked_files}
@@ -9,10 +9,15 @@ drop_there [] i x at = absurd cc
 drop_there (y ∷ ys) zero x at = let same : y ≡ x = cc in ap (λ z. z ∷ ys) same
 drop_there (y ∷ ys) (suc i) x at = let next : suc i + 1 ≡ suc (i + 1) = omega arith in rw next (drop_there ys i x at)
 
-pub file_more : (days : ℕ × ℕ) (scopes : List Scope) (i : ℕ) (scope : Scope) (old new all : List (ℕ × List ℕ)) → slice_get scopes i ≡ Some scope →
-    new ≡ old ++ clocked_file days i scope → old ++ clocked_files days i (drop i scopes) ≡ all → new ++ clocked_files days (i + 1) (drop (i + 1) scopes) ≡ all
-file_more days scopes i scope old new all at grown so =
-    ap (λ (files : List (ℕ × List ℕ)). files ++ clocked_files days (i + 1) (drop (i + 1) scopes)) grown
-    ∙ append_assoc old (clocked_file days i scope) (clocked_files days (i + 1) (drop (i + 1) scopes))
-    ∙ ap (λ (files : List (ℕ × List ℕ)). old ++ files) (sym (ap (clocked_files days i) (drop_there scopes i scope at)))
+pub file_more : (told : Scope → List Bool) (days : ℕ × ℕ) (scopes : List Scope) (i : ℕ) (scope : Scope) (old new all : List (ℕ × List ℕ)) → slice_get scopes i ≡ Some scope →
+    new ≡ old ++ clocked_file told days i scope → old ++ clocked_files told days i (drop i scopes) ≡ all → new ++ clocked_files told days (i + 1) (drop (i + 1) scopes) ≡ all
+file_more told days scopes i scope old new all at grown so =
+    ap (λ (files : List (ℕ × List ℕ)). files ++ clocked_files told days (i + 1) (drop (i + 1) scopes)) grown
+    ∙ append_assoc old (clocked_file told days i scope) (clocked_files told days (i + 1) (drop (i + 1) scopes))
+    ∙ ap (λ (files : List (ℕ × List ℕ)). old ++ files) (sym (ap (clocked_files told days i) (drop_there scopes i scope at)))
     ∙ so
+
+-- a file with the sums of headings that are told in the same way
+pub grown_with : (days : ℕ × ℕ) (i : ℕ) (scope : Scope) (some : List Bool) (told : Scope → List Bool) (old : List (ℕ × List ℕ)) → some ≡ told scope →
+    old ++ clocked_file (λ s. some) days i scope ≡ old ++ clocked_file told days i scope
+grown_with days i scope some told old same = ap (λ (flags : List Bool). old ++ clocked_file (λ s. flags) days i scope) same

@@ -1,9 +1,10 @@
 -- What a page is asked for, and its days.
-use Rattle.std.specs.Prelude.{◌≡◌, ℕ, ◌+◌, ◌-◌, ◌*◌, ◌<◌, ◌≤◌, List, max}
+use Rattle.std.specs.Prelude.{◌≡◌, ℕ, ◌+◌, ◌-◌, ◌*◌, ◌<◌, ◌≤◌, List, Option, max}
 use Rattle.org_agenda.specs.Days.{AgendaView, agenda_of}
-use Rattle.org_agenda.specs.Sources.{sources_of}
 use Rattle.org_cal.specs.Weeks.{monday_of}
+use Rattle.org_expression.specs.Grammar.{Expr}
 use Rattle.org_inherit.specs.Scope.{Scope}
+use Rattle.org_overview.specs.Chosen.{chosen_stamps}
 use Rattle.org_overview.specs.declared.clocked.TheConstants.{CHART_DAYS}
 use Rattle.org_overview.specs.declared.asked.Look.{Look}
 use Rattle.org_overview.specs.declared.asked.Wish.{Wish}
@@ -24,9 +25,10 @@ pub record IsWished (look : Look) (ahead : ℕ) (wish : Wish) : Type 0 where
 abbrev pub days_shown : Wish → ℕ
 days_shown wish = max (wish.moment.day - wish.first + wish.ahead + 1) (7 * wish.weeks)
 
--- the agenda of these days
-abbrev pub agenda_asked : List Scope → Wish → AgendaView
-agenda_asked scopes wish = agenda_of wish.profile (sources_of 0 scopes) wish.moment.day wish.first (days_shown wish)
+-- the agenda of these days, over the stamps of the headings that a page is of
+abbrev pub agenda_asked : Option Expr → List Scope → Wish → AgendaView
+agenda_asked chosen scopes wish =
+    agenda_of wish.profile (chosen_stamps chosen wish.moment scopes) wish.moment.day wish.first (days_shown wish)
 
 -- an agenda has all days that a page shows, from its first one on
 pub record IsAgendaFor (wish : Wish) (agenda : AgendaView) : Type 0 where

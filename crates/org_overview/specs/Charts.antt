@@ -13,14 +13,15 @@ use Rattle.org_page.specs.declared.chart.ChartWeek.{ChartWeek}
 abbrev pub has_any : List ℕ → Bool
 has_any sums = list_any (nat_lt 0) sums
 
--- a file by its place with its sums, if it has some
-abbrev pub clocked_file : ℕ × ℕ → ℕ → Scope → List (ℕ × List ℕ)
-clocked_file days file scope = if has_any (sums_of days scope.entries) then (file, sums_of days scope.entries) ∷ [] else []
+-- a file by its place with the sums of its headings that are told, if it has some
+abbrev pub clocked_file : (Scope → List Bool) → ℕ × ℕ → ℕ → Scope → List (ℕ × List ℕ)
+clocked_file told days file scope =
+    if has_any (sums_of days scope.entries (told scope)) then (file, sums_of days scope.entries (told scope)) ∷ [] else []
 
 -- those of files, the first of which stands at a place
-abbrev pub clocked_files : ℕ × ℕ → ℕ → List Scope → List (ℕ × List ℕ)
-clocked_files days file [] = []
-clocked_files days file (scope ∷ scopes) = clocked_file days file scope ++ clocked_files days (file + 1) scopes
+abbrev pub clocked_files : (Scope → List Bool) → ℕ × ℕ → ℕ → List Scope → List (ℕ × List ℕ)
+clocked_files told days file [] = []
+clocked_files told days file (scope ∷ scopes) = clocked_file told days file scope ++ clocked_files told days (file + 1) scopes
 
 abbrev pub files_numbers : List FileSums → List (ℕ × List ℕ)
 files_numbers files = map (λ (f : FileSums). (f.file, f.sums.items)) files
@@ -46,11 +47,12 @@ abbrev pub weeks_numbers : List ChartWeek → List (List ℕ)
 weeks_numbers weeks = flat_map week_numbers weeks
 
 -- the files with minutes in some days, and what they have: on each of these days, on those of a week from one of them on, and so on
-abbrev pub GivesFiles : {A E : Type 0} → Result (Vec FileSums A) E → ℕ × ℕ → List Scope → Type 0
-GivesFiles result days scopes = IfOk result (λ files. files_numbers files.items ≡ clocked_files days 0 scopes)
+abbrev pub GivesFiles : {A E : Type 0} → Result (Vec FileSums A) E → (Scope → List Bool) → ℕ × ℕ → List Scope → Type 0
+GivesFiles result told days scopes = IfOk result (λ files. files_numbers files.items ≡ clocked_files told days 0 scopes)
 
-abbrev pub AddsFile : {A T E : Type 0} → Result T E → Vec FileSums A → Vec FileSums A → ℕ × ℕ → ℕ → Scope → Type 0
-AddsFile result old new days file scope = OnOk result (files_numbers new.items ≡ files_numbers old.items ++ clocked_file days file scope)
+abbrev pub AddsFile : {A T E : Type 0} → Result T E → Vec FileSums A → Vec FileSums A → (Scope → List Bool) → ℕ × ℕ → ℕ → Scope → Type 0
+AddsFile result old new told days file scope =
+    OnOk result (files_numbers new.items ≡ files_numbers old.items ++ clocked_file told days file scope)
 
 abbrev pub week_len : ℕ × ℕ → ℕ → ℕ
 week_len days first = min 7 (days.1 + 1 - days.0 - first)

@@ -1,9 +1,10 @@
 -- What a page shows by days.
-use Rattle.std.specs.Prelude.{◌≡◌, ◌+◌, ◌-◌, ◌*◌, List, IfOk, Result, map}
+use Rattle.std.specs.Prelude.{◌≡◌, ◌+◌, ◌-◌, ◌*◌, List, IfOk, Option, Result, map}
 use Rattle.std.specs.List.{range_with_len}
 use Rattle.org_agenda.specs.Days.{AgendaView, rows_ahead}
 use Rattle.org_agenda.specs.declared.row.Row.{Row}
 use Rattle.org_client.specs.Files.{NamedText}
+use Rattle.org_expression.specs.Grammar.{Expr}
 use Rattle.org_inherit.specs.Scope.{Scope}
 use Rattle.org_overview.specs.Asked.{agenda_asked}
 use Rattle.org_overview.specs.Cells.{cell_of, weeks_cells}
@@ -29,5 +30,5 @@ GivesHereOf result files agenda wish = IfOk result (λ here. ShowsHere here file
 abbrev pub GivesDays : {E : Type 0} → Result Dated E → List NamedText → AgendaView → Wish → Type 0
 GivesDays result files agenda wish = IfOk result (λ dated. ShowsDays dated files agenda wish)
 
-abbrev pub GivesDated : {E : Type 0} → Result Dated E → List NamedText → List Scope → Wish → Type 0
-GivesDated result files scopes wish = GivesDays result files (agenda_asked scopes wish) wish
+abbrev pub GivesDated : {E : Type 0} → Result Dated E → List NamedText → Option Expr → List Scope → Wish → Type 0
+GivesDated result files chosen scopes wish = GivesDays result files (agenda_asked chosen scopes wish) wish

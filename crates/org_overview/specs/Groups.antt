@@ -1,9 +1,11 @@
 -- Tables of tasks.
-use Rattle.std.specs.Prelude.{◌≡◌, ℕ, List, [], ◌∷◌, ◌++◌, IfOk, OnOk, Result, Vec, map}
-use Rattle.org_agenda.specs.Lists.{list_rows, Open}
+use Rattle.std.specs.Prelude.{◌≡◌, ℕ, List, [], ◌∷◌, ◌++◌, IfOk, OnOk, Option, Result, Vec, map}
 use Rattle.org_agenda.specs.declared.row.Row.{Row}
+use Rattle.org_cal.specs.declared.moment.Moment.{Moment}
 use Rattle.org_client.specs.Files.{NamedText}
+use Rattle.org_expression.specs.Grammar.{Expr}
 use Rattle.org_inherit.specs.Scope.{Scope}
+use Rattle.org_overview.specs.Chosen.{chosen_tasks}
 use Rattle.org_overview.specs.Marks.{Mark, mark_of, marks_of, shown_mark}
 use Rattle.org_overview.specs.Tasks.{names_of, rows_beside, rows_with}
 use Rattle.org_page.specs.declared.task.Task.{Task}
@@ -51,6 +53,6 @@ AddsOthers result old new files rows = OnOk result (groups_marks new.items ≡ g
 abbrev pub GivesGroups : {A E : Type 0} → Result (Vec TaskGroup A) E → List NamedText → List Scope → List Row → Type 0
 GivesGroups result files scopes rows = IfOk result (λ groups. ShowsGroups groups.items files scopes rows)
 
--- those of the list of open headings
-abbrev pub GivesTasks : {A E : Type 0} → Result (Vec TaskGroup A) E → List NamedText → List Scope → Type 0
-GivesTasks result files scopes = GivesGroups result files scopes (list_rows Open scopes)
+-- those of the open headings that a page is of
+abbrev pub GivesTasks : {A E : Type 0} → Result (Vec TaskGroup A) E → List NamedText → Option Expr → List Scope → Moment → Type 0
+GivesTasks result files chosen scopes moment = GivesGroups result files scopes (chosen_tasks chosen moment scopes)

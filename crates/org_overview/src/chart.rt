@@ -1,14 +1,20 @@
 //! What was clocked by days.
-ghost use Rattle.std.specs.Prelude.{◌≡◌, ◌+◌, ◌≤◌, IfOk};
+ghost use Rattle.std.specs.Prelude.{◌≡◌, ◌+◌, ◌≤◌, IfOk, IsOkUnless, length, option_copied};
+ghost use Rattle.org_agenda.specs.Holding.{holds_of};
+ghost use Rattle.org_base.specs.Codes.{memory_fault};
 ghost use Rattle.org_base.specs.Results.{GivesItems};
 ghost use Rattle.org_cal.specs.Periods.{days_of};
 ghost use Rattle.org_overview.specs.Charts.{AddsFile, GivesChart, GivesDays, GivesFiles, GivesWeek, GivesWeeks, day_numbers, has_any, minutes_at, numbers_at, total_at};
+ghost use Rattle.org_overview.specs.Chosen.{all_told, told_of};
 
 use crate::sums::file_sums;
 use crate::words::{chart_day_words, short_name, span_words, week_label, week_name};
-use org_cal::{Day, Period};
+use org_agenda::holds_of;
+use org_base::Fault;
+use org_cal::{Day, Moment, Period};
 use org_client::FileSet;
 use org_inherit::{Inherit, Inherits};
+use org_match::{Match, Matcher};
 use org_page::{Chart, ChartDay, ChartFile, ChartWeek};
 use org_text::Text;
 use std::alloc::{AllocError, Global};
@@ -20,32 +26,106 @@ pub struct FileSums {
     pub sums: Vec<u64>,
 }
 
-/// The files that have minutes in some days, with what they have on each.
+/// The files that have minutes in some days, with what they have on each: all their headings, or those of which the expression holds at
+/// the moment.
 pub(crate) fn clocked_files(
     alloc: Global,
     inherits: &Inherits<'_>,
     period: &Period,
+    expression: Option<&Match>,
+    moment: &Moment,
+) -> Result<Vec<FileSums>, Fault>
+    ensures value { GivesFiles result (told_of (option_copied expression.entry) moment.now) (days_of period.now) inherits.now }
+    ensures memory { IsOkUnless result memory_fault }
+{
+    match expression {
+        Some(expression) => matching_files(alloc, inherits, period, expression, moment),
+        None => Ok(whole_files(alloc, inherits, period)?),
+    }
+}
+
+// Those with what all their headings have.
+fn whole_files(
+    alloc: Global,
+    inherits: &Inherits<'_>,
+    period: &Period,
 ) -> Result<Vec<FileSums>, AllocError>
-    ensures value { GivesFiles result (days_of period.now) inherits.now }
+    ensures value { GivesFiles result all_told (days_of period.now) inherits.now }
 {
     let mut files = Vec::new(alloc);
     for file in 0..inherits.count() {
-        push_file(alloc, &mut files, file, inherits.get(file), period)?;
+        push_whole(alloc, &mut files, file, inherits.get(file), period)?;
     }
     Ok(files)
 }
 
-// Puts a file after others, if it has minutes.
-fn push_file(
+// Puts a file with what all its headings have after others, if it has minutes.
+fn push_whole(
     alloc: Global,
     files: &mut Vec<FileSums>,
     file: usize,
     inherit: &Inherit<'_>,
     period: &Period,
 ) -> Result<(), AllocError>
-    ensures ok { AddsFile result files.old files.new (days_of period.now) file inherit.now }
+    ensures ok { AddsFile result files.old files.new all_told (days_of period.now) file inherit.now }
 {
-    let sums = file_sums(alloc, inherit.outline(), period)?;
+    let told = vec![in alloc; true; inherit.outline().count()]?;
+    push_file(alloc, files, file, inherit, told.as_slice(), period)
+}
+
+// Those with what the headings have of which the expression holds.
+fn matching_files(
+    alloc: Global,
+    inherits: &Inherits<'_>,
+    period: &Period,
+    expression: &Match,
+    moment: &Moment,
+) -> Result<Vec<FileSums>, Fault>
+    ensures value { GivesFiles result (holds_of expression.now moment.now) (days_of period.now) inherits.now }
+    ensures memory { IsOkUnless result memory_fault }
+{
+    let mut matcher = Matcher::new(alloc, expression)?;
+    tested_files(alloc, inherits, period, &mut matcher, moment)
+}
+
+fn tested_files(
+    alloc: Global,
+    inherits: &Inherits<'_>,
+    period: &Period,
+    matcher: &mut Matcher<'_>,
+    moment: &Moment,
+) -> Result<Vec<FileSums>, Fault>
+    ensures value { GivesFiles result (holds_of matcher.old moment.now) (days_of period.now) inherits.now }
+    ensures memory { IsOkUnless result memory_fault }
+{
+    let mut files = Vec::new(alloc);
+    for file in 0..inherits.count() {
+        let told = holds_of(alloc, matcher, moment, inherits.get(file))?;
+        push_file(
+            alloc,
+            &mut files,
+            file,
+            inherits.get(file),
+            told.as_slice(),
+            period,
+        )?;
+    }
+    Ok(files)
+}
+
+// Puts a file with what some of its headings have after others, if it has minutes.
+fn push_file(
+    alloc: Global,
+    files: &mut Vec<FileSums>,
+    file: usize,
+    inherit: &Inherit<'_>,
+    told: &[bool],
+    period: &Period,
+) -> Result<(), AllocError>
+    requires count { length told.now ≡ length inherit.now.entries }
+    ensures ok { AddsFile result files.old files.new (λ scope. told.now) (days_of period.now) file inherit.now }
+{
+    let sums = file_sums(alloc, inherit.outline(), told, period)?;
     if !has_any(sums.as_slice()) {
         return Ok(());
     }

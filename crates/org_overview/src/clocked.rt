@@ -1,5 +1,5 @@
 //! What a page shows of clocks.
-ghost use Rattle.std.specs.Prelude.{◌≡◌, IsOkUnless};
+ghost use Rattle.std.specs.Prelude.{◌≡◌, IsOkUnless, option_copied};
 ghost use Rattle.org_base.specs.Codes.{memory_fault};
 ghost use Rattle.org_cal.specs.Periods.{days_of};
 ghost use Rattle.org_client.specs.Files.{AreRead};
@@ -11,9 +11,10 @@ use crate::rows::Linked;
 use crate::table::month_sums;
 use org_base::Fault;
 use org_cal::{Day, Period};
+use org_match::Match;
 use org_page::{Chart, Sums};
 use org_text::Text;
-use std::alloc::{AllocError, Global};
+use std::alloc::Global;
 
 /// A chart of days, the minutes of today, and the sums of the month by headings.
 #[derive(Drop)]
@@ -23,14 +24,18 @@ pub(crate) struct Clocked {
     pub(crate) sums: Sums,
 }
 
-/// What a page shows of clocks.
-pub(crate) fn clocked_of<T: Text>(alloc: Global, seen: &Linked<'_, '_, T>) -> Result<Clocked, Fault>
+/// What a page shows of the clocks of all headings, or of those of which the expression holds.
+pub(crate) fn clocked_of<T: Text>(
+    alloc: Global,
+    seen: &Linked<'_, '_, T>,
+    expression: Option<&Match>,
+) -> Result<Clocked, Fault>
     requires read { AreRead seen.now.scopes.now }
-    ensures value { GivesClocked result seen.now.scopes.now seen.now.wish.now }
+    ensures value { GivesClocked result (option_copied expression.entry) seen.now.scopes.now seen.now.wish.now }
     ensures memory { IsOkUnless result memory_fault }
 {
-    let sums = month_sums(alloc, seen)?;
-    let charted = charted_of(alloc, seen)?;
+    let sums = month_sums(alloc, seen, expression)?;
+    let charted = charted_of(alloc, seen, expression)?;
     Ok(Clocked {
         chart: charted.chart,
         today: charted.today,
@@ -45,11 +50,16 @@ pub(crate) struct Charted {
     pub(crate) today: u64,
 }
 
-fn charted_of<T: Text>(alloc: Global, seen: &Linked<'_, '_, T>) -> Result<Charted, AllocError>
-    ensures value { GivesCharted result seen.now.scopes.now seen.now.wish.now.moment.day }
+fn charted_of<T: Text>(
+    alloc: Global,
+    seen: &Linked<'_, '_, T>,
+    expression: Option<&Match>,
+) -> Result<Charted, Fault>
+    ensures value { GivesCharted result (option_copied expression.entry) seen.now.scopes.now seen.now.wish.now.moment }
+    ensures memory { IsOkUnless result memory_fault }
 {
     let period = chart_period(seen.wish.moment.day);
-    let files = clocked_files(alloc, seen.scopes, &period)?;
+    let files = clocked_files(alloc, seen.scopes, &period, expression, &seen.wish.moment)?;
     let chart = chart_of(alloc, seen.files, files.as_slice(), &period)?;
     let last = period.last.number() - period.first.number();
     let today = total_at(files.as_slice(), last as usize);

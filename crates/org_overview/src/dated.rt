@@ -1,5 +1,5 @@
 //! What a page shows by days.
-ghost use Rattle.std.specs.Prelude.{IsOkUnless};
+ghost use Rattle.std.specs.Prelude.{IsOkUnless, option_copied};
 ghost use Rattle.org_base.specs.Codes.{memory_fault};
 ghost use Rattle.org_base.specs.Results.{Gives, GivesItems};
 ghost use Rattle.org_client.specs.Files.{AreRead};
@@ -7,13 +7,15 @@ ghost use Rattle.org_overview.specs.Asked.{IsAgendaFor, agenda_asked};
 ghost use Rattle.org_overview.specs.Dated.{GivesDated, GivesDays, GivesHereOf, rows_today};
 
 use crate::asked::Wish;
+use crate::chosen::chosen_stamps;
 use crate::coming::coming_days;
 use crate::here::{Here, here_of};
 use crate::month::shown_month;
 use crate::rows::Linked;
-use org_agenda::{Agenda, Row, sources_of};
+use org_agenda::{Agenda, Row};
 use org_base::Fault;
 use org_inherit::Inherits;
+use org_match::Match;
 use org_page::{Day as PageDay, Month};
 use org_text::Text;
 use std::alloc::Global;
@@ -27,22 +29,31 @@ pub(crate) struct Dated {
 }
 
 /// What a page shows by days, of one agenda.
-pub(crate) fn dated_of<T: Text>(alloc: Global, seen: &Linked<'_, '_, T>) -> Result<Dated, Fault>
+pub(crate) fn dated_of<T: Text>(
+    alloc: Global,
+    seen: &Linked<'_, '_, T>,
+    expression: Option<&Match>,
+) -> Result<Dated, Fault>
     requires read { AreRead seen.now.scopes.now }
-    ensures value { GivesDated result seen.now.files.now.files seen.now.scopes.now seen.now.wish.now }
+    ensures value { GivesDated result seen.now.files.now.files (option_copied expression.entry) seen.now.scopes.now seen.now.wish.now }
     ensures memory { IsOkUnless result memory_fault }
 {
-    let agenda = agenda_of(alloc, seen.scopes, seen.wish)?;
+    let agenda = agenda_of(alloc, seen.scopes, seen.wish, expression)?;
     shown_days(alloc, seen, &agenda)
 }
 
-// The agenda of all days that a page shows.
-fn agenda_of(alloc: Global, inherits: &Inherits<'_>, wish: &Wish<'_>) -> Result<Agenda, Fault>
+// The agenda of all days that a page shows, over the stamps of the headings that it is of.
+fn agenda_of(
+    alloc: Global,
+    inherits: &Inherits<'_>,
+    wish: &Wish<'_>,
+    expression: Option<&Match>,
+) -> Result<Agenda, Fault>
     requires read { AreRead inherits.now }
-    ensures value { Gives result (agenda_asked inherits.now wish.now) }
+    ensures value { Gives result (agenda_asked (option_copied expression.entry) inherits.now wish.now) }
     ensures memory { IsOkUnless result memory_fault }
 {
-    let sources = sources_of(alloc, inherits)?;
+    let sources = chosen_stamps(alloc, inherits, expression, &wish.moment)?;
     Agenda::new(alloc, sources, &wish.as_of(), wish.first, wish.count())
 }
 

@@ -2,15 +2,16 @@
 //!
 //! Every call that allocates may be refused memory, and that is its only refusal.
 //!
+//! A page is of all headings, or of those of which an expression holds: its rows, its tasks and its clocks are of these alone.
 //! All days of a page are of one agenda, which is asked once. A row of a page is known by how it stands, when, and of which
 //! stamp; contracts say that each part of the page has the rows of the agenda or of the list that belong there, each once and
 //! in their order. What a chart has on a day is the total of the clock table of that day, by the law
 //! `charts_make_the_total`: clocks are passed over once, and only those that have minutes in its days are looked at for each.
 //!
 //! ```
-//! let dated = dated_of(alloc, seen)?;
-//! let clocked = clocked_of(alloc, seen)?;
-//! let groups = open_groups(alloc, seen)?;
+//! let dated = dated_of(alloc, seen, expression)?;
+//! let clocked = clocked_of(alloc, seen, expression)?;
+//! let groups = open_groups(alloc, seen, expression)?;
 //! let named = named_of(alloc, seen)?;
 //! Ok(put_together(seen.wish, named, dated, clocked, groups))
 //! ```
@@ -20,6 +21,7 @@
 
 mod asked;
 mod chart;
+mod chosen;
 mod clocked;
 mod coming;
 mod dated;

@@ -1,5 +1,5 @@
 //! A page of files.
-ghost use Rattle.std.specs.Prelude.{◌≡◌, IsOkUnless};
+ghost use Rattle.std.specs.Prelude.{◌≡◌, IsOkUnless, option_copied};
 ghost use Rattle.org_base.specs.Codes.{memory_fault};
 ghost use Rattle.org_client.specs.Files.{AreRead};
 ghost use Rattle.org_overview.specs.Whole.{GivesPage, GivesPageText};
@@ -14,24 +14,26 @@ use org_base::Fault;
 use org_cal::push_time;
 use org_client::{FileSet, KeptHeadings, RowIds};
 use org_inherit::Inherits;
+use org_match::Match;
 use org_page::{Page, TaskGroup, html};
 use org_text::Text;
 use std::alloc::{AllocError, Global};
 
-/// The page that is asked for over files and what their headings inherit, as one file of HTML. Rows whose headings have short ids
-/// show these behind their places.
+/// The page that is asked for over files and what their headings inherit, as one file of HTML: of all headings, or of those of which
+/// the expression holds at the page's moment. Rows whose headings have short ids show these behind their places.
 pub fn overview_text<T: Text>(
     alloc: Global,
     file_set: &FileSet<T>,
     inherits: &Inherits<'_>,
     ids: &RowIds,
     wish: &Wish<'_>,
+    expression: Option<&Match>,
 ) -> Result<String, Fault>
     requires read { AreRead inherits.now }
-    ensures value { GivesPageText result file_set.now.files inherits.now wish.now }
+    ensures value { GivesPageText result file_set.now.files (option_copied expression.entry) inherits.now wish.now }
     ensures memory { IsOkUnless result memory_fault }
 {
-    let page = overview(alloc, file_set, inherits, ids, wish)?;
+    let page = overview(alloc, file_set, inherits, ids, wish, expression)?;
     let text = html(alloc, &page)?;
     Ok(text)
 }
@@ -43,9 +45,10 @@ pub fn overview<T: Text>(
     inherits: &Inherits<'_>,
     ids: &RowIds,
     wish: &Wish<'_>,
+    expression: Option<&Match>,
 ) -> Result<Page, Fault>
     requires read { AreRead inherits.now }
-    ensures value { GivesPage result file_set.now.files inherits.now wish.now }
+    ensures value { GivesPage result file_set.now.files (option_copied expression.entry) inherits.now wish.now }
     ensures memory { IsOkUnless result memory_fault }
 {
     let titles = KeptHeadings::new(alloc, inherits)?;
@@ -56,17 +59,21 @@ pub fn overview<T: Text>(
         ids,
         wish,
     };
-    page_of(alloc, &seen)
+    page_of(alloc, &seen, expression)
 }
 
-fn page_of<T: Text>(alloc: Global, seen: &Linked<'_, '_, T>) -> Result<Page, Fault>
+fn page_of<T: Text>(
+    alloc: Global,
+    seen: &Linked<'_, '_, T>,
+    expression: Option<&Match>,
+) -> Result<Page, Fault>
     requires read { AreRead seen.now.scopes.now }
-    ensures value { GivesPage result seen.now.files.now.files seen.now.scopes.now seen.now.wish.now }
+    ensures value { GivesPage result seen.now.files.now.files (option_copied expression.entry) seen.now.scopes.now seen.now.wish.now }
     ensures memory { IsOkUnless result memory_fault }
 {
-    let dated = dated_of(alloc, seen)?;
-    let clocked = clocked_of(alloc, seen)?;
-    let groups = open_groups(alloc, seen)?;
+    let dated = dated_of(alloc, seen, expression)?;
+    let clocked = clocked_of(alloc, seen, expression)?;
+    let groups = open_groups(alloc, seen, expression)?;
     let named = named_of(alloc, seen)?;
     Ok(put_together(seen.wish, named, dated, clocked, groups))
 }

@@ -1,5 +1,5 @@
 //! What was clocked in a month, by headings.
-ghost use Rattle.std.specs.Prelude.{◌≡◌, map, IfOk, IsOkUnless};
+ghost use Rattle.std.specs.Prelude.{◌≡◌, map, IfOk, IsOkUnless, option_copied};
 ghost use Rattle.org_base.specs.Codes.{memory_fault};
 ghost use Rattle.org_base.specs.Results.{GivesItems};
 ghost use Rattle.org_client.specs.Files.{AreRead};
@@ -11,6 +11,7 @@ use org_agenda::Row;
 use org_base::Fault;
 use org_client::{hundredths, month_name};
 use org_clocktable::{Of, TableRow, counted_files, step_rows};
+use org_match::Match;
 use org_page::{Sum, SumOf, Sums};
 use org_text::Text;
 use std::alloc::{AllocError, Global};
@@ -18,13 +19,17 @@ use std::alloc::{AllocError, Global};
 /// The deepest level of a page's sums.
 pub const MOST_LEVEL: u32 = 2;
 
-/// The clock table of the month, as a page shows it.
-pub(crate) fn month_sums<T: Text>(alloc: Global, seen: &Linked<'_, '_, T>) -> Result<Sums, Fault>
+/// The clock table of the month, as a page shows it: of all headings, or of those of which the expression holds.
+pub(crate) fn month_sums<T: Text>(
+    alloc: Global,
+    seen: &Linked<'_, '_, T>,
+    expression: Option<&Match>,
+) -> Result<Sums, Fault>
     requires read { AreRead seen.now.scopes.now }
-    ensures value { GivesSums result (wish_rows seen.now.wish.now seen.now.scopes.now) }
+    ensures value { GivesSums result (wish_rows (option_copied expression.entry) seen.now.wish.now seen.now.scopes.now) }
     ensures memory { IsOkUnless result memory_fault }
 {
-    let rows = table_rows(alloc, seen)?;
+    let rows = table_rows(alloc, seen, expression)?;
     let title = table_title(alloc, seen)?;
     let rows = shown_sums(alloc, seen, rows.as_slice())?;
     Ok(Sums { title, rows })
@@ -36,12 +41,16 @@ fn table_title<T: Text>(alloc: Global, seen: &Linked<'_, '_, T>) -> Result<Strin
     format!(in alloc; "{month} by heading")
 }
 
-fn table_rows<T: Text>(alloc: Global, seen: &Linked<'_, '_, T>) -> Result<Vec<TableRow>, Fault>
+fn table_rows<T: Text>(
+    alloc: Global,
+    seen: &Linked<'_, '_, T>,
+    expression: Option<&Match>,
+) -> Result<Vec<TableRow>, Fault>
     requires read { AreRead seen.now.scopes.now }
-    ensures value { GivesItems result (wish_rows seen.now.wish.now seen.now.scopes.now) }
+    ensures value { GivesItems result (wish_rows (option_copied expression.entry) seen.now.wish.now seen.now.scopes.now) }
     ensures memory { IsOkUnless result memory_fault }
 {
-    let files = counted_files(alloc, seen.scopes, None, &seen.wish.moment)?;
+    let files = counted_files(alloc, seen.scopes, expression, &seen.wish.moment)?;
     step_rows(alloc, &seen.wish.month, MOST_LEVEL, files.as_slice())
 }
 

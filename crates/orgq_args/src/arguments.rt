@@ -106,7 +106,10 @@ d;days;N;How many days from today on, 1 to 366; without it 30
 const OF_PAGE: &str = "\
 d;days;N;How many days after today, 1 to 366; without it 7
 ;link;TEXT;Where links lead, with {file}, {name}, {line} and {before}
-o;output;FILE;The file that it is written into, in place of an older page";
+o;output;FILE;The file that it is written into, in place of an older page
+;match;EXPR;Only of headings of which the expression holds
+;tag;TAG;Only of headings with the tag; of several, with all of them
+;category;NAME;Only of headings of that category";
 
 const OF_NEXT: &str = "\
 d;days;N;How many days from today on, 1 to 366; without it 30

@@ -76,7 +76,7 @@ impl<'a, 'b> Filters<'a, 'b> {
     }
 
     /// All of them but efforts as one expression, which isn't read; empty where there are none.
-    pub(crate) fn one_expression(&self, alloc: Global) -> Result<String, AllocError> {
+    pub fn one_expression(&self, alloc: Global) -> Result<String, AllocError> {
         let mut terms = String::new(alloc);
         for tag in self.tags.unwrap_or(&[]) {
             write!(terms, "+{tag}")?;

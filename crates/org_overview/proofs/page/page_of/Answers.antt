@@ -1,7 +1,8 @@
 use Rattle.std.proofs.Common.{◌∙◌, ◌*◌, ap, map, subst, sym}
-use Rattle.org_agenda.specs.Lists.{list_rows, Open}
+use Rattle.std.specs.Prelude.{option_copied}
 use Rattle.org_overview.specs.Asked.{chart_days}
 use Rattle.org_overview.specs.Cells.{weeks_cells}
+use Rattle.org_overview.specs.Chosen.{chosen_tasks, told_of}
 use Rattle.org_overview.specs.Days.{day_marks}
 use Rattle.org_overview.specs.Groups.{ShowsGroups}
 use Rattle.org_overview.specs.Here.{ShowsSoon, ShowsToday}
@@ -18,20 +19,21 @@ use Rattle.org_overview.proofs.page.page_of.Goals as goal
 pub returns-clause-value : goal.returns-clause-value
 returns-clause-value g c =
     let files = c.args.seen.now.files.now.files in
+    let chosen = option_copied c.args.expression in
     let scopes = c.args.seen.now.scopes.now in
     let wish = c.args.seen.now.wish.now in
     let p = c.put_together.ensures in
     let dated = c.in_ok-dated.ensures.value in
     let clocked = c.in_ok-clocked.ensures.value in
-    let here = here_at c.in_ok-dated.dated.here files scopes wish wish.days.0 dated.here in
+    let here = here_at c.in_ok-dated.dated.here files chosen scopes wish wish.days.0 dated.here in
     record {
-      today = subst (λ (t : Today). ShowsToday t files (rows_on scopes wish wish.moment.day)) (sym p.today) here.today;
+      today = subst (λ (t : Today). ShowsToday t files (rows_on chosen scopes wish wish.moment.day)) (sym p.today) here.today;
       late = ap (λ v. shown_marks v.items) p.late ∙ here.late;
-      soon = subst (λ v. ShowsSoon v.items files (rows_on scopes wish wish.moment.day)) (sym p.soon) here.soon;
-      coming = ap (λ v. map day_marks v.items) p.coming ∙ dated.coming ∙ coming_at files scopes wish wish.days.0;
-      month = ap (λ (m : Month). weeks_cells m.weeks.items) p.month ∙ dated.month ∙ month_at files scopes wish (7 * wish.weeks);
-      tasks = subst (λ v. ShowsGroups v.items files scopes (list_rows Open scopes)) (sym p.groups) c.in_ok-groups.ensures.value;
-      chart = subst (λ (m : Chart). ShowsChart m c.put_together.result.clocked (chart_days wish.moment.day) scopes) (sym p.chart)
-          (subst (λ n. ShowsChart c.in_ok-clocked.clocked.chart n (chart_days wish.moment.day) scopes) (sym p.minutes) clocked.chart);
+      soon = subst (λ v. ShowsSoon v.items files (rows_on chosen scopes wish wish.moment.day)) (sym p.soon) here.soon;
+      coming = ap (λ v. map day_marks v.items) p.coming ∙ dated.coming ∙ coming_at files chosen scopes wish wish.days.0;
+      month = ap (λ (m : Month). weeks_cells m.weeks.items) p.month ∙ dated.month ∙ month_at files chosen scopes wish (7 * wish.weeks);
+      tasks = subst (λ v. ShowsGroups v.items files scopes (chosen_tasks chosen wish.moment scopes)) (sym p.groups) c.in_ok-groups.ensures.value;
+      chart = subst (λ (m : Chart). ShowsChart m c.put_together.result.clocked (chart_days wish.moment.day) (told_of chosen wish.moment) scopes) (sym p.chart)
+          (subst (λ n. ShowsChart c.in_ok-clocked.clocked.chart n (chart_days wish.moment.day) (told_of chosen wish.moment) scopes) (sym p.minutes) clocked.chart);
       sums = ap (λ (s : Sums). sums_minutes s.rows.items) p.sums ∙ clocked.sums;
     }
