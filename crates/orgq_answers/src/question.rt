@@ -6,6 +6,7 @@ use crate::text::text_of;
 use clap::ArgMatches;
 use org_answer::{Arrangement, Form, PrintOptions, Query, Question, check};
 use org_cal::Moment;
+use org_search::Search;
 use orgq_args::{columns_for, profile, read_question, universal};
 use orgq_messages::{Problem, report_problem, status_of};
 use std::time::Clock;
@@ -38,11 +39,13 @@ pub fn print_rows(
         Err(status) => return Ok(status),
     };
     let efforts = options.efforts()?;
+    let searches = options.filters.searches(rt.alloc())?;
     let question = Question {
         asked: &asked,
         profile: profile(matches.get_one::<u32>("profile").unwrap_or(1)),
         moment,
         expressions: expressions.as_slice(),
+        searches: &[],
         efforts,
         arrangement: Arrangement {
             keys: options.ordering.keys.as_slice(),
@@ -51,7 +54,7 @@ pub fn print_rows(
         },
     };
     let look = look_of(look, asked.list(), canvas);
-    match over_files(rt, matches, call, &question, &look) {
+    match over_files(rt, matches, call, &question, searches.as_slice(), &look) {
         Err(problem) => Ok(report_of(rt, problem, &asked, options.filter())),
         Ok(status) => Ok(status),
     }
@@ -80,12 +83,13 @@ fn over_files(
     matches: &ArgMatches<'_>,
     call: &mut Call,
     question: &Question<'_, '_>,
+    searches: &[Search],
     look: &PrintOptions<'_, '_>,
 ) -> Result<u8, Problem> {
     check(rt.alloc(), question)?;
     let is_quiet = matches.get_flag("quiet");
     let asked = call.files(rt, matches)?;
-    let (has_row, text) = text_of(rt, &asked.file_set, question, look, is_quiet)?;
+    let (has_row, text) = text_of(rt, &asked.file_set, question, searches, look, is_quiet)?;
     let status = status_of(has_row, asked.left_out);
     match text {
         Some(text) => Ok(call.print(rt, text.as_slice(), status)),

@@ -7,24 +7,29 @@ use org_answer::{
     headings_of_lines, ical_of, lines_within, picture_bytes,
 };
 use org_base::Fault;
-use org_client::{FileSet, LoadReport, RowIds};
+use org_client::{FileSet, FoundHeadings, LoadReport, RowIds};
 use org_inherit::Inherits;
 use org_layout::Line;
+use org_search::{Scan, Search};
 use org_text::Whole;
 use orgq_args::property_names;
 use orgq_files::say_unknown;
 use std::alloc::Global;
 use std::mem::forget;
 
-/// Whether there is a row, and what is printed, if anything is to be.
+/// Whether there is a row, and what is printed, if anything is to be, of the headings that each of these searches finds.
 pub fn text_of(
     rt: &HostRuntime,
     file_set: &FileSet<Whole>,
     question: &Question<'_, '_>,
+    searches: &[Search],
     look: &PrintOptions<'_, '_>,
     is_quiet: bool,
 ) -> Result<(bool, Option<Vec<u8>>), Fault> {
     let inherits = file_set.inherits()?;
+    let found = found_headings(rt.alloc(), file_set, &inherits, searches)?;
+    let question = with_searches(question, found.as_slice());
+    let question = &question;
     if let Query::Todo(words) = question.asked {
         say_unknown(rt, &inherits, words);
     }
@@ -39,6 +44,38 @@ pub fn text_of(
         forget(inherits);
     }
     Ok(printed)
+}
+
+// The headings that each of these searches finds.
+fn found_headings(
+    alloc: Global,
+    file_set: &FileSet<Whole>,
+    inherits: &Inherits<'_>,
+    searches: &[Search],
+) -> Result<Vec<FoundHeadings>, Fault> {
+    let mut found = Vec::new(alloc);
+    for search in searches {
+        let mut scan = Scan::new(alloc, search)?;
+        let headings = FoundHeadings::of(alloc, file_set, inherits, &mut scan)?;
+        found.push(headings)?;
+    }
+    Ok(found)
+}
+
+// A question of those headings alone.
+fn with_searches<'a, 'b>(
+    question: &Question<'a, 'b>,
+    searches: &'a [FoundHeadings],
+) -> Question<'a, 'b> {
+    Question {
+        asked: question.asked,
+        profile: question.profile,
+        moment: question.moment,
+        expressions: question.expressions,
+        searches,
+        efforts: question.efforts,
+        arrangement: question.arrangement,
+    }
 }
 
 // Whether there is a row, where nothing is printed.

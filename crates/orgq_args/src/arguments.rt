@@ -55,6 +55,10 @@ const OF_ROWS: &str = "\
 ;effort;RANGE;Only rows of headings with so much effort: -0:30, 0:30-2:00, 1:00-
 ;limit;N;At most so many rows, the first ones";
 
+// What chooses among them by their text.
+const OF_TEXT: &str = "\
+;search;WORDS;Only rows of headings in whose text these words stand, as of search";
+
 // How the rows of lists and of each day stand.
 const OF_ORDER: &str = "\
 ;sort;KEY,..;The order of the rows, as deadline,-effort, where a minus turns a key round
@@ -135,6 +139,7 @@ pub fn takes_value(name: &str) -> bool {
     is_valued(OF_ALL, name)
         || is_valued(OF_TODAY, name)
         || is_valued(OF_ROWS, name)
+        || is_valued(OF_TEXT, name)
         || is_valued(OF_ORDER, name)
         || is_valued(OF_FOLLOW, name)
 }
@@ -190,6 +195,7 @@ fn with_front<'a>(alloc: Global, command: Command<'a>) -> Result<Command<'a>, Al
     );
     let command = command.subcommand_precedence_over_arg(true).arg(path)?;
     let command = with_options(alloc, command, OF_TODAY, false)?;
+    let command = with_options(alloc, command, OF_TEXT, false)?;
     with_options(
         alloc,
         with_options(alloc, command, OF_ROWS, false)?,
@@ -215,6 +221,7 @@ fn agenda<'a>(alloc: Global) -> Result<Command<'a>, AllocError> {
     let agenda = Command::new(alloc, "agenda").about("Some days, by default today");
     let agenda = agenda.arg(day.allow_hyphen_values(true))?;
     let agenda = with_options(alloc, agenda, OF_AGENDA, false)?;
+    let agenda = with_options(alloc, agenda, OF_TEXT, false)?;
     with_options(
         alloc,
         with_options(alloc, agenda, OF_ROWS, false)?,
@@ -233,13 +240,15 @@ fn calendar<'a>(alloc: Global) -> Result<Command<'a>, AllocError> {
     let calendar = Command::new(alloc, "calendar").about("A month, a week or a year as a picture");
     let calendar = calendar.arg(view.allow_hyphen_values(true))?;
     let calendar = calendar.arg(date.allow_hyphen_values(true))?;
-    with_options(alloc, calendar, OF_CALENDAR, false)
+    let calendar = with_options(alloc, calendar, OF_CALENDAR, false)?;
+    with_options(alloc, calendar, OF_TEXT, false)
 }
 
 fn todo<'a>(alloc: Global) -> Result<Command<'a>, AllocError> {
     let keywords = words(alloc, "KEYWORD", "Keywords; without them the open ones");
     let todo = Command::new(alloc, "todo").about("The open entries, or those with some keyword");
     let todo = with_options(alloc, todo.arg(keywords)?, OF_ROWS, false)?;
+    let todo = with_options(alloc, todo, OF_TEXT, false)?;
     with_options(alloc, todo, OF_ORDER, false)
 }
 
@@ -251,6 +260,7 @@ fn match_list<'a>(alloc: Global) -> Result<Command<'a>, AllocError> {
     );
     let list = Command::new(alloc, "match").about("The entries of which an expression holds");
     let list = with_options(alloc, list.arg(expression.required(true))?, OF_ROWS, false)?;
+    let list = with_options(alloc, list, OF_TEXT, false)?;
     with_options(alloc, list, OF_ORDER, false)
 }
 
@@ -334,6 +344,7 @@ fn log<'a>(alloc: Global) -> Result<Command<'a>, AllocError> {
 fn next<'a>(alloc: Global) -> Result<Command<'a>, AllocError> {
     let next = Command::new(alloc, "next").about("What comes next of each stamp, by time");
     let next = with_options(alloc, next, OF_NEXT, false)?;
+    let next = with_options(alloc, next, OF_TEXT, false)?;
     with_options(
         alloc,
         with_options(alloc, next, OF_ROWS, false)?,
@@ -345,6 +356,7 @@ fn next<'a>(alloc: Global) -> Result<Command<'a>, AllocError> {
 fn ical<'a>(alloc: Global) -> Result<Command<'a>, AllocError> {
     let ical = Command::new(alloc, "ical").about("Some days and all deadlines as iCalendar");
     let ical = with_options(alloc, ical, OF_ICAL, false)?;
+    let ical = with_options(alloc, ical, OF_TEXT, false)?;
     with_options(alloc, ical, OF_ROWS, false)
 }
 

@@ -298,11 +298,20 @@ fn of_page<'a, 'b>(filters: Filters<'a, 'b>) -> Result<Filters<'a, 'b>, Problem>
     Ok(filters)
 }
 
+// Whether a command's rows are chosen by the text of their headings.
+fn takes_words(name: &str) -> bool {
+    matches!(
+        name,
+        "agenda" | "calendar" | "ical" | "match" | "next" | "todo"
+    )
+}
+
 /// What chooses among the rows: words of the command itself, and words in front of it.
 pub fn read_filters<'a, 'b>(matches: &'b ArgMatches<'a>) -> Result<Filters<'a, 'b>, Problem> {
     let front = Filters::of(matches);
     match matches.subcommand() {
         None => Ok(front),
+        Some((name, _)) if front.words.is_some() && !takes_words(name) => Err(Problem::SearchOf),
         Some(("calendar", _)) if front.limit.is_some() => Err(Problem::LimitOf),
         Some(("clock", own)) if own.subcommand().is_none() => {
             of_table(Filters::of_table(own).or(&front), own.get_flag("chart"))

@@ -126,6 +126,7 @@ pub enum Problem {
     Properties,
     /// What is for rows, of a command that has none.
     RowsAlone,
+    SearchOf,
     Severity,
     Since,
     SinceBeside,
@@ -275,6 +276,9 @@ impl Problem {
             }
             Problem::RowsAlone =>
                 "--format and --properties are for rows, which this command has none of",
+            Problem::SearchOf => {
+                "--search is an option of agenda, calendar, ical, match, next and todo"
+            }
             Problem::Severity => "--severity is error, warning or note",
             Problem::Since => "--since names a moment after the one that is now",
             Problem::SinceBeside => "--since goes neither with -d nor with --within",
