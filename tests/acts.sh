@@ -1,9 +1,10 @@
 #!/bin/sh
 # Does the same acts to the same made files in Emacs and by `orgq`, and compares the files byte for byte: each difference has to
 # be of a kind that has its row in docs/org.md. The files are made from a seed, some 3,500 acts to 330 of them with all logging
-# of Org off, and some 1,900 to 520 more with logging of every kind, as Org itself and the file have it. Where Emacs or python3 isn't there all is left out, which the last line says, and the status is 0. Else the last
-# line counts.
-#     tests/acts.sh ORGQ [SEED [COUNT [LOGS]]]
+# of Org off, some 1,900 to 520 more with logging of every kind, as Org itself and the file have it, and 3,500 to parts of
+# headings of 500 more: tags, priorities, properties, notes, and keywords that go. Where Emacs or python3 isn't there all is left
+# out, which the last line says, and the status is 0. Else the last line counts.
+#     tests/acts.sh ORGQ [SEED [COUNT [LOGS [PARTS]]]]
 here=$(cd "$(dirname "$0")" && pwd)
 emacs=${EMACS:-emacs}
 for needed in "$emacs" python3; do
@@ -26,6 +27,7 @@ export HOME XDG_CONFIG_HOME LC_ALL
 mkdir -p "$HOME" "$work/orgq"
 python3 "$here/acts/make.py" "${2:-7}" "${3:-330}" "$work" || exit 2
 python3 "$here/acts/logs.py" "${2:-7}" "${4:-520}" "$work" || exit 2
+python3 "$here/acts/parts.py" "${2:-7}" "${5:-500}" "$work" || exit 2
 if ! "$emacs" -Q --batch -l "$here/acts/acts.el" "$work" < /dev/null > "$work/said" 2>&1; then
     tail -5 "$work/said"
     echo "acts: Emacs ended with an error"
@@ -38,6 +40,9 @@ fi
 act() {
     case $3 in
         log-set) "$orgq" --at "2024-02-28 10:30" set "$1:$2" "$4" --note="$(printf '%b' "$5")" ;;
+        log-none) "$orgq" --at "2024-02-28 10:30" set "$1:$2" none ;;
+        log-note) "$orgq" --at "2024-02-28 10:30" note "$1:$2" "$(printf '%b' "$4")" ;;
+        priority | property) "$orgq" --at "2024-02-28 10:30" "$3" "$1:$2" "$4" ;;
         log-*) "$orgq" --at "2024-02-28 10:30" "${3#log-}" "$1:$2" $4 ;;
         in) "$orgq" --at "2024-02-28 10:30" -f "$1" clock in "$1:$2" ;;
         out | cancel) "$orgq" --at "2024-02-28 10:30" -f "$1" clock "$3" ;;
@@ -51,12 +56,13 @@ act() {
 has() {
     case $1 in
         in | out | cancel) "$orgq" clock --help | grep -q "^  $1 " ;;
+        log-none) "$orgq" set --help | grep -q none ;;
         *) "$orgq" --help | grep -q "^  ${1#log-} " ;;
     esac
 }
 
 acts=
-for name in schedule deadline in out cancel done log-set log-schedule log-deadline; do
+for name in schedule deadline in out cancel done log-set log-schedule log-deadline tag priority property log-none log-note; do
     if ! has "$name"; then
         echo "acts: this orgq hasn't $name"
         echo "acts: 0 passed, 1 failed"

@@ -55,7 +55,7 @@ class Table:
                 self.commands[f"clock {word}" if is_below else word] = own
         listed = re.search(r"const COMMANDS: [^=]*= \[(.*?)\];", read(COMMANDS), re.S)[1]
         self.listed = re.findall(r'"([a-z]+)"', listed)
-        self.repeated = re.search(r"(?m)^ +((?:\"[a-z]+\" \| )*\"[a-z]+\") => arg\.action\(ArgAction::Append\)", read(LINES))[1]
+        self.repeated = " ".join(re.findall(r"(?m)^ +((?:\"[a-z]+\" \| )*\"[a-z]+\") => arg\.action\(ArgAction::Append\)", read(LINES)))
 
     def add(self, text):
         """Notes the lines of a list, and returns their options."""

@@ -183,7 +183,7 @@ _orgq_behind() {
             ;;
         --from | --to) found=("${days[@]}" "${blocks[@]}") ;;
         --scheduled | --deadline) found=("${days[@]}") ;;
-        --tag) _orgq_listed tags ;;
+        --tag | --without) _orgq_listed tags ;;
         -t | --todo | --keyword) _orgq_listed keywords ;;
         *) mapfile -t found < <(_orgq_values "$help" "$1") ;;
     esac

@@ -105,7 +105,7 @@ function _orgq_offers
                 printf '%s\n' $days $blocks
             case --scheduled --deadline
                 printf '%s\n' $days
-            case --tag
+            case --tag --without
                 _orgq_listed tags
             case -t --todo --keyword
                 _orgq_listed keywords

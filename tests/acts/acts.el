@@ -22,6 +22,7 @@
       org-log-redeadline nil
       org-log-into-drawer nil
       org-auto-align-tags nil
+      org-priority-lowest ?Z
       org-clock-auto-clock-resolution nil
       org-clock-clocked-in-display nil
       org-clock-persist nil
@@ -50,6 +51,11 @@
       (move-marker org-clock-marker (point) (current-buffer))
       (move-marker org-clock-hd-marker heading (current-buffer)))))
 
+(defun acts-tag (words)
+  "Take the tags of WORDS away that have a minus in front, and put those behind that have a plus."
+  (dolist (word words) (when (eq (aref word 0) ?-) (org-toggle-tag (substring word 1) 'off)))
+  (dolist (word words) (when (eq (aref word 0) ?+) (org-toggle-tag (substring word 1) 'on))))
+
 (defun acts-do (act date)
   "Do ACT with DATE to the heading at point."
   (pcase act
@@ -60,6 +66,13 @@
     ("cancel" (acts-take-up-the-clock) (org-clock-cancel))
     ("done" (ignore-errors (acts-take-up-the-clock)) (org-todo "DONE"))
     ("log-set" (ignore-errors (acts-take-up-the-clock)) (org-todo date))
+    ("tag" (acts-tag (split-string date)))
+    ("priority" (if (equal date "none") (when (looking-at-p org-priority-regexp) (org-priority 'remove)) (org-priority (aref date 0))))
+    ("property" (string-match "=" date)
+     (let ((name (substring date 0 (match-beginning 0))) (value (substring date (match-end 0))))
+       (if (equal value "") (org-delete-property name) (org-set-property name value))))
+    ("log-none" (org-todo 'none))
+    ("log-note" (org-add-note))
     ("log-schedule" (acts-do "schedule" date))
     ("log-deadline" (acts-do "deadline" date))))
 
@@ -90,7 +103,8 @@
                   was (org-get-todo-state))
             (condition-case err
                 (progn (acts-do act date)
-                       (when (string-prefix-p "log-" act) (acts-log was date note)))
+                       (cond ((equal act "log-note") (acts-log was date date))
+                             ((string-prefix-p "log-" act) (acts-log was date note))))
               (error (setq problem err)))
             (move-marker org-clock-marker nil)
             (move-marker org-clock-hd-marker nil)

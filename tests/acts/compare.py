@@ -40,8 +40,15 @@ KINDS = {
     "shown": "a clock line in a block counts for nothing",
     "empty": "empty `LOGBOOK` drawers of the heading and of those below it go where its clock ends",
     "bottom": "under a last line without a line feed the log line comes before the planning line",
+    "aligned": "tags are aligned where none of them changes",
+    "cookie": "a cookie anywhere in the line is the priority",
+    "plus": "further lines of a property stay where it gets a value",
+    "comment": "white space behind `COMMENT` becomes one space where the keyword goes",
+    "tab": "a word with a tab behind it is no keyword",
+    "filled": "a tab that reaches up to tags in their column stays",
+    "stars": "white space behind the stars becomes one space where there is no keyword to go",
 }
-KINDS_OF_ACTS = {"schedule", "deadline", "in", "out", "done", "log-set", "log-schedule", "log-deadline"}
+KINDS_OF_ACTS = {"schedule", "deadline", "in", "out", "done", "log-set", "log-schedule", "log-deadline", "tag", "priority", "property", "log-none", "log-note"}
 STAMP = r"[<\[]\d{4}-\d\d-\d\d[^>\]\n]*[>\]]"
 PAIR = re.compile(r"(SCHEDULED|DEADLINE|CLOSED):[ \t]*(" + STAMP + "(?:--" + STAMP + ")?)")
 CLOCK = re.compile(r"[ \t]*CLOCK: \[")
@@ -310,6 +317,47 @@ def kinds_of_place(before, org, own):
     return kinds
 
 
+def kinds_of_line(act, before, org, own):
+    """The kinds by which two sections differ whose heading line alone was to change."""
+    if org.lines[1:] != own.lines[1:]:
+        return []
+    first, second, was = (entry.lines[0] for entry in (org, own, before))
+    spaced = lambda line: re.sub(r"[ \t]+(:\S+:)[ \t]*$", r" \1", line.rstrip("\r"))
+    bare = lambda line: re.sub(r"\s+", " ", re.sub(r"\[#[A-Z0-9]+\] ?", "", line))
+    tests = {
+        "aligned": act in ("tag", "priority") and second == was and spaced(first) == spaced(second),
+        "cookie": act == "priority" and re.search(r"\w \[#[A-Z0-9]+\] \w", was) and bare(first) == bare(second),
+        "filled": act == "priority" and "\t:" in first and spaced(first) == spaced(second),
+        "tab": re.match(r"\*+ [A-ZÖ]+\t", was) and bare(first.replace("TODO", "")) == bare(second.replace("TODO", "")),
+        "comment": act == "none" and re.sub(r"(COMMENT)\s+", r"\1 ", first) == re.sub(r"(COMMENT)\s+", r"\1 ", second),
+        "stars": act == "none" and second == was and re.sub(r"^(\*+)\s+", r"\1 ", first) == re.sub(r"^(\*+)\s+", r"\1 ", second),
+    }
+    own.lines[0] = first
+    return [kind for kind, holds in tests.items() if holds][:1] or None
+
+
+def kinds_of_property(word, org, own):
+    """The kinds by which two sections differ whose heading got a property, or lost it."""
+    name = word.partition("=")[0]
+    own_line = re.compile(rf"[ \t]*:{re.escape(name)}\+?:", re.IGNORECASE)
+    found = [k for k, line in enumerate(org.lines) if own_line.match(line)]
+    plain = lambda lines: [re.sub(r":\s+", ": ", line).lower() for line in lines]
+    kept = [line for k, line in enumerate(org.lines) if k not in found[1:]]
+    if kept != org.lines and plain(kept) == plain(own.lines):
+        own.lines = org.lines
+        return ["plus"]
+    return []
+
+
+def kinds_of_note(before, org, own):
+    """The kinds by which two sections differ that got a note."""
+    stripped = lambda lines: sorted(line.strip() for line in lines)
+    if not before.back and not before.ended and stripped(org.lines) == stripped(own.lines) and org.lines != own.lines:
+        own.lines = org.lines
+        return ["bottom"]
+    return kinds_of_place(before, org, own)
+
+
 def without_empty_drawers(lines):
     kept = []
     for line in lines:
@@ -361,6 +409,12 @@ def kinds_of(act, date, before, org, own):
         more = kinds_of_done(before, org, own)
     elif act == "set":
         more = kinds_of_set(date, before, org, own)
+    elif act in ("tag", "priority", "none"):
+        more = kinds_of_line(act, before, org, own)
+    elif act == "property":
+        more = kinds_of_property(date, org, own)
+    elif act == "note":
+        more = kinds_of_note(before, org, own)
     else:
         more = {"in": kinds_of_clock_in, "out": kinds_of_clock_out}.get(act, lambda org, own: [])(org, own)
     return kinds + more if more is not None and org.key() == own.key() else None

@@ -12,6 +12,7 @@ pub mod ClockSumLemmas
 pub mod ClockTextLemmas
 pub mod DoneLemmas
 pub mod GivenLemmas
+pub mod HeadActLemmas
 pub mod LawLemmas
 pub mod LineLemmas
 pub mod OverLemmas
@@ -19,6 +20,7 @@ pub mod OwnLemmas
 pub mod PlaceLemmas
 pub mod PlanLemmas
 pub mod PlanningLemmas
+pub mod PropertyActLemmas
 pub mod SectionLemmas
 pub mod TakingBackLemmas
 pub mod TurnLemmas

@@ -29,6 +29,8 @@ pub enum Refusal {
     Unreadable(Unreadable),
     /// The text isn't the one that the act left which is to be taken back.
     Edited,
+    /// The heading has no date that could be shifted.
+    NoDate,
 }
 
 impl From<Fault> for Refusal {

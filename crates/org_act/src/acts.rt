@@ -45,8 +45,9 @@ impl<'a, A: HeadingAct> Act for Acts<'a, A> {
     }
 }
 
-// The text that an act on the headings of some lines makes of another.
-fn text_in_turn<A: HeadingAct>(
+/// The text that an act on the headings of some lines makes of another, on one after the other. Where it is refused for one of
+/// them, it is for all.
+pub fn text_in_turn<A: HeadingAct>(
     alloc: Global,
     text: &str,
     act: &A,

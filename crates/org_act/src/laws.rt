@@ -5,8 +5,10 @@ ghost use Rattle.org_act.specs.ClockEntries.{OneClockCloses, OneClockGoes};
 ghost use Rattle.org_act.specs.ClockSums.{OwnMinutesGrow, SumsGrowAbove};
 ghost use Rattle.org_act.specs.ClockTexts.{ActsAddMinutes, ActsCancelOneClock, ActsEndOneClock};
 ghost use Rattle.org_act.specs.Examples.{ActExamplesHold, ExamplesHold};
+ghost use Rattle.org_act.specs.HeadActLaws.{HeadLinesAreChanged};
 ghost use Rattle.org_act.specs.Laws.{ActsComplete, OneRefusalIsOfAll};
 ghost use Rattle.org_act.specs.PlanningLaws.{HeadingsArePlanned};
+ghost use Rattle.org_act.specs.PropertyActLaws.{HeadingsGetProperties};
 ghost use Rattle.org_act.specs.TakingBack.{ActsAreTakenBack};
 
 /// Where nothing is read after a text, an act that completes a heading leaves what the engine's completion leaves, and is
@@ -32,10 +34,22 @@ pub fn headings_are_planned()
     ensures { HeadingsArePlanned }
 {}
 
+/// A heading line that gets other tags or another priority, or loses its keyword, is read as what it said, but for that; all that
+/// stands before it and behind it stays.
+pub fn head_lines_are_changed()
+    ensures { HeadLinesAreChanged }
+{}
+
 /// A heading that is added stands behind all others, or behind all that is below the one that is named, and is read as what was
 /// asked for; all other bytes, sections and setting lines stay.
 pub fn headings_are_added()
     ensures { HeadingsAreAdded }
+{}
+
+/// Right under a heading and its planning line one line of a property drawer alone gives the property, and gives its value, or none
+/// gives it; the drawer's other lines stay, and all that stands before it and behind it.
+pub fn headings_get_properties()
+    ensures { HeadingsGetProperties }
 {}
 
 /// Headings are found by their lines, lose a stamp, alone or several at once, and go behind the last one below another; what an

@@ -133,7 +133,7 @@ fn text_with_clock_ended(
 
 // A text with what is logged in the section of the heading on a line. All else of it stays, which is looked at before it is
 // given.
-fn logged_text(
+pub(crate) fn logged_text(
     alloc: Global,
     text: &str,
     line: u64,
@@ -183,7 +183,7 @@ pub fn traced_plannings(
 }
 
 // The same of one heading.
-fn traced_planning(
+pub(crate) fn traced_planning(
     alloc: Global,
     text: &str,
     line: u64,
@@ -210,7 +210,7 @@ fn traced_planning(
 }
 
 // The stamp under a planning keyword of the heading on a line; empty where there is none.
-fn stamp_on(text: &str, line: u64, keyword: PlanningKeyword) -> &str {
+pub(crate) fn stamp_on(text: &str, line: u64, keyword: PlanningKeyword) -> &str {
     let Some(at) = heading_at(text.as_bytes(), line) else {
         return "";
     };

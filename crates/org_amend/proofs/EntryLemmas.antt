@@ -37,19 +37,19 @@ use Rattle.org_text.specs.Replace.{max_bytes}
 
 -- parts that are found by tests
 
-part_is : (line : List ℕ) (span : Option Span) (word : Option (List ℕ)) → same_part line span word ≡ true → option_map (bytes_in line) span ≡ word
+pub part_is : (line : List ℕ) (span : Option Span) (word : Option (List ℕ)) → same_part line span word ≡ true → option_map (bytes_in line) span ≡ word
 part_is line None None h = refl
 part_is line None (Some word) h = absurd cc
 part_is line (Some span) None h = absurd cc
 part_is line (Some span) (Some word) h = ap Some ((bytes_eq-Decides (bytes_in line span) word).0 h)
 
-cookie_is : (line : List ℕ) (span : Option Span) (word : Option (List ℕ)) → same_cookie line span word ≡ true → option_map (λ cookie. cookie_value (bytes_in line cookie)) span ≡ word
+pub cookie_is : (line : List ℕ) (span : Option Span) (word : Option (List ℕ)) → same_cookie line span word ≡ true → option_map (λ cookie. cookie_value (bytes_in line cookie)) span ≡ word
 cookie_is line None None h = refl
 cookie_is line None (Some word) h = absurd cc
 cookie_is line (Some span) None h = absurd cc
 cookie_is line (Some span) (Some word) h = ap Some ((bytes_eq-Decides (cookie_value (bytes_in line span)) word).0 h)
 
-parts_are : (line : List ℕ) (spans : List Span) (words : List (List ℕ)) → same_parts line spans words ≡ true → map (bytes_in line) spans ≡ words
+pub parts_are : (line : List ℕ) (spans : List Span) (words : List (List ℕ)) → same_parts line spans words ≡ true → map (bytes_in line) spans ≡ words
 parts_are line [] [] h = refl
 parts_are line [] (word ∷ words) h = absurd cc
 parts_are line (span ∷ spans) [] h = absurd cc

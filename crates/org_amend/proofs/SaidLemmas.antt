@@ -1,5 +1,5 @@
 -- What a line says under a keyword is the stamp of the last pair, and that is by its bytes.
-use Rattle.std.proofs.Common.{◌≡◌, ◌≢◌, ◌∙◌, ℕ, ◌+◌, Bool, true, false, ◌&&◌, not, inl, inr, List, [], ◌∷◌, length, take, drop, refl, sym, ap, subst}
+use Rattle.std.proofs.Common.{◌≡◌, ◌≢◌, ◌∙◌, ◌<◌, ℕ, ◌+◌, Bool, true, false, ◌&&◌, not, inl, inr, List, [], ◌∷◌, length, take, drop, refl, sym, ap, subst}
 use Rattle.std.specs.Prelude.{Option, Some, None, IfSome, if◌then◌else◌}
 use Rattle.std.specs.List.{AllByRecursion, slice_range}
 use Rattle.std.specs.Option.{option_map, option_or}
@@ -12,7 +12,7 @@ use Rattle.org_amend.specs.declared.typed.TypedDate.{TypedDate}
 use Rattle.org_base.specs.declared.span.Span.{Span}
 use Rattle.org_drawer.specs.Planning.{is_same, last_of, planned, stamp_if, stamp_under}
 use Rattle.org_lines.proofs.LineLemmas.{range_is}
-use Rattle.org_stamp.specs.CanPrint.{CanPrint}
+use Rattle.org_stamp.specs.CanPrint.{CanPrint, IsRepeater}
 use Rattle.org_stamp.specs.Pair.{is_empty, pairs}
 use Rattle.org_stamp.specs.Print.{stamp_text}
 use Rattle.org_stamp.specs.Stamp.{IsSingle, IsStamp}
@@ -157,11 +157,11 @@ pub says_else : (word : PlanningKeyword) (stamp old new : List ℕ) → says wor
 says_else word stamp old new h = λ other e. said_same other old new (read_back word stamp old new other h ∙ else_is word other stamp old e)
 
 -- a text that is taken
-record IsTaken (test : Bool) (bytes given : List ℕ) : Type 0 where
+pub record IsTaken (test : Bool) (bytes given : List ℕ) : Type 0 where
   pub wanted : test ≡ true
   pub is : given ≡ bytes
 
-taken : (test : Bool) (bytes given : List ℕ) → text_if test bytes ≡ Some given → IsTaken test bytes given
+pub taken : (test : Bool) (bytes given : List ℕ) → text_if test bytes ≡ Some given → IsTaken test bytes given
 taken test bytes given e = by test (is_utf8 bytes) e
   where
     by : (t u : Bool) → (if t && u then Some bytes else None) ≡ Some given → IsTaken t bytes given
@@ -193,9 +193,27 @@ old_can line word = by (last_pair word (pairs line)) (last_there word line)
     by None h = tt
     by (Some p) h = can_print (slice_range line p.at (p.at + p.len)) p.stamp (inl h)
 
+-- the first of two that is there is such a one as each is
+of_either : {X : Type 0} (P : X → Type 0) (one other : Option X) → IfSome one P → IfSome other P → IfSome (option_or one other) P
+of_either P None other h k = k
+of_either P (Some x) other h k = h
+
+or_none : {X : Type 0} (one : Option X) → one ≡ option_or one None
+or_none None = refl
+or_none (Some x) = refl
+
 dated_can : (date : TypedDate) (old : Option Pair) → IsDate date → IfSome old (λ p. CanPrint p.stamp) → CanPrint (dated_stamp date old)
-dated_can date None is h = record { day = is.day; time = is.time; end_time = is.end_time; end_of_start = is.end_of_start; repeater = tt; delay = tt; last = tt; last_time = tt }
-dated_can date (Some p) is h = record { day = is.day; time = is.time; end_time = is.end_time; end_of_start = is.end_of_start; repeater = h.repeater; delay = h.delay; last = tt; last_time = tt }
+dated_can date None is h = record { day = is.day; time = is.time; end_time = is.end_time; end_of_start = is.end_of_start; repeater = is.repeater; delay = is.delay; last = tt; last_time = tt }
+dated_can date (Some p) is h = record {
+  day = is.day;
+  time = is.time;
+  end_time = is.end_time;
+  end_of_start = is.end_of_start;
+  repeater = of_either IsRepeater date.repeater p.stamp.repeater is.repeater h.repeater;
+  delay = of_either (λ d. d.n < 10000) date.delay p.stamp.delay is.delay h.delay;
+  last = tt;
+  last_time = tt;
+}
 
 no_last : (date : TypedDate) (old : Option Pair) → (dated_stamp date old).last ≡ None
 no_last date None = refl
@@ -209,7 +227,8 @@ printed_single : (s : Stamp) → s.last ≡ None → CanPrint s → IsSingle (st
 printed_single s none can = only_single (stamp_text s) s none (printed_is_stamp s can)
 
 stamp_is_of : (date : TypedDate) (old : Option Pair) → IsStampOf date (option_map (λ (p : Pair). p.stamp) old) (dated_stamp date old)
-stamp_is_of date None = record { active = refl; day = refl; time = refl; end_time = refl; repeater = refl; delay = refl; last = refl }
+stamp_is_of date None =
+    record { active = refl; day = refl; time = refl; end_time = refl; repeater = or_none date.repeater; delay = or_none date.delay; last = refl }
 stamp_is_of date (Some p) = record { active = refl; day = refl; time = refl; end_time = refl; repeater = refl; delay = refl; last = refl }
 
 pub dates_are_said : DatesAreSaid

@@ -21,11 +21,11 @@ use Rattle.org_stamp.specs.declared.pair.PlanningKeyword.{PlanningKeyword}
 use Rattle.org_stamp.specs.declared.pair.PlanningKeyword.TheVariants.{Scheduled, Deadline, Closed}
 use Rattle.org_stamp.specs.declared.stamp.Stamp.{Stamp}
 
--- the stamp of a date, which keeps repeater and delay of the pair whose place it takes
+-- the stamp of a date, which keeps repeater and delay of the pair whose place it takes, unless it has others
 abbrev pub dated_stamp : TypedDate → Option Pair → Stamp
-dated_stamp date None = record { active = true; day = date.day; time = date.time; end_time = date.end_time; repeater = None; delay = None; last = None }
+dated_stamp date None = record { active = true; day = date.day; time = date.time; end_time = date.end_time; repeater = date.repeater; delay = date.delay; last = None }
 dated_stamp date (Some p) =
-    record { active = true; day = date.day; time = date.time; end_time = date.end_time; repeater = p.stamp.repeater; delay = p.stamp.delay; last = None }
+    record { active = true; day = date.day; time = date.time; end_time = date.end_time; repeater = option_or date.repeater p.stamp.repeater; delay = option_or date.delay p.stamp.delay; last = None }
 
 -- the last pair with a keyword
 abbrev pub last_pair : PlanningKeyword → List Pair → Option Pair

@@ -1,6 +1,6 @@
 -- Laws of the line under a heading (Org Syntax, "Planning").
 use Rattle.std.specs.Prelude.{◌≡◌, ◌<◌, ℕ, true, false, if◌then◌else◌, List, [], ◌∷◌, ◌++◌, get_or, Option, Some, None, IfSome, IfNone}
-use Rattle.std.specs.Option.{option_and_then, option_map}
+use Rattle.std.specs.Option.{option_and_then, option_map, option_or}
 use Rattle.org_amend.specs.Planning.{dated_line, undated_line}
 use Rattle.org_amend.specs.declared.typed.TypedDate.{TypedDate}
 use Rattle.org_cal.specs.Days.{IsDay}
@@ -12,16 +12,20 @@ use Rattle.org_class.specs.declared.class.Class.{Class}
 use Rattle.org_class.specs.declared.class.Class.TheVariants.{Heading, Plain, Planning as PlanningLine}
 use Rattle.org_drawer.specs.Planning.{is_same, planning_of, stamp_under}
 use Rattle.org_drawer.specs.declared.planning.Planning.{Planning}
+use Rattle.org_stamp.specs.CanPrint.{IsRepeater}
 use Rattle.org_stamp.specs.Pair.{is_planning}
 use Rattle.org_stamp.specs.declared.pair.PlanningKeyword.{PlanningKeyword}
 use Rattle.org_stamp.specs.declared.stamp.Stamp.{Stamp}
 
--- a day of the calendar with times of a day, of which none ends that doesn't begin
+-- a day of the calendar with times of a day, of which none ends that doesn't begin, and with a repeater and a delay that stamps
+-- may have
 pub record IsDate (date : TypedDate) : Type 0 where
   pub day : IsDay date.day
   pub time : IfSome date.time (λ t. t < MINUTES_PER_DAY)
   pub end_time : IfSome date.end_time (λ t. t < MINUTES_PER_DAY)
   pub end_of_start : IfNone date.time (date.end_time ≡ None)
+  pub repeater : IfSome date.repeater IsRepeater
+  pub delay : IfSome date.delay (λ d. d.n < 10000)
 
 -- the stamp that planning has under a keyword
 abbrev pub stamp_of_planning : PlanningKeyword → Option Planning → Option Stamp
@@ -32,14 +36,14 @@ stamp_of_planning word (Some planning) = option_map (λ s. s.0) (stamp_under wor
 abbrev pub said : PlanningKeyword → List ℕ → Option Stamp
 said word line = stamp_of_planning word (planning_of line)
 
--- the active stamp of a date, with the repeater and the delay of an old stamp, and no range
+-- the active stamp of a date, with the repeater and the delay of an old stamp, unless the date has others, and no range
 pub record IsStampOf (date : TypedDate) (old : Option Stamp) (s : Stamp) : Type 0 where
   pub active : s.active ≡ true
   pub day : s.day ≡ date.day
   pub time : s.time ≡ date.time
   pub end_time : s.end_time ≡ date.end_time
-  pub repeater : s.repeater ≡ option_and_then (λ o. o.repeater) old
-  pub delay : s.delay ≡ option_and_then (λ o. o.delay) old
+  pub repeater : s.repeater ≡ option_or date.repeater (option_and_then (λ o. o.repeater) old)
+  pub delay : s.delay ≡ option_or date.delay (option_and_then (λ o. o.delay) old)
   pub last : s.last ≡ None
 
 -- under each other keyword a new line says what the old one says

@@ -27,12 +27,12 @@ times_of text = times_around text (position (λ b. b == 45) text)
 
 -- a day without a time, if there is one
 abbrev pub day_alone : Option ℕ → Option TypedDate
-day_alone day = option_map (λ d. record { day = d; time = None; end_time = None }) day
+day_alone day = option_map (λ d. record { day = d; time = None; end_time = None; repeater = None; delay = None }) day
 
 -- a day with times, if both are there
 abbrev pub day_with : Option ℕ → Option (ℕ × Option ℕ) → Option TypedDate
 day_with None times = None
-day_with (Some day) times = option_map (λ t. record { day = day; time = Some t.0; end_time = t.1 }) times
+day_with (Some day) times = option_map (λ t. record { day = day; time = Some t.0; end_time = t.1; repeater = None; delay = None }) times
 
 -- no space
 abbrev pub is_of_word : ℕ → Bool

@@ -46,6 +46,8 @@ pub enum Unreadable {
     /// The title is empty, has an end of a line or white space at its ends, begins with a keyword, a cookie or `COMMENT`, or
     /// ends with tags; or the line would be longer than a text may be.
     Title,
+    /// The name of a property isn't one word, or ends in `+`, or the value isn't one line.
+    Property,
 }
 
 /// The heading line of a new heading, which ends so: in a file with these settings it is read as just this keyword, this cookie,
@@ -201,7 +203,7 @@ fn lost_part(line: &[u8], found: &Head, head: &NewHead<'_>) -> Option<Unreadable
 }
 
 // What is to blame where a part isn't read back: what was asked for, or else the title.
-fn blame(was_asked: bool, part: Unreadable) -> Unreadable
+pub(crate) fn blame(was_asked: bool, part: Unreadable) -> Unreadable
     ensures value { result ≡ blamed was_asked part }
 {
     if was_asked { part } else { Unreadable::Title }
@@ -232,7 +234,7 @@ fn same_cookie(line: &[u8], span: Option<Span>, priority: Option<&str>) -> bool
 }
 
 // X of the cookie `[#X]`.
-fn cookie_value(cookie: &[u8]) -> &[u8]
+pub(crate) fn cookie_value(cookie: &[u8]) -> &[u8]
     ensures value { result.now ≡ cookie_value cookie.now }
 {
     let rest = &cookie[cookie.len().min(2)..];

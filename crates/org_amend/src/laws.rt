@@ -2,9 +2,11 @@
 ghost use Rattle.org_amend.specs.CancelLaws.{OthersStay};
 ghost use Rattle.org_amend.specs.EndLaws.{OneClockEnds};
 ghost use Rattle.org_amend.specs.EntryLaws.{EntriesAreReadBack, HeadsAreReadBack};
-ghost use Rattle.org_amend.specs.Examples.{CancelExamplesHold, ExamplesHold, PlanningExamplesHold};
+ghost use Rattle.org_amend.specs.Examples.{CancelExamplesHold, ExamplesHold, PartExamplesHold, PlanningExamplesHold};
+ghost use Rattle.org_amend.specs.HeadChangeLaws.{HeadsAreChanged};
 ghost use Rattle.org_amend.specs.Laws.{BegunClocksRun, EndedClocksAreRead, FoundClocksRun};
 ghost use Rattle.org_amend.specs.PlanningLaws.{DatedLinesArePlanning, DatesAreSaid, LostStampsAreUnsaid, OtherLinesStay};
+ghost use Rattle.org_amend.specs.PropertyLaws.{PropertiesAreGiven};
 
 /// Where a running clock's line gets its end right behind its stamp, it is read as that clock, ended at that moment.
 pub fn ended_clocks_are_read()
@@ -32,8 +34,14 @@ pub fn cancel_examples_hold()
     ensures { CancelExamplesHold }
 {}
 
-/// A line that gets a date under a planning keyword says it, with the repeater and the delay that stood there, and all else
-/// that it said.
+/// In a property drawer that is changed one line alone gives the property, and gives its value, or none gives it; all other node lines
+/// stay, in their order, and so does all that stands behind the drawer.
+pub fn properties_are_given()
+    ensures { PropertiesAreGiven }
+{}
+
+/// A line that gets a date under a planning keyword says it, with its repeater and its delay, or those that stood there, and all
+/// else that it said.
 pub fn dates_are_said()
     ensures { DatesAreSaid }
 {}
@@ -59,9 +67,20 @@ pub fn planning_examples_hold()
     ensures { PlanningExamplesHold }
 {}
 
+/// A tag that stands there stays at its place; a cookie stands behind the keyword; a property's line takes the place of the first one.
+pub fn part_examples_hold()
+    ensures { PartExamplesHold }
+{}
+
 /// The heading line of a new heading is read as just the keyword, the priority, the title and the tags that were asked for.
 pub fn heads_are_read_back()
     ensures { HeadsAreReadBack }
+{}
+
+/// A heading line that gets other tags or another priority, or loses its keyword, is read as what it said, but for that, and ends
+/// as it did.
+pub fn heads_are_changed()
+    ensures { HeadsAreChanged }
 {}
 
 /// The lines of a new heading are read as one heading with just its words, its dates and its body, and none of them is a setting.

@@ -18,7 +18,7 @@ use std::str;
 /// there, and `end` is how a new line ends.
 ///
 /// In a planning line the last stamp of the keyword is replaced where it stands, a range whole, and keeps its repeater and its
-/// delay; a keyword that isn't there comes before all others, behind the indentation. Nothing else of the line changes. Where
+/// delay where the date has none; a keyword that isn't there comes before all others, behind the indentation. Nothing else of the line changes. Where
 /// `line` is no planning line, the answer is a new one. None where the answer would be read as something else: under the
 /// keyword another stamp, or under another keyword one that it hasn't now. Out of memory is the only refusal.
 pub fn dated_line(
@@ -58,7 +58,11 @@ pub fn undated_line(
 }
 
 // Bytes as text, if they are wanted and are text.
-fn text_if(alloc: Global, is_wanted: bool, bytes: &[u8]) -> Result<Option<String>, AllocError>
+pub(crate) fn text_if(
+    alloc: Global,
+    is_wanted: bool,
+    bytes: &[u8],
+) -> Result<Option<String>, AllocError>
     ensures value { GivesLine result (text_if is_wanted bytes.now) }
 {
     if !is_wanted {
@@ -86,13 +90,16 @@ fn is_left(keyword: PlanningKeyword, line: &[u8], next: &[u8], left: &[u8]) -> b
     says(keyword, &[], line, left) && stays(line, next, left)
 }
 
-// The stamp of a date, with the repeater and the delay of the pair whose place it takes.
+// The stamp of a date, with the repeater and the delay of the pair whose place it takes, unless it has others.
 fn dated_stamp(date: TypedDate, old: Option<Pair>) -> Stamp
     ensures value { result ≡ dated_stamp date old }
 {
     let (repeater, delay) = match old {
-        Some(pair) => (pair.stamp.repeater, pair.stamp.delay),
-        None => (None, None),
+        Some(pair) => (
+            date.repeater.or(pair.stamp.repeater),
+            date.delay.or(pair.stamp.delay),
+        ),
+        None => (date.repeater, date.delay),
     };
     Stamp {
         active: true,
@@ -217,7 +224,7 @@ pub(crate) fn has_feed(line: &[u8]) -> bool
 
 // Whether a line feed stands at the end of a line alone, where another one ends so, or none.
 #[tactic(auto, unfolding(crate::specs::Planning::ends_like))]
-fn ends_like(old: &[u8], new: &[u8]) -> bool
+pub(crate) fn ends_like(old: &[u8], new: &[u8]) -> bool
     ensures value { result ≡ ends_like old.now new.now }
 {
     match line_feed(new) {

@@ -4,8 +4,9 @@ ghost use Rattle.std.specs.List.{suffix_len};
 ghost use Rattle.org_amend.specs.Typed.{date_around, day_alone, day_with, gap_before, is_of_word, span, time_alone, times_around, times_of, typed_date};
 
 use org_cal::{Day, TimeOfDay};
+use org_stamp::{Delay, Repeater};
 
-/// A date as it is typed: a day, and a time of day or a span of one, where it is given.
+/// A date as it is typed: a day, a time of day or a span of one, a repeater and a delay, where they are given.
 #[derive(Clone, Copy, Debug, PartialEq, Eq)]
 pub struct TypedDate {
     /// The day.
@@ -14,11 +15,15 @@ pub struct TypedDate {
     pub time: Option<TimeOfDay>,
     /// Where the span ends; none without a time.
     pub end_time: Option<TimeOfDay>,
+    /// How it repeats; without one as the stamp does whose place it takes.
+    pub repeater: Option<Repeater>,
+    /// Its delay or its warning; without one that of the stamp whose place it takes.
+    pub delay: Option<Delay>,
 }
 
 impl TypedDate {
     /// The date that a text says on a day: one of [`Day::of_word`], and behind its last space a time `H:MM` or `HH:MM`, or
-    /// two of them with a dash between. `None` where it says none.
+    /// two of them with a dash between; it says no repeater and no delay. `None` where it says no date.
     #[tactic(auto, unfolding(crate::specs::Typed::typed_date))]
     pub fn of_text(text: &[u8], today: Day) -> Option<TypedDate>
         ensures value { result ≡ typed_date text.now today }
@@ -80,6 +85,8 @@ fn day_alone(day: Option<Day>) -> Option<TypedDate>
         day: day?,
         time: None,
         end_time: None,
+        repeater: None,
+        delay: None,
     })
 }
 
@@ -93,6 +100,8 @@ fn day_with(day: Option<Day>, times: Option<(TimeOfDay, Option<TimeOfDay>)>) -> 
         day,
         time: Some(time),
         end_time,
+        repeater: None,
+        delay: None,
     })
 }
 

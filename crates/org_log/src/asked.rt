@@ -109,14 +109,14 @@ pub fn keyword_log(
 
 // What a file asks for a heading, and what a person set.
 #[derive(Clone, Copy)]
-struct Asked<'a> {
-    text: &'a str,
+pub(crate) struct Asked<'a> {
+    pub(crate) text: &'a str,
     // The text from the heading on.
-    section: &'a str,
+    pub(crate) section: &'a str,
     // The setting lines.
-    lines: &'a Texts,
-    settings: &'a Settings,
-    set: &'a LogSettings<'a>,
+    pub(crate) lines: &'a Texts,
+    pub(crate) settings: &'a Settings,
+    pub(crate) set: &'a LogSettings<'a>,
 }
 
 // The same of a keyword at a place.
@@ -215,7 +215,7 @@ fn is_repeated(found: Option<(Stamp, Span)>) -> bool {
 }
 
 // The setting lines of a text.
-fn setting_texts(alloc: Global, text: &str) -> Result<Texts, Fault> {
+pub(crate) fn setting_texts(alloc: Global, text: &str) -> Result<Texts, Fault> {
     let whole = Whole::of(alloc, text)?;
     let spans = sections(alloc, &whole)?;
     let mut lines = Texts::new(alloc);
@@ -227,7 +227,7 @@ fn setting_texts(alloc: Global, text: &str) -> Result<Texts, Fault> {
 }
 
 // What setting lines say of logs, over what holds else.
-fn file_rules(lines: &Texts, set: LogRules) -> LogRules {
+pub(crate) fn file_rules(lines: &Texts, set: LogRules) -> LogRules {
     let mut rules = set;
     for place in 0..lines.count() {
         if let Some((key, words)) = setting_of(text_of(lines.get(place))) {
@@ -248,7 +248,7 @@ fn with_words(rules: LogRules, words: &str) -> LogRules {
 }
 
 // What a file's own lines want.
-fn file_wants(lines: &Texts, rules: LogRules, to: &str, from: Option<&str>) -> Wanted {
+pub(crate) fn file_wants(lines: &Texts, rules: LogRules, to: &str, from: Option<&str>) -> Wanted {
     Wanted {
         done: rules.done,
         repeat: rules.repeat,
@@ -267,7 +267,7 @@ fn state_of(to: Marks, from: Marks) -> Option<How> {
 }
 
 // What the property LOGGING wants in place of the file's lines.
-fn local_wants(
+pub(crate) fn local_wants(
     settings: &Settings,
     words: &str,
     to: &str,
@@ -363,7 +363,7 @@ fn names_keywords(key: &str) -> bool {
 }
 
 // The name of the drawer into which lines go; empty where they stand in the text.
-fn drawer_name(
+pub(crate) fn drawer_name(
     alloc: Global,
     asked: &Asked<'_>,
     line: u64,

@@ -79,7 +79,7 @@ fn is_new(step: &Step) -> bool
 }
 
 // Whether something of the file asks for more than tasks that come again.
-fn looks(wanted: &Wanted) -> bool
+pub(crate) fn looks(wanted: &Wanted) -> bool
     ensures value { result ≡ looks wanted.now }
 {
     wanted.has_marks || wanted.done.is_some()

@@ -15,6 +15,8 @@ pub enum LogLine<'a> {
     NewDeadline(&'a str),
     /// Its `DEADLINE` went, and was this.
     NoDeadline(&'a str),
+    /// A note was taken.
+    Note,
 }
 
 /// What is logged in a section.

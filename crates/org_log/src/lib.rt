@@ -25,6 +25,7 @@ mod place;
 mod rules;
 mod section;
 mod startup;
+mod taken_note;
 mod words;
 
 pub use asked::{DateChange, DateLog, KeywordChange, KeywordLog, date_log, keyword_log};
@@ -34,3 +35,4 @@ pub use layout::without_closed;
 pub use note::{is_drawer_name, is_note};
 pub use rules::{DrawerChoice, LogRules, LogSettings};
 pub use section::logged_section;
+pub use taken_note::{NoteLog, note_log, removal_log};

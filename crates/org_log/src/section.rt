@@ -316,6 +316,7 @@ fn push_heading(
         LogLine::Unscheduled(old) => push_dated(alloc, text, "Not scheduled, was", old, stamp),
         LogLine::NewDeadline(old) => push_dated(alloc, text, "New deadline from", old, stamp),
         LogLine::NoDeadline(old) => push_dated(alloc, text, "Removed deadline, was", old, stamp),
+        LogLine::Note => write!(text, "Note taken on {stamp}"),
     }
 }
 

@@ -1,5 +1,5 @@
-//! The commands that change files: a heading gets another keyword or another date, its clock begins or ends, or another
-//! heading is written.
+//! The commands that change files: a heading gets another keyword, another date, other tags, another priority, a property or a
+//! note, its clock begins or ends, or another heading is written.
 
 use crate::all_matches::{Found, all_matches};
 use crate::amending::{Ending, carry_out_change, report_unamended, try_out};
@@ -14,10 +14,11 @@ use org_cal::{Day, Moment};
 use org_save::{Disk, Opened, open};
 use orgq_args::{
     ActWords, HeadingPlace, Look, TypedPlace, Wish, WishedAct, added_place, captured_heading,
-    date_words, done_keyword, keyword_words, lend, planning_keyword, read_body, read_wish,
-    set_keyword, typed_words, wished_planning,
+    changes_parts, date_words, done_keyword, keyword_words, lend, part_words, planning_keyword,
+    read_body, read_wish, set_keyword, set_words, typed_words, wished_note, wished_part,
+    wished_planning,
 };
-use orgq_files::{LeftOut, refuse_words};
+use orgq_files::{INPUT, LeftOut, read_input, refuse_words};
 use orgq_messages::{
     CHANGED, LEFT_OUT, Problem, UNWRITTEN, out_of_memory, report_unfit, say_of, say_saved,
 };
@@ -38,7 +39,7 @@ pub fn act<
     }
 }
 
-// Gives headings a keyword or a date.
+// Changes headings in place.
 fn change_named<
     R: AllocGlobal + Clock + Env + Files<File = File> + Input + Print + Eprint + Clone + Drop,
 >(rt: &R, matches: &ArgMatches<'_>, moment: Moment, is_seen: bool) -> Result<Option<u8>, Problem> {
@@ -50,6 +51,9 @@ fn change_named<
     }
     let words = typed_words(rt.alloc(), own)?;
     let named = named_words(name, own, words.as_slice())?;
+    if name == "note" && is_input(named.wanted) {
+        return note_of_input(rt, matches, own, named.places, (moment, is_seen));
+    }
     let asked = wished_act(rt.alloc(), name, own, named.wanted, moment.day)?;
     refuse_words(rt.alloc(), matches)?;
     let mut wish = read_wish(rt.alloc(), matches, own, asked, moment)?;
@@ -57,9 +61,42 @@ fn change_named<
     Ok(Some(by_wish(rt, matches, own, named.places, &wish)?))
 }
 
-// Whether a command gives headings a keyword or a date.
+// Whether words stand for standard input.
+fn is_input(words: &[&str]) -> bool {
+    match words {
+        [word] => *word == INPUT,
+        _ => false,
+    }
+}
+
+// Gives a heading the note that standard input says, at a moment, with control characters so that they can be seen, if that is
+// wanted.
+fn note_of_input<
+    R: AllocGlobal + Clock + Env + Files<File = File> + Input + Print + Eprint + Clone + Drop,
+>(
+    rt: &R,
+    matches: &ArgMatches<'_>,
+    own: &ArgMatches<'_>,
+    places: &[&str],
+    asked: (Moment, bool),
+) -> Result<Option<u8>, Problem> {
+    refuse_words(rt.alloc(), matches)?;
+    let text = match read_input(rt) {
+        Ok(text) => text,
+        Err(LeftOut::Memory) => return Ok(Some(out_of_memory(rt))),
+        Err(LeftOut::Because(why)) => {
+            say_of(rt, "standard input", why);
+            return Ok(Some(LEFT_OUT));
+        }
+    };
+    let mut wish = read_wish(rt.alloc(), matches, own, wished_note(text)?, asked.0)?;
+    wish.look.is_seen = asked.1;
+    Ok(Some(by_wish(rt, matches, own, places, &wish)?))
+}
+
+// Whether a command changes headings in place.
 fn changes_headings(name: &str) -> bool {
-    matches!(name, "done" | "set") || planning_keyword(name).is_some()
+    matches!(name, "done" | "set") || planning_keyword(name).is_some() || changes_parts(name)
 }
 
 // The headings among the words of a command, and what they get.
@@ -70,7 +107,9 @@ fn named_words<'a, 'b>(
 ) -> Result<ActWords<'a, 'b>, Problem> {
     match planning_keyword(name) {
         Some(_) => date_words(own, words),
-        None => keyword_words(own, words),
+        None if name == "set" => set_words(own, words),
+        None if name == "done" => keyword_words(own, words),
+        None => part_words(name, own, words),
     }
 }
 
@@ -85,7 +124,8 @@ fn wished_act<'a>(
     match planning_keyword(name) {
         Some(keyword) => wished_planning(alloc, wanted, keyword, today),
         None if name == "set" => Ok(WishedAct::Keyword(set_keyword(alloc, own, wanted)?)),
-        None => Ok(WishedAct::Keyword(done_keyword(alloc, own, wanted)?)),
+        None if name == "done" => Ok(WishedAct::Keyword(done_keyword(alloc, own, wanted)?)),
+        None => wished_part(alloc, name, own, wanted),
     }
 }
 
@@ -236,16 +276,16 @@ fn change_opened<R: AllocGlobal + Clock + Env + Files<File = File> + Print + Epr
 
 fn try_heading<R: AllocGlobal + Print + Eprint>(rt: &R, heading: &HeadingText) -> u8 {
     match &heading.act {
-        WishedAct::Keyword(_) | WishedAct::Planning(..) => try_traced(rt, heading),
         WishedAct::Addition(added) => match lend(rt.alloc(), added.tags.as_slice()) {
             Ok(tags) => try_out(rt, heading, &heading.addition(added, tags.as_slice())),
             Err(_) => out_of_memory(rt),
         },
         WishedAct::Clock(step) => try_out(rt, heading, &heading.clocking(*step)),
+        _ => try_traced(rt, heading),
     }
 }
 
-// Says what a keyword or a date would change, with what is logged of it.
+// Says what would change of a heading, with what is logged of it.
 fn try_traced<R: AllocGlobal + Print + Eprint>(rt: &R, heading: &HeadingText) -> u8 {
     match heading.traced_text(rt, slice::from_ref(&heading.line)) {
         Ok(new) => try_out(rt, heading, &heading.rewriting(new.as_str())),
@@ -253,7 +293,7 @@ fn try_traced<R: AllocGlobal + Print + Eprint>(rt: &R, heading: &HeadingText) ->
     }
 }
 
-// Gives a heading a keyword or a date, with what is logged of it.
+// Changes a heading in place, with what is logged of it.
 fn change_traced<R: AllocGlobal + Clock + Env + Files<File = File> + Print + Eprint>(
     rt: &R,
     heading: &HeadingText,
@@ -274,7 +314,6 @@ fn change_heading<R: AllocGlobal + Clock + Env + Files<File = File> + Print + Ep
     disk: &mut Disk<'_, R>,
 ) -> u8 {
     let ending = match &heading.act {
-        WishedAct::Keyword(_) | WishedAct::Planning(..) => change_traced(rt, heading, disk),
         WishedAct::Addition(added) => match lend(rt.alloc(), added.tags.as_slice()) {
             Ok(tags) => carry_out_change(
                 rt,
@@ -285,6 +324,7 @@ fn change_heading<R: AllocGlobal + Clock + Env + Files<File = File> + Print + Ep
             Err(_) => return out_of_memory(rt),
         },
         WishedAct::Clock(step) => carry_out_change(rt, disk, heading, &heading.clocking(*step)),
+        _ => change_traced(rt, heading, disk),
     };
     if let Some(saved) = ending.saved {
         say_saved(rt, heading.name.as_str(), saved, disk.rescue());

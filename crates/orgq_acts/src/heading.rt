@@ -1,14 +1,18 @@
 //! A heading that is changed, with the text of its file.
 
 use org_act::{
-    Addition, ClockAct, ClockStep, Completion, Planning, Refusal, Rewriting, traced_completions,
-    traced_plannings,
+    Addition, ClockAct, ClockStep, Completion, DateShift, HeadAct, KeywordChoice, Planning,
+    PropertyAct, Refusal, Rewriting, text_in_turn, traced_completions, traced_notes,
+    traced_plannings, traced_removals, traced_shifts,
 };
-use org_amend::TypedDate;
+use org_amend::{HeadChange, PropertyChange, TagChange, TypedDate};
 use org_base::Fault;
 use org_cal::Moment;
 use org_stamp::PlanningKeyword;
-use orgq_args::{HeadingPlace, Look, Wish, WishedAct, WishedHeading, WishedKeyword, WishedTrace};
+use orgq_args::{
+    HeadingPlace, Look, Wish, WishedAct, WishedHeading, WishedKeyword, WishedProperty, WishedTags,
+    WishedTrace, lend,
+};
 use orgq_files::{LeftOut, line_behind, read_text, real_path};
 use std::alloc::{AllocError, Global};
 use std::rt::Files;
@@ -61,22 +65,111 @@ impl HeadingText {
     }
 
     /// The act that completes it, or gives it another keyword.
-    fn completion<'a>(&'a self, keyword: &'a WishedKeyword) -> Completion<'a> {
+    fn completion<'a>(&'a self, keyword: KeywordChoice<'a>) -> Completion<'a> {
         Completion {
             line: self.line,
-            keyword: keyword.choice(),
+            keyword,
             moment: self.moment,
             behind: self.behind.as_str(),
         }
     }
 
-    /// The text that is made of the file's where the headings on some lines get a keyword or a date, with what is logged of it.
-    /// The lowest line comes first.
+    /// The text that is made of the file's where the headings on some lines change as is asked, with what is logged of it. The
+    /// lowest line comes first.
     pub fn traced_text<R: AllocGlobal>(&self, rt: &R, lines: &[u64]) -> Result<String, Refusal> {
         match &self.act {
             WishedAct::Keyword(keyword) => self.completed_text(rt, lines, keyword),
             WishedAct::Planning(keyword, date) => self.planned_text(rt, lines, *keyword, *date),
+            WishedAct::Shift(keyword, distance) => self.shifted_text(
+                rt,
+                lines,
+                DateShift {
+                    keyword: *keyword,
+                    distance: distance.as_str(),
+                },
+            ),
+            WishedAct::Tags(tags) => self.tagged_text(rt, lines, tags),
+            WishedAct::Priority(Some(priority)) => {
+                self.head_text(rt, lines, HeadChange::Priority(Some(priority.as_str())))
+            }
+            WishedAct::Priority(None) => self.head_text(rt, lines, HeadChange::Priority(None)),
+            WishedAct::Property(property) => self.given_text(rt, lines, property),
+            WishedAct::Note(_) => traced_notes(
+                rt.alloc(),
+                self.text.as_str(),
+                lines,
+                &self.trace.trace(self.moment),
+            ),
             WishedAct::Addition(_) | WishedAct::Clock(_) => Err(Refusal::Misread),
+        }
+    }
+
+    fn shifted_text<R: AllocGlobal>(
+        &self,
+        rt: &R,
+        lines: &[u64],
+        shift: DateShift<'_>,
+    ) -> Result<String, Refusal> {
+        traced_shifts(
+            rt.alloc(),
+            self.text.as_str(),
+            lines,
+            &shift,
+            &self.trace.trace(self.moment),
+        )
+    }
+
+    fn tagged_text<R: AllocGlobal>(
+        &self,
+        rt: &R,
+        lines: &[u64],
+        tags: &WishedTags,
+    ) -> Result<String, Refusal> {
+        let removed = lend(rt.alloc(), tags.removed.as_slice())?;
+        let added = lend(rt.alloc(), tags.added.as_slice())?;
+        let change = TagChange {
+            removed: removed.as_slice(),
+            added: added.as_slice(),
+        };
+        self.head_text(rt, lines, HeadChange::Tags(change))
+    }
+
+    fn head_text<R: AllocGlobal>(
+        &self,
+        rt: &R,
+        lines: &[u64],
+        change: HeadChange<'_>,
+    ) -> Result<String, Refusal> {
+        text_in_turn(
+            rt.alloc(),
+            self.text.as_str(),
+            &self.head_act(change),
+            lines,
+        )
+    }
+
+    fn given_text<R: AllocGlobal>(
+        &self,
+        rt: &R,
+        lines: &[u64],
+        property: &WishedProperty,
+    ) -> Result<String, Refusal> {
+        let act = PropertyAct {
+            line: self.line,
+            change: PropertyChange {
+                name: property.name.as_str(),
+                value: property.text(),
+            },
+        };
+        text_in_turn(rt.alloc(), self.text.as_str(), &act, lines)
+    }
+
+    /// The act that changes its own line.
+    fn head_act<'a>(&'a self, change: HeadChange<'a>) -> HeadAct<'a> {
+        HeadAct {
+            line: self.line,
+            change,
+            behind: self.behind.as_str(),
         }
     }
 
@@ -86,13 +179,22 @@ impl HeadingText {
         lines: &[u64],
         keyword: &WishedKeyword,
     ) -> Result<String, Refusal> {
-        traced_completions(
-            rt.alloc(),
-            self.text.as_str(),
-            lines,
-            &self.completion(keyword),
-            &self.trace.trace(self.moment),
-        )
+        match keyword.choice() {
+            Some(choice) => traced_completions(
+                rt.alloc(),
+                self.text.as_str(),
+                lines,
+                &self.completion(choice),
+                &self.trace.trace(self.moment),
+            ),
+            None => traced_removals(
+                rt.alloc(),
+                self.text.as_str(),
+                lines,
+                &self.head_act(HeadChange::NoKeyword),
+                &self.trace.trace(self.moment),
+            ),
+        }
     }
 
     fn planned_text<R: AllocGlobal>(

@@ -26,5 +26,6 @@ mod several;
 mod switching;
 mod text_ids;
 mod told;
+mod told_parts;
 
 pub use acts::act;

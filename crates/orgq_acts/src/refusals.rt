@@ -62,6 +62,7 @@ fn refusal_text(
         Refusal::NoClock => Ok(Some(String::from_str(alloc, "no clock of this heading runs")?)),
         Refusal::EndsEarly(from) => Ok(Some(early_text(alloc, from)?)),
         Refusal::Misread => Ok(Some(String::from_str(alloc, MISREAD)?)),
+        Refusal::NoDate => Ok(Some(String::from_str(alloc, "it has no such date to go on from")?)),
         Refusal::Edited => Ok(Some(String::from_str(alloc, CHANGED)?)),
         Refusal::Unreadable(Unreadable::Keyword) => fault_text(alloc, heading, line, Code::Keyword),
         Refusal::Unreadable(why) => Ok(Some(String::from_str(alloc, why_unreadable(why))?)),
@@ -85,6 +86,9 @@ fn why_unreadable(why: Unreadable) -> &'static str {
     match why {
         Unreadable::Keyword => "the keyword is none of its own",
         Unreadable::Priority => "no such priority: a letter A to Z, or a number 0 to 64",
+        Unreadable::Property => {
+            "no such property: a name is one word without + at its end, and a value one line"
+        }
         Unreadable::Tags => "no such tag: a tag has letters, digits, _, @, # and %",
         Unreadable::Title => {
             "the title would be read as something else: it is empty, or has a keyword, a priority, COMMENT, tags or an end of a line"

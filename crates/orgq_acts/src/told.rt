@@ -4,6 +4,7 @@ ghost use Rattle.org_act.specs.Changes.{LiesIn};
 
 use crate::heading::HeadingText;
 use crate::text_ids::{id_at, ids_on_lines};
+use crate::told_parts::{push_note, push_property};
 use org_act::{ClockStep, OwnedChange, moved_pairs, with_change};
 use org_answer::{push_file_name, push_seen};
 use org_base::Texts;
@@ -41,9 +42,6 @@ fn change_lines(
     let mut lines = Vec::new(alloc);
     let old = heading.text.as_str();
     match &heading.act {
-        WishedAct::Keyword(_) | WishedAct::Planning(..) => {
-            push_changed(alloc, &mut lines, heading, new)?;
-        }
         WishedAct::Addition(_) => push_added(alloc, &mut lines, heading, change, new)?,
         // The line that goes is one of the old text.
         WishedAct::Clock(ClockStep::Cancel) => {
@@ -54,6 +52,7 @@ fn change_lines(
             push_titled(alloc, &mut lines, heading, new)?;
             push_clock(alloc, &mut lines, heading, new, change)?;
         }
+        _ => push_changed(alloc, &mut lines, heading, new)?,
     }
     Ok(lines)
 }
@@ -132,9 +131,9 @@ fn new_lines(
 
 // A text from the line of a number on, with the short id of the heading there, where it is printed.
 #[derive(Clone, Copy)]
-struct TextFrom<'a> {
-    text: &'a str,
-    number: u64,
+pub(crate) struct TextFrom<'a> {
+    pub(crate) text: &'a str,
+    pub(crate) number: u64,
     id: &'a [u8],
 }
 
@@ -150,17 +149,17 @@ fn from_line(text: &str, number: u64) -> TextFrom<'_> {
 
 impl<'a> TextFrom<'a> {
     // Its first line.
-    fn line(&self) -> &'a str {
+    pub(crate) fn line(&self) -> &'a str {
         self.text.lines().next().unwrap_or("")
     }
 
     // The line behind that.
-    fn next_line(&self) -> &'a str {
+    pub(crate) fn next_line(&self) -> &'a str {
         self.text.lines().nth(1).unwrap_or("")
     }
 
     // The same behind so many lines.
-    fn behind(&self, count: u64) -> TextFrom<'a> {
+    pub(crate) fn behind(&self, count: u64) -> TextFrom<'a> {
         TextFrom {
             text: behind_lines(self.text, count),
             number: self.number.saturating_add(count),
@@ -230,12 +229,38 @@ fn push_heading(
     before: TextFrom<'_>,
     now: TextFrom<'_>,
 ) -> Result<(), AllocError> {
-    if let WishedAct::Keyword(_) = &heading.act {
-        push_own(alloc, lines, heading, before)?;
-        push_own(alloc, lines, heading, now)?;
-        return push_moved(alloc, lines, heading, before.next_line(), now);
+    match &heading.act {
+        WishedAct::Keyword(_) => {
+            push_own(alloc, lines, heading, before)?;
+            push_own(alloc, lines, heading, now)?;
+            push_moved(alloc, lines, heading, before.next_line(), now)
+        }
+        WishedAct::Tags(_) | WishedAct::Priority(_) => {
+            push_own(alloc, lines, heading, before)?;
+            push_own(alloc, lines, heading, now)
+        }
+        WishedAct::Property(property) => {
+            push_own(alloc, lines, heading, now)?;
+            push_property(alloc, lines, heading, property.name.as_str(), now)
+        }
+        WishedAct::Note(note) => {
+            push_own(alloc, lines, heading, now)?;
+            push_note(alloc, lines, heading, note.as_str(), now)
+        }
+        _ => {
+            push_own(alloc, lines, heading, now)?;
+            push_planning(alloc, lines, heading, now)
+        }
     }
-    push_own(alloc, lines, heading, now)?;
+}
+
+// Appends the planning line of a heading, if it has one.
+fn push_planning(
+    alloc: Global,
+    lines: &mut Vec<u8>,
+    heading: &HeadingText,
+    now: TextFrom<'_>,
+) -> Result<(), AllocError> {
     let below = now.next_line();
     if is_planning(below.as_bytes()) {
         push_line(alloc, lines, heading, below, now.number.saturating_add(1))?;
@@ -374,7 +399,7 @@ fn push_own(
 }
 
 // Appends a line of a number, with its place in front, if that is wanted.
-fn push_line(
+pub(crate) fn push_line(
     alloc: Global,
     lines: &mut Vec<u8>,
     heading: &HeadingText,

@@ -32,6 +32,8 @@ t;todo;KEYWORD;Its keyword, one of the file's
 ;under;PLACE;The heading below which it goes, as FILE:LINE or a short id
 ;dry-run;;Nothing is written; the same is printed";
 
+const OF_TAG: &str = ";without;TAG;A tag that goes; -TAG says the same";
+
 const OF_UNDO: &str = "\
 ;list;;What would be taken back, the newest first; nothing is written
 ;dry-run;;Nothing is written; the same is printed";
@@ -43,6 +45,10 @@ pub fn with_acts<'a>(alloc: Global, command: Command<'a>) -> Result<Command<'a>,
         .subcommand(act_set(alloc)?)?
         .subcommand(act_schedule(alloc)?)?
         .subcommand(act_deadline(alloc)?)?
+        .subcommand(act_tag(alloc)?)?
+        .subcommand(act_priority(alloc)?)?
+        .subcommand(act_property(alloc)?)?
+        .subcommand(act_note(alloc)?)?
         .subcommand(act_add(alloc)?)?
         .subcommand(act_undo(alloc)?)
 }
@@ -90,7 +96,11 @@ fn act_done<'a>(alloc: Global) -> Result<Command<'a>, AllocError> {
 
 fn act_set<'a>(alloc: Global) -> Result<Command<'a>, AllocError> {
     let set = Command::new(alloc, "set").about("Headings of files get a keyword");
-    with_place(alloc, set, "The keyword, or another heading")
+    with_place(
+        alloc,
+        set,
+        "The keyword, or another heading; none takes the keyword away",
+    )
 }
 
 // What names headings and a keyword.
@@ -122,6 +132,55 @@ fn act_deadline<'a>(alloc: Global) -> Result<Command<'a>, AllocError> {
         "Headings of files get a deadline, or lose it",
     );
     with_date(alloc, deadline)
+}
+
+fn act_tag<'a>(alloc: Global) -> Result<Command<'a>, AllocError> {
+    let tag = Command::new(alloc, "tag").about("Headings of files get tags, and lose tags");
+    let tag = with_options(alloc, tag, OF_TAG, false)?;
+    with_words(
+        alloc,
+        tag,
+        "The headings, as FILE:LINE or short ids, and then tags: +TAG comes, -TAG goes",
+    )
+}
+
+fn act_priority<'a>(alloc: Global) -> Result<Command<'a>, AllocError> {
+    let priority = Command::new(alloc, "priority").about("Headings of files get a priority");
+    with_words(
+        alloc,
+        priority,
+        "The headings, as FILE:LINE or short ids, and then the priority; none takes it away",
+    )
+}
+
+fn act_property<'a>(alloc: Global) -> Result<Command<'a>, AllocError> {
+    let property = Command::new(alloc, "property").about(
+        "Headings of files get a property, or lose it",
+    );
+    with_words(
+        alloc,
+        property,
+        "The headings, as FILE:LINE or short ids, and then NAME=VALUE; NAME= takes it away",
+    )
+}
+
+fn act_note<'a>(alloc: Global) -> Result<Command<'a>, AllocError> {
+    let note = Command::new(alloc, "note").about("A heading gets a note in its log");
+    with_words(
+        alloc,
+        note,
+        "The heading, as FILE:LINE or a short id, and then the note; - for standard input",
+    )
+}
+
+// What names headings, and what they get.
+fn with_words<'a>(
+    alloc: Global,
+    command: Command<'a>,
+    help: &'static str,
+) -> Result<Command<'a>, AllocError> {
+    let command = command.arg(words(alloc, "MORE", help))?;
+    with_options(alloc, command, OF_ACTS, false)
 }
 
 fn act_add<'a>(alloc: Global) -> Result<Command<'a>, AllocError> {

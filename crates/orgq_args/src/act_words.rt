@@ -1,6 +1,7 @@
 //! The words behind a command that changes headings: the headings, and what they get.
 
-use crate::place::is_place;
+use crate::place::{is_date, is_place};
+use crate::planning::is_mark;
 use clap::ArgMatches;
 use orgq_messages::Problem;
 use std::alloc::{AllocError, Global};
@@ -28,6 +29,9 @@ pub fn typed_words<'a>(alloc: Global, own: &ArgMatches<'a>) -> Result<Vec<&'a st
     Ok(words)
 }
 
+/// The word in the place of a keyword by which one goes.
+pub const NO_KEYWORD: &str = "none";
+
 /// The headings and the keyword among the words of `done` and `set`: a keyword is the only word behind `--match`, and the second of
 /// two that is no place.
 pub fn keyword_words<'a, 'b>(
@@ -45,6 +49,18 @@ pub fn keyword_words<'a, 'b>(
     }
 }
 
+/// The same of `set`, where behind several headings too the last word may be `none`.
+pub fn set_words<'a, 'b>(
+    own: &ArgMatches<'a>,
+    words: &'b [&'a str],
+) -> Result<ActWords<'a, 'b>, Problem> {
+    let is_named = own.get_str("match").is_some() || own.get_str("keyword").is_some();
+    match words {
+        [_, .., last] if !is_named && *last == NO_KEYWORD => Ok(split_at(words, words.len() - 1)),
+        _ => keyword_words(own, words),
+    }
+}
+
 /// The headings and the date among the words of `schedule` and `deadline`: the last word is the date, or its time where the word
 /// before it is no place.
 pub fn date_words<'a, 'b>(
@@ -52,6 +68,13 @@ pub fn date_words<'a, 'b>(
     words: &'b [&'a str],
 ) -> Result<ActWords<'a, 'b>, Problem> {
     let has_match = own.get_str("match").is_some();
+    if let Some(at) = date_with_marks(words) {
+        return if has_match && at > 0 {
+            Err(Problem::PlaceBeside)
+        } else {
+            Ok(split_at(words, at))
+        };
+    }
     match words {
         [] => Err(Problem::NoDate),
         [_] | [_, _] if has_match => Ok(split_at(words, 0)),
@@ -63,8 +86,22 @@ pub fn date_words<'a, 'b>(
     }
 }
 
+// Where a date begins that has a repeater or a delay behind it; none where the words end in none. The date is one word, or two of
+// which the first one is no place.
+fn date_with_marks(words: &[&str]) -> Option<usize> {
+    let marks = words.iter().rev().take_while(|word| is_mark(word)).count();
+    if marks == 0 {
+        return None;
+    }
+    match words.get(..words.len().saturating_sub(marks))? {
+        [front @ .., last] if is_date(last) => Some(front.len()),
+        [front @ .., before, _] if !is_place(before) => Some(front.len()),
+        _ => None,
+    }
+}
+
 // The words up to a place, and those from it on.
-fn split_at<'a, 'b>(words: &'b [&'a str], at: usize) -> ActWords<'a, 'b> {
+pub(crate) fn split_at<'a, 'b>(words: &'b [&'a str], at: usize) -> ActWords<'a, 'b> {
     let (places, wanted) = words.split_at(at.min(words.len()));
     ActWords { places, wanted }
 }

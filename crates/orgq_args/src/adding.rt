@@ -1,5 +1,6 @@
 //! The heading that `add` writes.
 
+use crate::head_words::joined_words;
 use crate::place::{HeadingPlace, TypedPlace, read_place};
 use crate::planning::typed_date;
 use clap::ArgMatches;
@@ -75,7 +76,7 @@ fn copy_of(alloc: Global, text: Option<&str>) -> Result<Option<String>, AllocErr
     }
 }
 
-fn copies_of(alloc: Global, texts: &[String]) -> Result<Vec<String>, AllocError> {
+pub(crate) fn copies_of(alloc: Global, texts: &[String]) -> Result<Vec<String>, AllocError> {
     let mut copies = Vec::new(alloc);
     for text in texts {
         copies.push(String::from_str(alloc, text.as_str())?)?;
@@ -147,8 +148,8 @@ pub fn wished_heading(
         priority: copy_of(alloc, own.get_str("priority"))?,
         title: title_of(alloc, own)?,
         tags: texts_of(alloc, own.get_strs("tag").unwrap_or(&[]))?,
-        scheduled: date_of(own.get_str("scheduled"), today)?,
-        deadline: date_of(own.get_str("deadline"), today)?,
+        scheduled: date_of(alloc, own.get_str("scheduled"), today)?,
+        deadline: date_of(alloc, own.get_str("deadline"), today)?,
         body: String::new(alloc),
     })
 }
@@ -161,9 +162,9 @@ fn texts_of(alloc: Global, words: &[&str]) -> Result<Vec<String>, AllocError> {
     Ok(texts)
 }
 
-fn date_of(text: Option<&str>, today: Day) -> Result<Option<TypedDate>, Problem> {
+fn date_of(alloc: Global, text: Option<&str>, today: Day) -> Result<Option<TypedDate>, Problem> {
     match text {
-        Some(text) => Ok(Some(typed_date(text, today)?)),
+        Some(text) => Ok(Some(typed_date(alloc, text, today)?)),
         None => Ok(None),
     }
 }
@@ -179,14 +180,7 @@ pub(crate) fn title_words<'a, 'b>(own: &'b ArgMatches<'a>) -> (&'b [&'a str], bo
 // The title: its words with a space between two of them.
 fn title_of(alloc: Global, own: &ArgMatches<'_>) -> Result<String, AllocError> {
     let (words, _) = title_words(own);
-    let mut title = String::new(alloc);
-    for word in words {
-        if !title.as_str().is_empty() {
-            title.push_str(" ")?;
-        }
-        title.push_str(word)?;
-    }
-    Ok(title)
+    joined_words(alloc, words)
 }
 
 /// Whether standard input is the body of the heading.

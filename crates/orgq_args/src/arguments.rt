@@ -127,6 +127,15 @@ const VERSION: &str = "\
 0.4.0
 kit and commit: not known to a build; where a package has the file PROOF, that names both";
 
+/// Whether a word is the letter of an option of all commands, or of help.
+pub fn is_letter_of_all(word: &str) -> bool {
+    word == "h"
+        || (word.len() == 1
+            && OF_ALL
+                .lines()
+                .any(|line| line.split(';').next() == Some(word)))
+}
+
 /// Whether an option that may stand before a command takes a value; its name or its letter says which one.
 pub fn takes_value(name: &str) -> bool {
     is_valued(OF_ALL, name)

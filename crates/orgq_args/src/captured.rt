@@ -2,7 +2,9 @@
 
 use crate::adding::{WishedHeading, title_words, wished_heading};
 use crate::filters::is_of_tag;
+use crate::head_words::joined_words;
 use crate::place::HeadingPlace;
+use crate::planning::said_date;
 use clap::ArgMatches;
 use org_amend::TypedDate;
 use org_cal::Day;
@@ -34,8 +36,8 @@ fn takes_words(own: &ArgMatches<'_>) -> Result<bool, Problem> {
     }
 }
 
-// How many words a date has at most: a month, a day and a time.
-const MOST_WORDS: usize = 3;
+// How many words a date has at most: a month, a day, a time, a repeater and a delay.
+const MOST_WORDS: usize = 5;
 
 // Takes what the last words say, from the end on, as long as they say something that isn't known yet: a date, also behind `due:`,
 // a tag behind `+`, a priority behind `!`. The words before them are the title.
@@ -61,7 +63,7 @@ fn take_words(
         }
         left = left.saturating_sub(taken);
     }
-    heading.title = join_words(alloc, all.get(..left).unwrap_or(&[]))?;
+    heading.title = joined_words(alloc, all.get(..left).unwrap_or(&[]))?;
     heading.tags = tags_in_front(alloc, tags.as_slice(), heading.tags.as_slice())?;
     Ok(())
 }
@@ -116,8 +118,8 @@ fn take_date(
     for left_out in 0..MOST_WORDS {
         let count = MOST_WORDS - left_out;
         if count <= words.len() {
-            let text = join_words(alloc, &words[words.len() - count..])?;
-            if take_dated(heading, text.as_str(), today) {
+            let text = joined_words(alloc, &words[words.len() - count..])?;
+            if take_dated(alloc, heading, text.as_str(), today)? {
                 return Ok(count);
             }
         }
@@ -126,19 +128,34 @@ fn take_date(
 }
 
 // Takes the date that a text says, if it says one that isn't known yet.
-fn take_dated(heading: &mut WishedHeading, text: &str, today: Day) -> bool {
+fn take_dated(
+    alloc: Global,
+    heading: &mut WishedHeading,
+    text: &str,
+    today: Day,
+) -> Result<bool, AllocError> {
     match text.strip_prefix("due:") {
-        Some(due) => take_one(&mut heading.deadline, due, today),
-        None => take_one(&mut heading.scheduled, text, today),
+        Some(due) => take_one(alloc, &mut heading.deadline, due, today),
+        None => take_one(alloc, &mut heading.scheduled, text, today),
     }
 }
 
-fn take_one(known: &mut Option<TypedDate>, text: &str, today: Day) -> bool {
+fn take_one(
+    alloc: Global,
+    known: &mut Option<TypedDate>,
+    text: &str,
+    today: Day,
+) -> Result<bool, AllocError> {
     if known.is_some() {
-        return false;
+        return Ok(false);
     }
-    *known = TypedDate::of_text(text.as_bytes(), today);
-    known.is_some()
+    match said_date(alloc, text, today) {
+        Ok(said) => {
+            *known = said;
+            Ok(known.is_some())
+        }
+        Err(refused) => Err(refused),
+    }
 }
 
 fn take_tag(alloc: Global, tags: &mut Vec<String>, tag: &str) -> Result<usize, AllocError> {
@@ -160,16 +177,4 @@ fn take_priority(
     }
     heading.priority = Some(String::from_str(alloc, priority)?);
     Ok(1)
-}
-
-// Words with a space between two of them.
-fn join_words(alloc: Global, words: &[&str]) -> Result<String, AllocError> {
-    let mut text = String::new(alloc);
-    for word in words {
-        if !text.as_str().is_empty() {
-            text.push_str(" ")?;
-        }
-        text.push_str(word)?;
-    }
-    Ok(text)
 }

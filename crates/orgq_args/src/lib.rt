@@ -23,6 +23,7 @@ mod captured;
 mod clock;
 mod efforts;
 mod filters;
+mod head_words;
 mod joined;
 mod log;
 mod option_lines;
@@ -38,7 +39,7 @@ mod undoing;
 mod usage;
 mod wish;
 
-pub use act_words::{ActWords, date_words, keyword_words, typed_words};
+pub use act_words::{ActWords, date_words, keyword_words, set_words, typed_words};
 pub use adding::{WishedHeading, added_place, lend, read_body};
 pub use arguments::command;
 pub use ask::{asked_period, read_filters, read_question};
@@ -47,6 +48,9 @@ pub use call::call_words;
 pub use captured::captured_heading;
 pub use clock::{now, typed_moment, universal};
 pub use filters::Filters;
+pub use head_words::{
+    WishedProperty, WishedTags, changes_parts, part_words, wished_note, wished_part,
+};
 pub use joined::joined_values;
 pub use log::asked_log;
 pub use options::{

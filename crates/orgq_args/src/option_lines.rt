@@ -59,7 +59,8 @@ fn option<'a>(alloc: Global, line: &'static str) -> Arg<'a> {
     }
     let arg = arg.value_name(value);
     match name {
-        "file" | "inherit" | "only" | "not" | "tag" | "properties" => arg.action(ArgAction::Append),
+        "file" | "inherit" | "only" | "not" => arg.action(ArgAction::Append),
+        "tag" | "without" | "properties" => arg.action(ArgAction::Append),
         "from"
         | "to"
         | "at"

@@ -47,7 +47,7 @@ pub fn is_place(word: &str) -> bool {
 }
 
 // Whether a word says a day. On which day it is asked doesn't matter.
-fn is_date(word: &str) -> bool {
+pub(crate) fn is_date(word: &str) -> bool {
     match Day::of_number(1000) {
         Some(day) => TypedDate::of_text(word.as_bytes(), day).is_some(),
         None => false,

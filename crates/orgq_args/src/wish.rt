@@ -1,6 +1,8 @@
 //! What a command that changes a file asks for.
 
+use crate::act_words::NO_KEYWORD;
 use crate::adding::WishedHeading;
+use crate::head_words::{WishedProperty, WishedTags};
 use crate::options::form;
 use crate::trace::{WishedTrace, read_trace};
 use clap::ArgMatches;
@@ -21,8 +23,18 @@ pub enum WishedAct {
     Planning(PlanningKeyword, Option<TypedDate>),
     /// It is written anew.
     Addition(WishedHeading),
+    /// Its date under a planning keyword goes so far on.
+    Shift(PlanningKeyword, String),
     /// Its clock is changed.
     Clock(ClockStep),
+    /// It loses tags, and gets others.
+    Tags(WishedTags),
+    /// Its priority becomes this one, or none.
+    Priority(Option<String>),
+    /// It gets a property, or loses one.
+    Property(WishedProperty),
+    /// It gets this note.
+    Note(String),
 }
 
 impl WishedAct {
@@ -30,8 +42,8 @@ impl WishedAct {
     pub fn word(&self) -> &str {
         match self {
             WishedAct::Keyword(keyword) => keyword.word(),
-            WishedAct::Planning(..) | WishedAct::Clock(_) => "",
             WishedAct::Addition(heading) => heading.keyword_word(),
+            _ => "",
         }
     }
 
@@ -41,7 +53,14 @@ impl WishedAct {
             WishedAct::Keyword(keyword) => Ok(WishedAct::Keyword(keyword.copy(alloc)?)),
             WishedAct::Planning(keyword, date) => Ok(WishedAct::Planning(*keyword, *date)),
             WishedAct::Addition(heading) => Ok(WishedAct::Addition(heading.copy(alloc)?)),
+            WishedAct::Shift(keyword, distance) => {
+                Ok(WishedAct::Shift(*keyword, copy_of(alloc, distance)?))
+            }
             WishedAct::Clock(step) => Ok(WishedAct::Clock(*step)),
+            WishedAct::Tags(tags) => Ok(WishedAct::Tags(tags.copy(alloc)?)),
+            WishedAct::Priority(priority) => Ok(WishedAct::Priority(copy_if(alloc, priority)?)),
+            WishedAct::Property(property) => Ok(WishedAct::Property(property.copy(alloc)?)),
+            WishedAct::Note(text) => Ok(WishedAct::Note(copy_of(alloc, text)?)),
         }
     }
 }
@@ -55,15 +74,18 @@ pub enum WishedKeyword {
     Done(String),
     /// The first done one of its sequence.
     FirstDone,
+    /// None: the one that it has goes.
+    None,
 }
 
 impl WishedKeyword {
-    /// The choice that an act makes.
-    pub fn choice(&self) -> KeywordChoice<'_> {
+    /// The choice that an act makes; none where the keyword goes.
+    pub fn choice(&self) -> Option<KeywordChoice<'_>> {
         match self {
-            WishedKeyword::Any(word) => KeywordChoice::Any(word.as_str()),
-            WishedKeyword::Done(word) => KeywordChoice::Done(word.as_str()),
-            WishedKeyword::FirstDone => KeywordChoice::FirstDone,
+            WishedKeyword::Any(word) => Some(KeywordChoice::Any(word.as_str())),
+            WishedKeyword::Done(word) => Some(KeywordChoice::Done(word.as_str())),
+            WishedKeyword::FirstDone => Some(KeywordChoice::FirstDone),
+            WishedKeyword::None => None,
         }
     }
 
@@ -71,7 +93,7 @@ impl WishedKeyword {
     pub fn word(&self) -> &str {
         match self {
             WishedKeyword::Any(word) | WishedKeyword::Done(word) => word.as_str(),
-            WishedKeyword::FirstDone => "",
+            WishedKeyword::FirstDone | WishedKeyword::None => "",
         }
     }
 
@@ -81,7 +103,15 @@ impl WishedKeyword {
             WishedKeyword::Any(word) => Ok(WishedKeyword::Any(copy_of(alloc, word)?)),
             WishedKeyword::Done(word) => Ok(WishedKeyword::Done(copy_of(alloc, word)?)),
             WishedKeyword::FirstDone => Ok(WishedKeyword::FirstDone),
+            WishedKeyword::None => Ok(WishedKeyword::None),
         }
+    }
+}
+
+fn copy_if(alloc: Global, word: &Option<String>) -> Result<Option<String>, AllocError> {
+    match word {
+        Some(word) => Ok(Some(copy_of(alloc, word)?)),
+        None => Ok(None),
     }
 }
 
@@ -126,7 +156,10 @@ pub fn read_wish(
         None => None,
     };
     let is_keyword = matches!(act, WishedAct::Keyword(_));
-    let trace = read_trace(alloc, matches, note_of(own, &act))?;
+    let trace = match &act {
+        WishedAct::Note(text) => read_trace(alloc, matches, text.as_str())?,
+        _ => read_trace(alloc, matches, note_of(own, &act))?,
+    };
     Ok(Wish {
         act,
         moment,
@@ -144,8 +177,10 @@ pub fn read_wish(
 // The note that is given, where an act takes one.
 fn note_of<'a>(own: &ArgMatches<'a>, act: &WishedAct) -> &'a str {
     match act {
-        WishedAct::Keyword(_) | WishedAct::Planning(..) => own.get_str("note").unwrap_or(""),
-        WishedAct::Addition(_) | WishedAct::Clock(_) => "",
+        WishedAct::Keyword(_) | WishedAct::Planning(..) | WishedAct::Shift(..) => {
+            own.get_str("note").unwrap_or("")
+        }
+        _ => "",
     }
 }
 
@@ -184,6 +219,7 @@ pub fn set_keyword<'a>(
     wanted: &[&'a str],
 ) -> Result<WishedKeyword, Problem> {
     match keyword_word(own, wanted) {
+        Some(word) if word == NO_KEYWORD => Ok(WishedKeyword::None),
         Some(word) => Ok(WishedKeyword::Any(String::from_str(alloc, word)?)),
         None => Err(Problem::NoKeyword),
     }

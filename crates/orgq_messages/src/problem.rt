@@ -101,6 +101,14 @@ pub enum Problem {
     NoDate,
     /// No keyword stands behind the place of a heading.
     NoKeyword,
+    /// No note stands behind the place of a heading.
+    NoNote,
+    /// No priority stands behind the place of a heading.
+    NoPriority,
+    /// No property stands behind the place of a heading.
+    NoProperty,
+    /// No tag stands behind the place of a heading.
+    NoTag,
     /// No word is named to look for.
     NoWord,
     /// A note would be read as something else.
@@ -135,6 +143,8 @@ pub enum Problem {
     Sort,
     /// An order names a key twice.
     SortTwice,
+    /// The name is that of a property which no drawer gives.
+    SpecialProperty,
     /// No variable of the environment says where histories of acts lie.
     State,
     Step,
@@ -257,6 +267,11 @@ impl Problem {
             Problem::NoDate => "schedule and deadline take a date or none: schedule FILE:LINE DATE",
             Problem::OneDate => NO_DATE,
             Problem::NoKeyword => "set takes a keyword: set FILE:LINE KEYWORD",
+            Problem::NoNote => "note takes a note: note FILE:LINE TEXT",
+            Problem::NoPriority => "priority takes a priority or none: priority FILE:LINE A",
+            Problem::NoProperty =>
+                "property takes a name and a value: property FILE:LINE NAME=VALUE",
+            Problem::NoTag => "tag takes tags that come or go: tag FILE:LINE +TAG -TAG",
             Problem::NoWord => "search wants a word to look for: search WORD ..",
             Problem::Pattern => {
                 "a pattern between slashes is refused: patterns are those of the regex crate, of at most some size"
@@ -284,6 +299,8 @@ impl Problem {
             }
             Problem::Sort => NO_KEY,
             Problem::SortTwice => "--sort names each key once",
+            Problem::SpecialProperty =>
+                "no drawer gives that property: Org reads it from other parts of the heading",
             Problem::State => {
                 "what acts changed isn't known: neither XDG_STATE_HOME nor HOME names a folder"
             }
@@ -314,7 +331,7 @@ const NO_BLOCK: &str =
     "no such block of time; there are today, yesterday, thisweek, lastweek, nextweek, and so month and year, such as 2024, 2024-Q1, 2024-02, 2024-W09, 2024-02-28, and such days as -1d";
 
 const NO_DATE: &str =
-    "no such date; there are today, tomorrow, yesterday, mon to sun, eow, eom, eoy, such as +3d, -1w, dec 24, 24.12., 2024-02-28, and a time behind it, 9:30 or 9:30-10:15";
+    "no such date; there are today, tomorrow, yesterday, mon to sun, eow, eom, eoy, such as +3d, -1w, dec 24, 24.12., 2024-02-28, and a time behind it, 9:30 or 9:30-10:15; then a repeater and a delay, as +1w -2d; then+1w goes on from the date that is there";
 
 const NO_KEY: &str =
     "no such key of --sort; there are time, deadline, scheduled, priority, effort, keyword, title, category, file, closed and urgency, with commas between them, each with - in front for down";

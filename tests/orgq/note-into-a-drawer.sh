@@ -1,0 +1,1 @@
+printf '#+STARTUP: logdrawer\n* a\nb\n' > a.org

@@ -1,0 +1,1 @@
+printf '* a\nb\n' > a.org

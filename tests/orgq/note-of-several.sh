@@ -1,0 +1,1 @@
+printf '* a :home:\nb\n* c\n* d :home:\n' > a.org

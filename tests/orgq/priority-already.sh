@@ -1,0 +1,1 @@
+printf '* TODO [#A] a :x:\n' > a.org

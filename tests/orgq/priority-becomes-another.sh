@@ -1,0 +1,1 @@
+printf '* TODO [#A] a\nb\n' > a.org

@@ -1,0 +1,1 @@
+printf '* a  :x:\n' > a.org

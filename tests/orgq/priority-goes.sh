@@ -1,0 +1,1 @@
+printf '* TODO [#A] a\n* [#B]\n' > a.org

@@ -1,0 +1,1 @@
+printf '* COMMENT a\n' > a.org

@@ -1,0 +1,1 @@
+printf '* [#A] [#B] a\n' > a.org

@@ -1,0 +1,1 @@
+printf '* a\nb\n:PROPERTIES:\n:A: 1\n:END:\n' > a.org

@@ -1,0 +1,1 @@
+printf '* a\n* b\n' > a.org

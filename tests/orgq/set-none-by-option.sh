@@ -1,0 +1,1 @@
+printf '* TODO [#A] a\n' > a.org

@@ -1,0 +1,1 @@
+printf '* TODO a\n* DONE b\n' > a.org

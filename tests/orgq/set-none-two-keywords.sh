@@ -1,0 +1,1 @@
+printf '* TODO DONE a\n' > a.org

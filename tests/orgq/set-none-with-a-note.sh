@@ -1,0 +1,1 @@
+printf '* TODO a\n' > a.org

@@ -1,0 +1,1 @@
+printf '* TODO a :x:\nb\n' > a.org

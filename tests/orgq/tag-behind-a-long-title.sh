@@ -1,0 +1,1 @@
+printf '* word word word word word word word word word word word word word word word word word word word word end\n' > a.org

@@ -1,0 +1,1 @@
+printf '* a :x:\n* b\n** c :home:x:\n' > a.org

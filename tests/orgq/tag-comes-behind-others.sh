@@ -1,0 +1,1 @@
+printf '* TODO a :x:y:\nb\n' > a.org

@@ -1,0 +1,1 @@
+printf '* TODO a\nb\n* c\n' > a.org

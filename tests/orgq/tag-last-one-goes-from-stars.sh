@@ -1,0 +1,1 @@
+printf '* :x:\n' > a.org

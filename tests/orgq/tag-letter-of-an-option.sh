@@ -1,0 +1,1 @@
+printf '* a :q:\n' > a.org

@@ -1,0 +1,1 @@
+printf '* TODO a\n* b\n' > a.org

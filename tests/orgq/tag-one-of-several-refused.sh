@@ -1,0 +1,1 @@
+printf '* a :x:\n* b :y: :x:\n' > a.org

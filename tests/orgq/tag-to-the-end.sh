@@ -1,0 +1,1 @@
+printf '* a :x:y:\n' > a.org

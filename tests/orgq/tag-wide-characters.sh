@@ -1,0 +1,1 @@
+printf '* 漢字 é\n' > a.org
