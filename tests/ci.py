@@ -7,9 +7,10 @@
 
 One thing is done otherwise. A must-fail edit with lines 'only: PATH' (a function, as `rt check --only` takes it) is tried on what
 they name and what that calls, where `rt` proves the whole crate once more. What the lines name is first checked without any edit,
-and all of it has to be proved there, before the edits and behind them. An edit then counts as refused only where less of it is
-proved, and the prover says of which clause: of what a function ensures or requires, or of the invariant of a type or a loop. An
-edit without such a line, or one that isn't refused so, is tried as `rt` does, on its whole crate, which has the last word.
+and all of it has to be proved there. Each edit is tried over links to what that check left, of which no file may be another one
+behind the edits. An edit then counts as refused only where less of it is proved, and the prover says of which clause: of what a
+function ensures or requires, or of the invariant of a type or a loop. An edit without such a line, or one that isn't refused so,
+is tried as `rt` does, on its whole crate, which has the last word.
 
 And a text that changed while it was proved fails the run.
 
@@ -103,6 +104,30 @@ def refusal(lines):
     return next((it for found in (AT_SOURCE, IN_ANSWER) for it in lines if found.match(it)), "")
 
 
+def linked(folder, to):
+    """Copies what a check kept: what was proved by links, where these can be made, since a check replaces such a file and changes none."""
+
+    def copy(one, other):
+        try:
+            if one.endswith(".oantt"):
+                return os.link(one, other)
+        except OSError:
+            pass
+        return shutil.copy2(one, other)
+
+    shutil.copytree(folder, to, copy_function=copy)
+
+
+def files_of(folder):
+    """Returns what tells whether a file of the folder was changed, lost or added."""
+    found = {}
+    for at, _, names in os.walk(folder):
+        for name in names:
+            about = os.stat(f"{at}/{name}")
+            found[f"{at}/{name}"] = about.st_ino, about.st_size, about.st_mtime_ns
+    return found
+
+
 class Edits:
     """How must-fail edits are tried: on what they name alone, and what isn't refused so by `rt` itself."""
 
@@ -144,24 +169,37 @@ class Edits:
         return not any(self.rt.unread(it, texts) for it in lines) and not any("Run the lower steps again" in it for it in lines)
 
     def alone(self, crate, edits, flags, kept):
-        """Tries the edits that name what they change on that alone, over what `kept` holds. Returns what is to be said of those that are
-        refused so: of none where what they name isn't proved without an edit, before them and behind them."""
+        """Tries the edits that name what they change on that alone, each over links to what `kept` holds once that is proved without an edit.
+        Returns what is to be said of those that are refused so: of none where it isn't proved, or a file that was kept is another one then."""
         named = {it: paths_of(it) for it in edits}
         paths, told = sorted({path for it in named.values() for path in it}), {}
         if paths and not self.is_proved(crate, flags, kept, paths):
             paths = [it for it in paths if self.is_proved(crate, flags, kept, [it])] if len(paths) > 1 else []
+        before = files_of(kept)
         for edit in edits:
             texts, why = self.rt.read_edit(edit, crate.folder)
             if why or not named[edit] or not {*named[edit]} <= {*paths}:
                 continue
-            found, left, lines = self.count(crate, texts, flags, kept, named[edit])
+            found, left, lines = self.over_links(crate, texts, flags, kept, named[edit])
             said = refusal(lines)
             if left < found and said and self.is_read(lines, texts):
                 label = f"must-fail {crate.name}/{os.path.basename(edit)}"
                 told[edit] = self.rt.REFUSED, f"{label}: refused, as it must be (of {' '.join(named[edit])} {left} of {found} proved): {said[:200]}"
             else:
                 print(f"ci: {crate.name}/{os.path.basename(edit)} isn't refused in a clause of {' '.join(named[edit])}, so it is tried on the whole crate", flush=True)
-        return told if told and self.is_proved(crate, flags, kept, paths) else {}
+        is_same = files_of(kept) == before
+        if not is_same:
+            print(f"ci: {crate.name}: what its edits were tried over is no longer what it was, so they are tried on the whole crate", flush=True)
+        return told if is_same else {}
+
+    def over_links(self, crate, texts, flags, kept, paths):
+        """Checks what the paths name, with these texts, over links to what is kept."""
+        over = f"{kept}.edit"
+        try:
+            linked(kept, over)
+            return self.count(crate, texts, flags, over, paths)
+        finally:
+            shutil.rmtree(over, ignore_errors=True)
 
     def is_proved(self, crate, flags, kept, paths):
         """Returns whether all that the paths name is proved without any edit; says so where it isn't."""

@@ -7,6 +7,7 @@ use Rattle.org_base.specs.declared.profile.Profile.{Profile}
 use Rattle.org_agenda.specs.Bound.{near_count}
 use Rattle.org_agenda.specs.Days.{AgendaView, day_rows}
 use Rattle.org_agenda.specs.Sources.{sources_of}
+use Rattle.org_agenda.specs.declared.as_of.AsOf.{AsOf}
 use Rattle.org_agenda.specs.declared.source.HeadingStamp.{HeadingStamp}
 use Rattle.org_inherit.specs.Scope.{Scope}
 use Rattle.org_layout.specs.Shown.{day_lines_shown, lines_of}
@@ -23,7 +24,6 @@ use Rattle.org_engine.specs.Views.{scopes_over}
 use Rattle.org_engine.specs.Places.{agenda_in, days_shown, view_in, view_over}
 use Rattle.org_engine.specs.declared.question.Form.{Form}
 use Rattle.org_engine.proofs.ListLemmas.{over_all}
-use Rattle.org_cal.specs.declared.moment.Moment.{Moment}
 use Rattle.org_engine.specs.World.{WorldView}
 
 same_lists : (f g : ℕ → List Line) (first n : ℕ) → ((day : ℕ) → first ≤ day → day < first + n → f day ≡ g day) → flat_map f (range_with_len first n) ≡ flat_map g (range_with_len first n)
@@ -39,20 +39,20 @@ same_lines p scopes some all today first count last are end same agenda is =
     ∙ same_lists (λ day. day_lines_shown day (day_rows p some today day)) (λ day. day_lines_shown day (day_rows p all today day)) first count (λ day late early. ap (day_lines_shown day) (same day late (omega (arith, early, end))))
     ∙ (λ i. lines_of (record { profile = p; sources = are i; today = today; first = first; count = count }))
 
--- an agenda over all files, in the profile and at the moment of a world
-pub days_are : (form : Form) (first count : ℕ) (world : WorldView) (p : Profile) (moment : Moment) → p ≡ world.profile → moment ≡ world.moment →
-    view_over form None false (λ scopes. days_shown p scopes moment.day first count) world ≡ agenda_in form first count world
-days_are form first count world p moment same is =
-    (λ i. view_over form None false (λ scopes. days_shown (same i) scopes (is i).day first count) world)
+-- an agenda over all files, as a world looks at stamps
+pub days_are : (form : Form) (first count : ℕ) (world : WorldView) (seen : AsOf) → seen.profile ≡ world.profile → seen.today ≡ world.moment.day →
+    view_over form None false (λ scopes. days_shown seen.profile scopes seen.today first count) world ≡ agenda_in form first count world
+days_are form first count world seen same is =
+    (λ i. view_over form None false (λ scopes. days_shown (same i) scopes (is i) first count) world)
     ∙ ap (λ w. view_in form false (days_shown world.profile (scopes_of w) world.moment.day first count) w) (over_all world)
 
 -- the stamps that it examines
-pub near_are : (first count : ℕ) (world : WorldView) (p : Profile) (moment : Moment) → p ≡ world.profile → moment ≡ world.moment →
-    near_count p first (first + count - 1) moment.day (scopes_over None world) ≡ near_in_world first count world
+pub near_are : (first count : ℕ) (world : WorldView) (seen : AsOf) → seen.profile ≡ world.profile → seen.today ≡ world.moment.day →
+    near_count seen.profile first (first + count - 1) seen.today (scopes_over None world) ≡ near_in_world first count world
 unfolding near_in_world
-near_are first count world p moment same is =
-    ap (λ w. near_count p first (first + count - 1) moment.day (scopes_of w)) (over_all world)
-    ∙ (λ i. near_count (same i) first (first + count - 1) (is i).day (scopes_of world))
+near_are first count world seen same is =
+    ap (λ w. near_count seen.profile first (first + count - 1) seen.today (scopes_of w)) (over_all world)
+    ∙ (λ i. near_count (same i) first (first + count - 1) (is i) (scopes_of world))
 
 module _ (date : List ℕ) (days : ℕ) where
   -- the calendar has no such day

@@ -124,16 +124,23 @@ fn days_text<T: Text>(
     ensures partial { OnErr result (ReadsSome AnyStamps world.old world.new meter.old meter.new) }
     ensures memory { IsOkUnless result memory_fault }
 {
-    let as_of = AsOf {
-        profile: world.profile(),
-        today: world.moment().day,
-    };
     let view = Days {
-        as_of,
+        as_of: as_of(world),
         first,
         count,
     };
     render_view(alloc, meter, world, &view, form)
+}
+
+// How an agenda of a world looks at stamps: in the world's profile, from its day.
+fn as_of<T: Text>(world: &World<T>) -> AsOf
+    ensures profile { result.profile ≡ world.now.world.profile }
+    ensures today { result.today ≡ world.now.world.moment.day }
+{
+    AsOf {
+        profile: world.profile(),
+        today: world.moment().day,
+    }
 }
 
 // The agenda of these days over the stamps that are near them, each of which is examined once, as the meter counts. Want of

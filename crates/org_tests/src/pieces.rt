@@ -1,14 +1,10 @@
 //! Texts in pieces beside strings.
+use crate::sequence::next;
 use org_base::Fault;
 use org_pieces::Pieces;
 use org_text::Text;
 use std::alloc::Global;
 use std::test::Fail;
-
-fn next(seed: u64) -> u64 {
-    seed.wrapping_mul(6364136223846793005)
-        .wrapping_add(1442695040888963407)
-}
 
 const FRONT: &str = "* one\n";
 
@@ -91,14 +87,24 @@ fn edited_beside_bytes(rt: HostRuntime) -> Result<(), Fail> {
     Ok(())
 }
 
+fn many_bytes(alloc: Global) -> Result<String, Fault> {
+    let mut bytes = String::with_capacity(alloc, 65_000)?;
+    for _byte in 0..65_000 {
+        bytes.push_str("x")?;
+    }
+    Ok(bytes)
+}
+
+// Puts so many bytes behind the front of a text.
+fn put_many(alloc: Global, text: &mut Pieces) -> Result<(), Fault> {
+    let ins = many_bytes(alloc)?;
+    text.edit(FRONT.len() as u64, 0, ins.as_str())
+}
+
 // What a short text holds, and in how many pieces, once 65,000 bytes came into it and all but ten of them went.
 fn held_behind_a_large_edit(alloc: Global) -> Result<(u64, u32), Fault> {
     let mut text = Pieces::of(alloc, FRONT)?;
-    let mut ins = String::with_capacity(alloc, 65_000)?;
-    for _byte in 0..65_000 {
-        ins.push_str("x")?;
-    }
-    text.edit(FRONT.len() as u64, 0, ins.as_str())?;
+    put_many(alloc, &mut text)?;
     text.edit(FRONT.len() as u64, 64_990, "")?;
     Ok((text.block_bytes(), text.count()))
 }

@@ -34,7 +34,10 @@ fn try_replace(
 }
 
 fn is_there(store: &Memory, name: Name, bytes: &[u8]) -> bool {
-    store.file(name) == Some(bytes)
+    match store.file(name) {
+        Some(found) => found == bytes,
+        None => false,
+    }
 }
 
 // Whether what stands there is what the answer says, of a replacement beside another program or beside nobody.
@@ -80,116 +83,105 @@ fn each_call_may_fail(rt: HostRuntime) -> Result<(), Fail> {
     Ok(())
 }
 
-// The answer, and how many calls there were.
-fn answer_of(
+// Whether a replacement whose call of a number fails is made and answers so, by so many calls.
+fn is_saved(
     alloc: Global,
     failing: u64,
     foreign: &[u8],
-) -> Result<(Result<Saved, Unsaved>, u64), AllocError> {
+    want: Saved,
+    calls: u64,
+) -> Result<bool, AllocError> {
     let (store, answer) = try_replace(alloc, failing, foreign)?;
-    Ok((answer, store.calls()))
+    Ok(answer == Ok(want) && store.calls() == calls)
 }
 
-// A replacement that was made.
-fn of_saved(
-    durable: bool,
-    meanwhile: Meanwhile,
-    restored: Option<Meanwhile>,
-) -> Result<Saved, Unsaved> {
-    Ok(Saved {
+// What is said of a replacement that was made.
+fn saved_as(durable: bool, meanwhile: Meanwhile, restored: Option<Meanwhile>) -> Saved {
+    Saved {
         durable,
         meanwhile,
         restored,
-    })
-}
-
-// One of which a step failed, and that left nothing.
-fn of_failed(step: Step) -> Result<Saved, Unsaved> {
-    Err(Unsaved {
-        why: Why::Failed(step, Cause::Other),
-        left: false,
-    })
+    }
 }
 
 #[test]
 fn replaces(rt: HostRuntime) -> Result<(), Fail> {
     let alloc = rt.alloc();
-    assert_eq!(rt;
-        answer_of(alloc, 0, b"")?,
-        (
-            of_saved(true, Meanwhile::Nothing, Some(Meanwhile::Nothing)),
-            CALLS
-        )
-    );
-    assert_eq!(rt;
-        answer_of(alloc, 0, FOREIGN)?,
-        (of_saved(true, Meanwhile::Rescued, None), MOST_CALLS)
-    );
-    assert_eq!(rt;
-        answer_of(alloc, 11, b"")?,
-        (
-            of_saved(false, Meanwhile::Nothing, Some(Meanwhile::Nothing)),
-            CALLS
-        )
-    );
-    assert_eq!(rt;
-        answer_of(alloc, 7, FOREIGN)?,
-        (of_saved(true, Meanwhile::Unknown, None), 8)
-    );
-    assert_eq!(rt;
-        answer_of(alloc, 9, FOREIGN)?,
-        (of_saved(true, Meanwhile::Lost, None), MOST_CALLS - 1)
-    );
+    let whole = saved_as(true, Meanwhile::Nothing, Some(Meanwhile::Nothing));
+    assert!(rt; is_saved(alloc, 0, b"", whole, CALLS)?);
+    let rescued = saved_as(true, Meanwhile::Rescued, None);
+    assert!(rt; is_saved(alloc, 0, FOREIGN, rescued, MOST_CALLS)?);
+    let not_durable = saved_as(false, Meanwhile::Nothing, Some(Meanwhile::Nothing));
+    assert!(rt; is_saved(alloc, 11, b"", not_durable, CALLS)?);
+    let unknown = saved_as(true, Meanwhile::Unknown, None);
+    assert!(rt; is_saved(alloc, 7, FOREIGN, unknown, 8)?);
+    let lost = saved_as(true, Meanwhile::Lost, None);
+    assert!(rt; is_saved(alloc, 9, FOREIGN, lost, MOST_CALLS - 1)?);
     Ok(())
 }
 
 #[test]
 fn says_what_came_back(rt: HostRuntime) -> Result<(), Fail> {
     let alloc = rt.alloc();
-    assert_eq!(rt;
-        answer_of(alloc, 8, b"")?,
-        (of_saved(true, Meanwhile::Nothing, None), 9)
-    );
-    assert_eq!(rt;
-        answer_of(alloc, 9, b"")?,
-        (of_saved(true, Meanwhile::Nothing, None), 10)
-    );
-    assert_eq!(rt;
-        answer_of(alloc, 10, b"")?,
-        (
-            of_saved(true, Meanwhile::Nothing, Some(Meanwhile::Unknown)),
-            CALLS
-        )
-    );
+    let nothing = saved_as(true, Meanwhile::Nothing, None);
+    assert!(rt; is_saved(alloc, 8, b"", nothing, 9)?);
+    assert!(rt; is_saved(alloc, 9, b"", nothing, 10)?);
+    let unknown = saved_as(true, Meanwhile::Nothing, Some(Meanwhile::Unknown));
+    assert!(rt; is_saved(alloc, 10, b"", unknown, CALLS)?);
     Ok(())
+}
+
+// The steps that a call of each number makes, from the first on.
+const STEPS: [Step; 6] = [
+    Step::Make,
+    Step::Access,
+    Step::Write,
+    Step::Sync,
+    Step::Read,
+    Step::Rename,
+];
+
+// Whether a replacement whose call of a number fails leaves nothing, and says that this step failed.
+fn is_failed(alloc: Global, failing: u64, step: Step) -> Result<bool, AllocError> {
+    let (_store, answer) = try_replace(alloc, failing, b"")?;
+    let failed = Unsaved {
+        why: Why::Failed(step, Cause::Other),
+        left: false,
+    };
+    Ok(answer == Err(failed))
+}
+
+// The first call that isn't said to be of its step where it fails.
+fn wrong_step(alloc: Global) -> Result<Option<u64>, AllocError> {
+    for (place, step) in STEPS.iter().enumerate() {
+        let failing = (place as u64).saturating_add(1);
+        if !is_failed(alloc, failing, *step)? {
+            return Ok(Some(failing));
+        }
+    }
+    Ok(None)
 }
 
 #[test]
 fn says_which_step_failed(rt: HostRuntime) -> Result<(), Fail> {
-    let alloc = rt.alloc();
-    assert_eq!(rt; answer_of(alloc, 1, b"")?.0, of_failed(Step::Make));
-    assert_eq!(rt; answer_of(alloc, 2, b"")?.0, of_failed(Step::Access));
-    assert_eq!(rt; answer_of(alloc, 3, b"")?.0, of_failed(Step::Write));
-    assert_eq!(rt; answer_of(alloc, 4, b"")?.0, of_failed(Step::Sync));
-    assert_eq!(rt; answer_of(alloc, 5, b"")?.0, of_failed(Step::Read));
-    assert_eq!(rt; answer_of(alloc, 6, b"")?.0, of_failed(Step::Rename));
+    assert_eq!(rt; wrong_step(rt.alloc())?, None);
     Ok(())
 }
 
-// What is said where the target has another text by then, and whether that stays.
-fn changed_before(alloc: Global) -> Result<(Result<Saved, Unsaved>, bool), AllocError> {
+// Whether a target that has another text by then stays, and that is said.
+fn stays_changed(alloc: Global) -> Result<bool, AllocError> {
     let mut store = Memory::new(alloc, FOREIGN.to_vec(alloc)?, 0, Vec::new(alloc));
     let answer = replace(alloc, &mut store, OLD, NEW);
+    let changed = Unsaved {
+        why: Why::Changed,
+        left: false,
+    };
     let stays = is_there(&store, Name::Target, FOREIGN) && store.file(Name::Temporary).is_none();
-    Ok((answer, stays))
+    Ok(answer == Err(changed) && stays)
 }
 
 #[test]
 fn a_changed_target_stays(rt: HostRuntime) -> Result<(), Fail> {
-    let refused = Err(Unsaved {
-        why: Why::Changed,
-        left: false,
-    });
-    assert_eq!(rt; changed_before(rt.alloc())?, (refused, true));
+    assert!(rt; stays_changed(rt.alloc())?);
     Ok(())
 }

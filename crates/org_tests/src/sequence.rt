@@ -42,7 +42,8 @@ impl Measured for Tally {
     }
 }
 
-fn next(seed: u64) -> u64 {
+// The next number of a row that looks random.
+pub(crate) fn next(seed: u64) -> u64 {
     seed.wrapping_mul(6364136223846793005)
         .wrapping_add(1442695040888963407)
 }
