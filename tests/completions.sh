@@ -4,7 +4,7 @@
 # behind an option the values that its line of `--help` names; and files where its arguments or its options take one, and nowhere
 # else. Each day that is offered has to be taken by the program. What is missing and what is too much fails. Then lines are typed
 # into each shell on a terminal, over files whose keywords, tags and names are made to be run, expanded or written raw: nothing of
-# them is, and the word on the line is the one that is meant. The man page has a section for each command, with each of its
+# them is, and the word on the line is the one that is meant. What `orgq shell` prints hands a width on. The man page has a section for each command, with each of its
 # options. A shell that isn't installed is left out. The last line counts, and names such shells.
 #     tests/completions.sh ORGQ [SHELL..]
 here=$(cd "$(dirname "$0")" && pwd)
@@ -52,10 +52,11 @@ words_of() {
         help | *" help") below=$(commands_of "${1%help}") ;;
         agenda | clock | clocks | log | *" agenda" | *" clock" | *" clocks" | *" log") below="$below $days" ;;
         calendar | *" calendar") below="$below month week year $(taken_by "$1")" ;;
+        shell) below="$below bash fish zsh" ;;
         view) below="$below $(orgq views | sed 's/ .*//' | tr '\n' ' ')" ;;
         todo | *" todo") below="$below $(orgq keywords | tr '\n' ' ')" ;;
         # Where a heading is named, the short ids of those that are open.
-        done | set | schedule | deadline | "clock in") below="$below $(orgq todo --format '{id}' | tr '\n' ' ')" ;;
+        done | set | schedule | deadline | tag | priority | property | note | "clock in") below="$below $(orgq todo --format '{id}' | tr '\n' ' ')" ;;
     esac
     echo "$below"
 }
@@ -79,7 +80,7 @@ ask_second() {
 # The file where the first argument of a command may be one or its place, and behind its options that take one.
 ask_files_of() {
     case $(orgq $1 --help 2> /dev/null | sed -n '/^Arguments:/{ n; p; q; }') in
-        *"[PLACE]"* | *"[FILE]"* | *"[PATH]"*) ask_file "orgq ${1:+$1 }zz" zz.org ;;
+        *"[PLACE]"* | *"[MORE]"* | *"[FILE]"* | *"[PATH]"*) ask_file "orgq ${1:+$1 }zz" zz.org ;;
         *) ask_file "orgq ${1:+$1 }zz" "" ;;
     esac
     for option in $(options_of "$1"); do
@@ -174,6 +175,17 @@ type_into() {
     failed=$((failed + ${counts#* }))
 }
 
+# What `orgq shell` prints hands the width of its shell on: a month is so wide, and nothing else is said.
+hand_on() {
+    case $1 in
+        bash) bash --norc -c 'eval "$(orgq shell bash)"; COLUMNS=66; orgq calendar --ascii' ;;
+        zsh) zsh -f -c 'eval "$(orgq shell zsh)"; COLUMNS=66; orgq calendar --ascii' ;;
+        fish) fish --no-config -c 'orgq shell fish | source; set COLUMNS 66; orgq calendar --ascii' ;;
+    esac > "$work/month" 2>&1
+    widest=$(awk 'length > widest { widest = length } END { print widest + 0 }' "$work/month")
+    [ "$widest" -eq 66 ] && passed=$((passed + 1)) || { failed=$((failed + 1)); echo "completions: a month in $1 is $widest wide, not 66"; }
+}
+
 mkdir "$work/folder-files" && : > "$work/folder-files/zz.org"
 for shell in ${shells:-bash zsh fish}; do
     if ! command -v "$shell" > /dev/null 2>&1; then
@@ -187,6 +199,7 @@ for shell in ${shells:-bash zsh fish}; do
         compare "$shell" "$with"
     done
     type_into "$shell"
+    hand_on "$shell"
 done
 echo "completions: $count lines were asked of each shell"
 

@@ -203,6 +203,7 @@ _orgq_argument() {
         *VIEW*) found+=(month week year "${days[@]}" "${blocks[@]}") ;;
         *KEYWORD*) _orgq_listed keywords ;;
         *NAME*) _orgq_views ;;
+        *SHELL*) found+=(bash fish zsh) ;;
         *PLACE* | *MORE*)
             _orgq_headings
             return 1

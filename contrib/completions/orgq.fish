@@ -137,6 +137,8 @@ function _orgq_offers
             _orgq_listed keywords
         case '*NAME*'
             _orgq_views
+        case '*SHELL*'
+            printf '%s\n' bash fish zsh
         case '*PLACE*' '*MORE*'
             _orgq_headings
             _orgq_paths

@@ -2,7 +2,7 @@
 ghost use Rattle.org_client.specs.Files.{AreRead};
 
 use crate::calendar::Canvas;
-use crate::labels::{Wording, label_of, push_shown, tone_of};
+use crate::labels::{SaidTime, Wording, label_of, push_shown, tone_of};
 use crate::picture::Picture;
 use crate::view::{Chosen, Days, agenda_over};
 use org_agenda::{Row, RowKind};
@@ -213,9 +213,10 @@ impl Page<'_, '_, '_> {
     // A row without its time.
     fn label(&self, alloc: Global, row: &Row) -> Result<String, Fault> {
         let wording = Wording {
-            has_time: false,
+            time: SaidTime::Nothing,
             has_keyword: true,
             signs: self.look.signs,
+            is_tight: false,
             most: None,
         };
         label_of(alloc, self.titles, row, &wording)

@@ -11,12 +11,23 @@ use org_look::{Entry, Signs, Stand, Tone};
 use org_visible::is_mark;
 use std::alloc::{AllocError, Global};
 
-/// How rows are said: with their times and keywords or without, by which signs, and of how many rows of a day at most.
+/// What is said of the time of a row.
+#[derive(Clone, Copy, Debug, PartialEq, Eq)]
+pub(crate) enum SaidTime {
+    Nothing,
+    /// The hour alone.
+    Hour,
+    Whole,
+}
+
+/// How rows are said: what of their times, with keywords or without, by which signs, with a space behind these or without, and of
+/// how many rows of a day at most.
 #[derive(Clone, Copy)]
 pub(crate) struct Wording {
-    pub has_time: bool,
+    pub time: SaidTime,
     pub has_keyword: bool,
     pub signs: Signs,
+    pub is_tight: bool,
     pub most: Option<usize>,
 }
 
@@ -119,10 +130,8 @@ pub(crate) fn label_of(
     let Some(heading) = Heading::find(titles.inherits(), row.file, row.heading) else {
         return Ok(label);
     };
-    if wording.has_time {
-        push_start(&mut label, row)?;
-    }
-    label.push_str(sign_of(row.kind, heading.is_done(), wording.signs))?;
+    push_start(&mut label, row, wording.time)?;
+    push_sign(&mut label, sign_of(row.kind, heading.is_done(), wording.signs), wording.is_tight)?;
     if wording.has_keyword {
         push_word(&mut label, heading.keyword())?;
     }
@@ -136,10 +145,25 @@ pub(crate) fn label_of(
     Ok(label)
 }
 
-// Appends the time of a row, if it has one.
-fn push_start(label: &mut String, row: &Row) -> Result<(), AllocError> {
-    if let Some(start) = row.start {
-        push_time(label, start)?;
+// Appends what is to be said of the time of a row, if it has one.
+fn push_start(label: &mut String, row: &Row, said: SaidTime) -> Result<(), AllocError> {
+    let Some(start) = row.start else {
+        return Ok(());
+    };
+    match said {
+        SaidTime::Nothing => Ok(()),
+        SaidTime::Hour => write!(label, "{:02} ", start.minutes() / 60),
+        SaidTime::Whole => {
+            push_time(label, start)?;
+            label.push(' ')
+        }
+    }
+}
+
+// Appends a sign, with a space behind it where it isn't tight.
+fn push_sign(label: &mut String, sign: &str, is_tight: bool) -> Result<(), AllocError> {
+    label.push_str(sign)?;
+    if !sign.is_empty() && !is_tight {
         label.push(' ')?;
     }
     Ok(())
@@ -148,11 +172,11 @@ fn push_start(label: &mut String, row: &Row) -> Result<(), AllocError> {
 // What a planned row begins with, and one that is due.
 fn sign_of(kind: RowKind, is_done: bool, signs: Signs) -> &'static str {
     match (kind, is_done, signs) {
-        (RowKind::OnDeadline | RowKind::OnSchedule, true, Signs::Drawn) => "✓ ",
-        (RowKind::OnDeadline | RowKind::OnSchedule, true, Signs::Ascii) => "x ",
-        (RowKind::OnDeadline, false, _) => "! ",
-        (RowKind::OnSchedule, false, Signs::Drawn) => "□ ",
-        (RowKind::OnSchedule, false, Signs::Ascii) => "o ",
+        (RowKind::OnDeadline | RowKind::OnSchedule, true, Signs::Drawn) => "✓",
+        (RowKind::OnDeadline | RowKind::OnSchedule, true, Signs::Ascii) => "x",
+        (RowKind::OnDeadline, false, _) => "!",
+        (RowKind::OnSchedule, false, Signs::Drawn) => "□",
+        (RowKind::OnSchedule, false, Signs::Ascii) => "o",
         _ => "",
     }
 }

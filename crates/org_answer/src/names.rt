@@ -2,6 +2,7 @@
 
 use org_cal::{Day, Period, day_name};
 use org_client::{month_name, short_month};
+use org_look::Grid;
 use std::alloc::{AllocError, Global};
 
 /// The number of a day, the first of a month with the month's name, today's in brackets.
@@ -43,10 +44,11 @@ pub(crate) fn push_span(out: &mut String, days: &Period) -> Result<(), AllocErro
 }
 
 /// Appends the names of the days, each in the middle of its cell.
-pub(crate) fn push_heads(out: &mut String, cell: usize) -> Result<(), AllocError> {
-    let before = cell.saturating_sub(3) / 2;
-    let after = cell.saturating_sub(3) - before;
-    out.push_str("   ")?;
+pub(crate) fn push_heads(out: &mut String, grid: &Grid) -> Result<(), AllocError> {
+    let gutter = grid.gutter();
+    let before = grid.cell.saturating_sub(3) / 2;
+    let after = grid.cell.saturating_sub(3) - before;
+    write!(out, "{:gutter$}", "")?;
     for (place, name) in NAMES.iter().enumerate() {
         write!(out, " {:before$}{name}", "")?;
         if place < 6 {

@@ -4,7 +4,7 @@ ghost use Rattle.org_answer.specs.Pictures.{AreWeek, AreWeeks, GivesDay};
 ghost use Rattle.org_client.specs.Files.{AreRead};
 
 use crate::calendar::{Calendar, View};
-use crate::labels::{Wording, entries_of};
+use crate::labels::{SaidTime, Wording, entries_of};
 use crate::names::{name_of, number_of, push_heads, push_span};
 use crate::view::{Chosen, agenda_over};
 use org_agenda::Agenda;
@@ -13,7 +13,7 @@ use org_cal::Day;
 use org_client::{KeptHeadings, month_name};
 use org_inherit::Inherits;
 use org_look::{
-    Entry, Grid, GridDay, Narrow, Plan, Sheet, Tone, Week, grid_lines, push_listed_day,
+    Entry, Grid, GridDay, Narrow, Plan, Sheet, Tone, Week, grid_lines, is_narrow, push_listed_day,
     push_small_week,
 };
 use std::alloc::{AllocError, Global};
@@ -75,8 +75,9 @@ fn push_picture(
         today: chosen.as_of.today,
         wording: Wording {
             has_keyword: calendar.view == View::Week || grid.is_none(),
-            has_time: true,
+            time: said_time(&grid),
             signs: calendar.canvas.signs,
+            is_tight: is_tight(&grid),
             most: (calendar.view != View::Week && grid.is_some()).then_some(calendar.lines),
         },
     };
@@ -85,6 +86,22 @@ fn push_picture(
     drawing.push(alloc, &mut picture.sheet, weeks.as_slice())?;
     picture.has_row = picture.has_row || weeks.iter().any(has_row);
     Ok(())
+}
+
+// What is said of times in a grid: under ten columns a day has no room for the minutes.
+fn said_time(grid: &Option<Grid>) -> SaidTime {
+    match grid {
+        Some(grid) if grid.cell < 10 => SaidTime::Hour,
+        _ => SaidTime::Whole,
+    }
+}
+
+// Whether signs stand in a grid without a space behind them.
+fn is_tight(grid: &Option<Grid>) -> bool {
+    match grid {
+        Some(grid) => is_narrow(grid.cell),
+        None => false,
+    }
 }
 
 // A calendar as it is drawn: on which day, and how rows are said.
@@ -142,7 +159,7 @@ fn week_of(
         days.push(day)?;
     }
     Ok(WeekDays {
-        number: format!(in alloc; "{week:>2} ")?,
+        number: format!(in alloc; "{week:>2}")?,
         days,
     })
 }
@@ -220,7 +237,7 @@ impl Drawing<'_> {
         grid: &Grid,
     ) -> Result<(), AllocError> {
         self.push_title(alloc, out, grid.columns())?;
-        push_heads(&mut out.text, grid.cell)?;
+        push_heads(&mut out.text, grid)?;
         let planned = self.plan_weeks(alloc, weeks, grid.cell)?;
         for line in &grid_lines(alloc, planned.as_slice(), grid)? {
             out.push_strip(line)?;
@@ -239,10 +256,12 @@ impl Drawing<'_> {
             View::Month | View::Year => Plan {
                 lines: self.calendar.lines,
                 breaks: None,
+                is_short: is_narrow(cell),
             },
             View::Week => Plan {
                 lines: WEEK_LINES,
-                breaks: Some(cell.saturating_sub(2)),
+                breaks: Some(if is_narrow(cell) { cell } else { cell - 2 }),
+                is_short: is_narrow(cell),
             },
         };
         let mut planned = Vec::new(alloc);

@@ -8,7 +8,7 @@ use Rattle.std.proofs.lemmas.Str.{chars_past_char, chars-nil, scalars-chars, IsU
 use Rattle.std.proofs.lemmas.Bool.{and_parts, and_from, cases_lt}
 use Rattle.std.proofs.lemmas.List.{append_assoc}
 use Rattle.std.proofs.lemmas.Bool.Decides.{nat_tests}
-use Rattle.org_look.specs.Cuts.{cut_front, cut_text, front, if_fits, weight, FilledIsWide, WholeStands}
+use Rattle.org_look.specs.Cuts.{begun_text, cut_front, cut_text, front, if_fits, weight, FilledIsWide, SpreadIsWide, WholeStands}
 use Rattle.org_look.specs.declared.sign.Signs.{Signs}
 use Rattle.org_look.specs.declared.sign.Sign.TheVariants.{Cut}
 use Rattle.unicode_width.specs.Width.{str_width}
@@ -99,6 +99,19 @@ pub filled_is_wide : FilledIsWide
 filled_is_wide signs columns text some utf8 =
     let cut = cut_is_within signs columns text some utf8 in
     spaces_wide (cut_text signs columns text) (columns - columns_of (cut_text signs columns text)) cut.1 ∙ omega (arith, cut.0)
+
+begun_is_within : (columns : ℕ) (text : List ℕ) → IsUtf8 text → (columns_of (begun_text columns text) ≤ columns) × IsUtf8 (begun_text columns text)
+begun_is_within columns text utf8 =
+    let front_of : List ℕ = encode_utf8_all (front columns (chars text)) in
+    let P : Bool → Type 0 = λ b. (columns_of (cond b text (if_fits columns front_of)) ≤ columns) × IsUtf8 (cond b text (if_fits columns front_of)) in
+    ⊎_elim
+    (λ wide. subst P (sym (le_false (columns_of text) columns wide)) (if_fits_fits columns front_of, IsUtf8-if_fits columns front_of (IsUtf8-front columns text utf8)))
+    (λ le. subst P (sym (le_true (columns_of text) columns le)) (le, utf8)) (cases_lt columns (columns_of text))
+
+pub spread_is_wide : SpreadIsWide
+spread_is_wide columns text utf8 =
+    let begun = begun_is_within columns text utf8 in
+    spaces_wide (begun_text columns text) (columns - columns_of (begun_text columns text)) begun.1 ∙ omega (arith, begun.0)
 
 pub whole_stands : WholeStands
 whole_stands signs columns text fits = ap (λ b. cond b text (cut_front signs columns text)) (le_true (columns_of text) columns fits)

@@ -1,5 +1,5 @@
 -- Texts cut and filled to so many columns.
-use Rattle.std.specs.Prelude.{◌≡◌, ℕ, ◌-◌, ◌<◌, ◌≤◌, ◌++◌, nat_le, if◌then◌else◌, List, [], ◌∷◌, chars, encode_utf8_all, replicate, unwrap_or, false}
+use Rattle.std.specs.Prelude.{◌≡◌, ℕ, ◌-◌, ◌<◌, ◌≤◌, ◌++◌, Bool, nat_le, if◌then◌else◌, List, [], ◌∷◌, chars, encode_utf8_all, replicate, unwrap_or, false}
 use Rattle.std.specs.Str.{IsUtf8}
 use Rattle.std.specs.Int.{is_in_range}
 use Rattle.unicode_width.specs.Width.{char_width}
@@ -33,13 +33,28 @@ cut_text signs columns text = if nat_le (columns_of text) columns then text else
 abbrev pub filled_text : Signs → ℕ → List ℕ → List ℕ
 filled_text signs columns text = cut_text signs columns text ++ replicate (columns - columns_of (cut_text signs columns text)) 32
 
--- a row in a cell, with a space behind it
+-- the text where it fits, else as much of its front as fits
+abbrev pub begun_text : ℕ → List ℕ → List ℕ
+begun_text columns text = if nat_le (columns_of text) columns then text else if_fits columns (encode_utf8_all (front columns (chars text)))
+
+-- the same, with spaces behind it up to so many columns
+abbrev pub spread_text : ℕ → List ℕ → List ℕ
+spread_text columns text = begun_text columns text ++ replicate (columns - columns_of (begun_text columns text)) 32
+
+-- a cell is narrow that has no room for a time and five more columns
+abbrev pub is_narrow : ℕ → Bool
+is_narrow columns = nat_le columns 10
+
+-- a row in a cell: with a space behind it, in a narrow one as much of its front as fits
 abbrev pub row_text : Signs → ℕ → List ℕ → List ℕ
-row_text signs columns label = filled_text signs columns (cut_text signs (columns - 1) label)
+row_text signs columns label = if is_narrow columns then spread_text columns label else filled_text signs columns (cut_text signs (columns - 1) label)
 
 -- a text in so many columns takes exactly so many, whatever it is
 abbrev pub FilledIsWide : Type 0
 FilledIsWide = (signs : Signs) (columns : ℕ) (text : List ℕ) → 0 < columns → IsUtf8 text → columns_of (filled_text signs columns text) ≡ columns
+
+abbrev pub SpreadIsWide : Type 0
+SpreadIsWide = (columns : ℕ) (text : List ℕ) → IsUtf8 text → columns_of (spread_text columns text) ≡ columns
 
 -- a text that fits isn't cut
 abbrev pub WholeStands : Type 0

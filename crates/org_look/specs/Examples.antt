@@ -2,9 +2,10 @@
 use Rattle.std.specs.Prelude.{◌≡◌, [], ◌∷◌, false, true, None, Some, codes}
 use Rattle.org_look.specs.Bars.{bar_text}
 use Rattle.org_look.specs.Cells.{content_of}
-use Rattle.org_look.specs.Cuts.{cut_text, filled_text}
+use Rattle.org_look.specs.Cuts.{cut_text, filled_text, row_text, spread_text}
 use Rattle.org_look.specs.Entries.{left_count, shown_count}
 use Rattle.org_look.specs.FreeLanes.{free_lane}
+use Rattle.org_look.specs.Grids.{line_width}
 use Rattle.org_look.specs.Hours.{last_half}
 use Rattle.org_look.specs.Ranges.{bar_if, range_bar}
 use Rattle.org_look.specs.declared.cell.Content.TheVariants.{Blank, Note, Others, Row}
@@ -18,6 +19,14 @@ pub record ExamplesHold : Type 0 where
   pub wide : cut_text Ascii 4 (230 ∷ 151 ∷ 165 ∷ 230 ∷ 156 ∷ 172 ∷ 230 ∷ 151 ∷ 165 ∷ []) ≡ 230 ∷ 151 ∷ 165 ∷ 126 ∷ []
   -- an accent takes no column
   pub accent : cut_text Ascii 2 (101 ∷ 204 ∷ 129 ∷ 101 ∷ 101 ∷ []) ≡ 101 ∷ 204 ∷ 129 ∷ 126 ∷ []
+  -- in a narrow cell a row's front alone, without a sign
+  pub narrow : row_text Ascii 7 (codes "09 Stand-up") ≡ codes "09 Stan"
+  pub roomy : row_text Ascii 11 (codes "09:00 Stand-up") ≡ codes "09:00 Sta~ "
+  pub narrow_wide : spread_text 2 (97 ∷ 230 ∷ 151 ∷ 165 ∷ []) ≡ 97 ∷ 32 ∷ []
+  -- 59 columns have seven a day, 80 ten, 88 eleven
+  pub least_line : line_width 7 ≡ 59
+  pub usual_line : line_width 10 ≡ 80
+  pub roomy_line : line_width 11 ≡ 88
   pub spaces : filled_text Ascii 5 (230 ∷ 151 ∷ 165 ∷ []) ≡ 230 ∷ 151 ∷ 165 ∷ 32 ∷ 32 ∷ 32 ∷ []
   pub bar : bar_text Ascii false true 10 (codes "Trip") ≡ codes "[ Trip ==>"
   pub bar_cut : bar_text Ascii true false 8 (codes "Holiday") ≡ codes "< Hol~ ]"

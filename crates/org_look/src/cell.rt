@@ -2,10 +2,10 @@
 ghost use Rattle.std.specs.Prelude.{◌≡◌, ◌≤◌, []};
 ghost use Rattle.org_look.specs.CellLines.{label_at, line_of_cell, note_at, others_text};
 ghost use Rattle.org_look.specs.Cells.{content_of, foot_of};
-ghost use Rattle.org_look.specs.Cuts.{filled_text, row_text};
+ghost use Rattle.org_look.specs.Cuts.{filled_text, is_narrow, row_text};
 ghost use Rattle.org_look.specs.Gives.{GivesStrip, GivesWide};
 
-use crate::fill::{cut, fill_text};
+use crate::fill::{cut, fill_front, fill_text};
 use crate::sheet::Tone;
 use crate::sign::Signs;
 use crate::strip::Strip;
@@ -173,12 +173,22 @@ impl Cell {
     }
 }
 
-// A label, with a space behind it.
+/// Whether a cell of so many columns has no room for a space behind a row, nor for the sign of a cut.
+pub fn is_narrow(columns: usize) -> bool
+    ensures value { result ≡ is_narrow columns }
+{
+    columns <= 10
+}
+
+// A label, with a space behind it; in a narrow cell as much of it as there is room for.
 fn row_strip(alloc: Global, label: &str, columns: usize, signs: Signs) -> Result<Strip, AllocError>
     requires room { 2 ≤ columns }
     ensures value { GivesStrip result (row_text signs columns label.now) }
     ensures wide { GivesWide result columns }
 {
+    if is_narrow(columns) {
+        return fill_front(alloc, label, columns);
+    }
     let label = cut(alloc, label, columns - 1, signs)?;
     fill_text(alloc, label.as_str(), columns, signs)
 }

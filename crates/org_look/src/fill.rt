@@ -1,6 +1,6 @@
 //! Texts cut and filled to so many columns.
 ghost use Rattle.std.specs.Prelude.{◌≡◌, ◌<◌, chars, encode_utf8_all, replicate, string_bytes};
-ghost use Rattle.org_look.specs.Cuts.{cut_text, filled_text, front, if_fits, weight};
+ghost use Rattle.org_look.specs.Cuts.{begun_text, cut_text, filled_text, front, if_fits, spread_text, weight};
 ghost use Rattle.org_look.specs.Gives.{GivesStrip, GivesWide};
 ghost use Rattle.org_look.specs.Results.{GivesText, Writes};
 
@@ -25,6 +25,32 @@ pub fn fill_text(
     let spaces = columns.saturating_sub(cut.as_str().width());
     push_spaces(&mut cut, spaces)?;
     Ok(Strip::of(alloc, cut))
+}
+
+/// A text in exactly so many columns: where it is shorter with spaces behind it, where it is longer as much of its front as there
+/// is room for, without a sign of a cut.
+pub fn fill_front(alloc: Global, text: &str, columns: usize) -> Result<Strip, AllocError>
+    ensures value { GivesStrip result (spread_text columns text.now) }
+    ensures wide { GivesWide result columns }
+{
+    let mut front = front_of(alloc, text, columns)?;
+    let spaces = columns.saturating_sub(front.as_str().width());
+    push_spaces(&mut front, spaces)?;
+    Ok(Strip::of(alloc, front))
+}
+
+// The text where it fits, else as much of its front as there is room for.
+fn front_of(alloc: Global, text: &str, columns: usize) -> Result<String, AllocError>
+    ensures value { GivesText result (begun_text columns text.now) }
+{
+    let mut out = String::new(alloc);
+    if text.width() <= columns {
+        out.push_str(text)?;
+        return Ok(out);
+    }
+    push_front(&mut out, text, columns)?;
+    drop_wider(&mut out, columns);
+    Ok(out)
 }
 
 /// A text in at most so many columns: the whole where it fits, else a front of it with the sign of a cut.

@@ -1,7 +1,7 @@
 //! Laws about the definitions in specs/.
 ghost use Rattle.org_look.specs.Bars.{BarsAreWide};
 ghost use Rattle.org_look.specs.Cells.{OthersHaveALine, RowsHaveLines};
-ghost use Rattle.org_look.specs.Cuts.{FilledIsWide, WholeStands};
+ghost use Rattle.org_look.specs.Cuts.{FilledIsWide, SpreadIsWide, WholeStands};
 ghost use Rattle.org_look.specs.Entries.{AllAreCounted, CellsFit, CellsHoldRows};
 ghost use Rattle.org_look.specs.Examples.{ExamplesHold};
 ghost use Rattle.org_look.specs.Ranges.{RangesHaveOneBar, SeenHaveNoBar};
@@ -18,6 +18,12 @@ pub fn signs_are_columns()
 #[tactic(auto, using(crate::proofs::CutLemmas::filled_is_wide))]
 pub fn filled_is_wide()
     ensures { FilledIsWide }
+{}
+
+/// A text that is spread over so many columns takes exactly so many, whatever it is.
+#[tactic(auto, using(crate::proofs::CutLemmas::spread_is_wide))]
+pub fn spread_is_wide()
+    ensures { SpreadIsWide }
 {}
 
 /// A text that fits isn't cut.

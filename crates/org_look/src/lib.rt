@@ -44,7 +44,7 @@ mod strip;
 mod week;
 mod wrap;
 
-pub use cell::{Cell, Content, Note, Shape};
+pub use cell::{Cell, Content, Note, Shape, is_narrow};
 pub use day::GridDay;
 pub use entry::{Entry, Share, Stand, own_labels};
 pub use fill::{cut, fill_text};

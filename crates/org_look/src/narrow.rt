@@ -25,6 +25,7 @@ pub fn push_small_week(
     signs: Signs,
 ) -> Result<(), AllocError> {
     out.push(Tone::Plain, number)?;
+    out.text.push(' ')?;
     for day in days {
         push_small_day(out, day, signs)?;
     }
@@ -82,7 +83,7 @@ pub fn push_listed_day(
             push_listed(alloc, out, entry, look)?;
         }
     }
-    for note in &notes_of(alloc, day.entries.as_slice())? {
+    for note in &notes_of(alloc, day.entries.as_slice(), false)? {
         push_indented(alloc, out, note.text.as_str(), note.tone, look)?;
     }
     Ok(())

@@ -13,12 +13,13 @@ use crate::week::Week;
 use crate::wrap::{Labels, broken_labels};
 use std::alloc::{AllocError, Global};
 
-/// How cells are filled: the most lines of a cell, and of how many columns the lines of a row are that is broken into several;
-/// without that each row takes one line.
+/// How cells are filled: the most lines of a cell, of how many columns the lines of a row are that is broken into several (without
+/// that each row takes one line), and whether notes are short.
 #[derive(Clone, Copy, Debug)]
 pub struct Plan {
     pub lines: usize,
     pub breaks: Option<usize>,
+    pub is_short: bool,
 }
 
 impl Week {
@@ -249,7 +250,7 @@ fn cell_of(alloc: Global, day: &GridDay, cover: Cover, plan: &Plan) -> Result<Ce
     ensures share { SharesRows result cover.bars plan.now.lines }
 {
     let labels = labels_of(alloc, day.entries.as_slice(), plan)?;
-    let notes = notes_of(alloc, day.entries.as_slice())?;
+    let notes = notes_of(alloc, day.entries.as_slice(), plan.is_short)?;
     let taken = cover.lanes.saturating_add(notes.len());
     let share = Share::of(
         labels.texts.len(),
@@ -286,8 +287,8 @@ fn labels_of(alloc: Global, entries: &[Entry], plan: &Plan) -> Result<Labels, Al
     })
 }
 
-/// How many rows of a day are late, and how many are due soon.
-pub fn notes_of(alloc: Global, entries: &[Entry]) -> Result<Vec<Note>, AllocError> {
+/// How many rows of a day are late, and how many are due soon, in fewer words where that is asked.
+pub fn notes_of(alloc: Global, entries: &[Entry], is_short: bool) -> Result<Vec<Note>, AllocError> {
     let late = count_of(entries, Stand::Late);
     let soon = count_of(entries, Stand::Soon);
     let mut notes = Vec::new(alloc);
@@ -298,8 +299,9 @@ pub fn notes_of(alloc: Global, entries: &[Entry]) -> Result<Vec<Note>, AllocErro
         })?;
     }
     if soon > 0 {
+        let word = if is_short { "due" } else { "due soon" };
         notes.push(Note {
-            text: format!(in alloc; "{soon} due soon")?,
+            text: format!(in alloc; "{soon} {word}")?,
             tone: Tone::Soon,
         })?;
     }

@@ -23,7 +23,7 @@ pub(crate) fn rule(alloc: Global, crossings: &Crossings, grid: &Grid) -> Result<
     ensures wide { GivesWide result (line_width grid.now.cell) }
 {
     let mut text = String::new(alloc);
-    push_times(&mut text, Sign::Blank, 3, grid.signs)?;
+    push_times(&mut text, Sign::Blank, grid.gutter(), grid.signs)?;
     push_times(&mut text, crossings.left, 1, grid.signs)?;
     for _day in 0..6_usize {
         push_times(&mut text, Sign::Level, grid.cell, grid.signs)?;

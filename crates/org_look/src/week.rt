@@ -1,9 +1,9 @@
 //! The lines of a week.
 ghost use Rattle.std.specs.Prelude.{◌≡◌, ◌+◌, ◌*◌, ◌<◌, ◌≤◌, ◌^◌, IfOk, IfSome, None, vec_len};
 ghost use Rattle.org_look.specs.Gives.{GivesWide, KeepsWide};
-ghost use Rattle.org_look.specs.Grids.{line_width};
+ghost use Rattle.org_look.specs.Grids.{gutter, line_width};
 
-use crate::cell::Cell;
+use crate::cell::{Cell, is_narrow};
 use crate::fill::fill_text;
 use crate::line::join_strips;
 use crate::sign::Signs;
@@ -21,13 +21,19 @@ pub struct Grid {
 }
 
 impl Grid {
-    /// The widest grid in so many columns; none where its days would have fewer than eleven.
+    /// The widest grid in so many columns; none where its days would have fewer than seven.
     pub fn within(columns: u16, signs: Signs) -> Option<Grid>
         ensures fits { IfSome result (λ grid. line_width grid.cell ≤ columns) }
         ensures widest { IfSome result (λ grid. columns < line_width (grid.cell + 1)) }
         ensures none { result ≡ None → columns < line_width LEAST_CELL }
     {
-        let cell = usize::from(columns).saturating_sub(11) / 7;
+        let columns = usize::from(columns);
+        let roomy = columns.saturating_sub(11) / 7;
+        let cell = if is_narrow(roomy) {
+            (columns.saturating_sub(10) / 7).min(10)
+        } else {
+            roomy
+        };
         if cell < LEAST_CELL {
             return None;
         }
@@ -38,12 +44,21 @@ impl Grid {
     pub fn columns(&self) -> usize
         ensures value { result ≡ line_width self.now.cell }
     {
-        7 * (self.cell + 1) + 4
+        self.gutter() + 7 * (self.cell + 1) + 1
+    }
+
+    /// The columns of a week's number.
+    pub fn gutter(&self) -> usize
+        ensures value { result ≡ gutter self.now.cell }
+        ensures some { 0 < result }
+        ensures small { result < 4 }
+    {
+        if is_narrow(self.cell) { 2 } else { 3 }
     }
 }
 
-/// The fewest columns of a day in a grid: a time and five more.
-pub const LEAST_CELL: usize = 11;
+/// The fewest columns of a day in a grid: an hour and four more.
+pub const LEAST_CELL: usize = 7;
 
 /// A week of a grid: its number, its seven cells, its bars with their lanes, and how many lanes there are at most; a bar whose
 /// lane is none of these isn't drawn.
@@ -86,7 +101,7 @@ impl Week {
         for cell in &self.cells {
             strips.push(cell.head(alloc, grid.cell, grid.signs)?)?;
         }
-        let front = fill_text(alloc, self.number.as_str(), 3, grid.signs)?;
+        let front = fill_text(alloc, self.number.as_str(), grid.gutter(), grid.signs)?;
         join_strips(alloc, &front, strips.as_slice(), grid.signs)
     }
 
@@ -101,7 +116,7 @@ impl Week {
             strips.push(strip)?;
             column += days;
         }
-        let front = fill_text(alloc, "", 3, grid.signs)?;
+        let front = fill_text(alloc, "", grid.gutter(), grid.signs)?;
         join_strips(alloc, &front, strips.as_slice(), grid.signs)
     }
 

@@ -79,12 +79,12 @@ fn named_choices(
     })
 }
 
-// Whether a command takes the columns that the settings name: one that shows a day, where neither the command line nor the
+// Whether a command takes the columns that the settings name: one that shows a day or draws a picture, where neither the command line nor the
 // environment names any.
 fn takes_columns(rt: &HostRuntime, matches: &ArgMatches<'_>) -> bool {
     match matches.subcommand() {
         None | Some(("config", _)) => names_no_columns(rt, matches, matches),
-        Some(("agenda", own)) => names_no_columns(rt, matches, own),
+        Some(("agenda" | "calendar", own)) => names_no_columns(rt, matches, own),
         Some(_) => false,
     }
 }

@@ -5,6 +5,7 @@
 mod counted;
 mod follow;
 mod session;
+mod shell;
 mod shown_config;
 mod view;
 mod views;

@@ -1,6 +1,7 @@
 //! One question, from the arguments to the exit status.
 
 use crate::follow::follow;
+use crate::shell::print_shell;
 use crate::view::print_view;
 use crate::views::print_views;
 use clap::ArgMatches;
@@ -27,6 +28,7 @@ pub fn run(rt: &HostRuntime, matches: &ArgMatches<'_>, on_terminal: bool) -> u8 
         Some(("follow", own)) => follow(rt, matches, own, on_terminal),
         Some(("view", own)) => print_view(rt, matches, own, &mut call),
         Some(("views", _)) => print_views(rt, matches, &call),
+        Some(("shell", own)) => print_shell(rt, matches, own),
         _ => answer_query(rt, matches, &mut call),
     };
     // The program ends: the system takes all memory back at once, which piece by piece would be a tenth of the run.

@@ -151,7 +151,9 @@ pub fn command<'a>(alloc: Global) -> Result<Command<'a>, AllocError> {
     let command = with_commands(alloc, program(alloc)?, clock)?;
     let command = command.subcommand(ical(alloc)?)?.subcommand(page(alloc)?)?;
     let command = command.subcommand(view(alloc)?)?.subcommand(views(alloc)?)?;
-    let command = command.subcommand(config(alloc)?)?;
+    let command = command
+        .subcommand(config(alloc)?)?
+        .subcommand(shell(alloc)?)?;
     with_acts(alloc, command.subcommand(follow(alloc)?)?)
 }
 
@@ -379,6 +381,14 @@ fn views<'a>(alloc: Global) -> Result<Command<'a>, AllocError> {
 
 fn config<'a>(alloc: Global) -> Result<Command<'a>, AllocError> {
     Ok(Command::new(alloc, "config").about("Which options count, and from where"))
+}
+
+fn shell<'a>(alloc: Global) -> Result<Command<'a>, AllocError> {
+    let name = word(alloc, "SHELL", "Its name: bash, fish or zsh");
+    let shell = Command::new(alloc, "shell").about(
+        "The lines for the start of a shell that hand its terminal's width on and set completions up",
+    );
+    shell.arg(name.required(true))
 }
 
 fn keywords<'a>(alloc: Global) -> Result<Command<'a>, AllocError> {

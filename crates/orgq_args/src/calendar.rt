@@ -60,11 +60,10 @@ fn day_typed(text: &str, today: Day) -> Result<Day, Problem> {
 // How wide a terminal is where nothing says it.
 const COLUMNS: u16 = 80;
 
-/// How many columns a picture has: those of `--columns`, else those that the environment names, else 80.
+/// How many columns a picture has: those of `--columns` behind the command or in front of it, else those that the environment names, else 80.
 pub fn columns_for<R: AllocGlobal + Env>(rt: &R, matches: &ArgMatches<'_>) -> Result<u16, Problem> {
     let named = match matches.subcommand() {
-        Some(("calendar", own)) => own.get_one::<u32>("columns"),
-        Some(("agenda", own)) => own
+        Some(("calendar" | "agenda", own)) => own
             .get_one::<u32>("columns")
             .or(matches.get_one::<u32>("columns")),
         _ => return Ok(COLUMNS),

@@ -22,11 +22,14 @@ pub struct DayOptions {
 const COLUMNS: u16 = 80;
 
 impl DayOptions {
-    /// Those of the arguments. In front of a command that shows no day such options are refused.
+    /// Those of the arguments. In front of a command that shows no day such options are refused; a calendar takes columns.
     pub fn read(matches: &ArgMatches<'_>) -> Result<DayOptions, Problem> {
         let background = named_background(matches)?;
         match matches.subcommand() {
             Some(("agenda", own)) => Ok(DayOptions::of(matches, own, background)),
+            Some(("calendar", _)) if !names_look_of_day(matches) => {
+                Ok(DayOptions::of(matches, matches, background))
+            }
             Some(_) if names_day_option(matches) => Err(Problem::DayOf),
             _ => Ok(DayOptions::of(matches, matches, background)),
         }
@@ -123,9 +126,13 @@ pub fn environment_lines<R: AllocGlobal + Env>(rt: &R) -> Result<Option<usize>, 
 
 /// Whether options of a day in sections stand among a command's own words.
 pub fn names_day_option(matches: &ArgMatches<'_>) -> bool {
+    names_look_of_day(matches) || matches.get_one::<u32>("columns").is_some()
+}
+
+// Whether such options but columns stand there.
+fn names_look_of_day(matches: &ArgMatches<'_>) -> bool {
     matches.get_flag("plain")
         || matches.get_flag("ascii")
-        || matches.get_one::<u32>("columns").is_some()
         || matches.get_one::<u32>("lines").is_some()
 }
 

@@ -4,10 +4,11 @@ use std::alloc::{AllocError, Global};
 use strsim::osa_distance;
 
 // The commands.
-const COMMANDS: [&str; 30] = [
+const COMMANDS: [&str; 31] = [
     "agenda", "calendar", "todo", "match", "search", "projects", "habits", "clock", "clocks",
     "log", "next", "ical", "page", "view", "views", "keywords", "tags", "check", "follow", "done",
     "set", "schedule", "deadline", "tag", "priority", "property", "note", "add", "undo", "config",
+    "shell",
 ];
 
 // How many bytes a word has at most that may be meant as a command.

@@ -143,6 +143,8 @@ pub enum Problem {
     Sort,
     /// An order names a key twice.
     SortTwice,
+    /// A shell isn't known.
+    Shell,
     /// The name is that of a property which no drawer gives.
     SpecialProperty,
     /// No variable of the environment says where histories of acts lie.
@@ -299,6 +301,9 @@ impl Problem {
             }
             Problem::Sort => NO_KEY,
             Problem::SortTwice => "--sort names each key once",
+            Problem::Shell => {
+                "shell prints the lines for the start of bash, fish or zsh: shell bash"
+            }
             Problem::SpecialProperty =>
                 "no drawer gives that property: Org reads it from other parts of the heading",
             Problem::State => {
