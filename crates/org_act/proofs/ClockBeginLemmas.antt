@@ -4,13 +4,13 @@ use Rattle.std.specs.Prelude.{Option, Some, None, Result, Ok, Err, if◌then◌e
 use Rattle.std.specs.List.{concat}
 use Rattle.std.proofs.lemmas.Bool.{cases_Bool, cond_both}
 use Rattle.std.proofs.lemmas.List.{take-append-drop}
-use Rattle.org_act.specs.ClockBegins.{ActsBeginOneClock, AreBegun, HasBegun, IsBreak, Runs, alone, drawer}
+use Rattle.org_act.specs.ClockBegins.{ActsBeginOneClock, AreBegun, HasBegun, IsBreak, alone, drawer}
 use Rattle.org_act.specs.ClockSections.{span_at}
 use Rattle.org_act.specs.Clocking.{begun_at, is_ended, step_part, with_part}
 use Rattle.org_act.specs.declared.act.Refusal.{Refusal}
 use Rattle.org_act.specs.declared.clock_act.ClockStep.TheVariants.{In}
 use Rattle.org_act.proofs.ClockTextLemmas.{IsDone, IsThere, is_done, is_there, part_made}
-use Rattle.org_amend.specs.Begun.{clock_drawer, clock_line, clock_text, drawer_behind, has_return, line_break}
+use Rattle.org_amend.specs.Begun.{clock_drawer, clock_line, clock_text, has_return, line_break}
 use Rattle.org_amend.specs.Clocks.{moment_stamp, running_in}
 use Rattle.org_amend.specs.Laws.{EndsStamp}
 use Rattle.org_amend.specs.Places.{clock_place, front_end, front_in, is_front, is_logbook, logbook_in, place_at, place_of}

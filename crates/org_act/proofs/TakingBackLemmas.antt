@@ -1,16 +1,14 @@
 -- Taking an act back.
 use Rattle.std.proofs.Common.{◌≡◌, ◌≢◌, ◌∙◌, ◌+◌, ◌≤◌, ℕ, true, false, inl, inr, Bool, ◌&&◌, List, ◌++◌, append_assoc, arith, length, take, drop, refl, sym, ap, subst}
-use Rattle.std.specs.Prelude.{Result, Ok, Err, nat_eq, nat_le, bytes_eq, string_bytes, if◌then◌else◌}
+use Rattle.std.specs.Prelude.{Ok, Err, nat_eq, nat_le, bytes_eq, string_bytes}
 use Rattle.std.specs.List.{starts_with}
 use Rattle.std.proofs.lemmas.Bool.{cases_Bool, le-leb, leb-true}
 use Rattle.std.proofs.lemmas.Bool.Decides.{Decides-eqb}
 use Rattle.std.proofs.lemmas.List.{take_at, drop_at, drop-drop, length-append, length-drop, length-take, take-append-drop}
 use Rattle.std.proofs.lemmas.Slice.Eq.{bytes_eq-Decides, starts_is}
 use Rattle.org_act.specs.Changes.{LiesIn, with_change}
-use Rattle.org_act.specs.TakingBack.{ActsAreTakenBack, IsTakenBack, Made, goes_back, made, made_in, stands_at, taken_back, text_before}
-use Rattle.org_act.specs.declared.act.Refusal.{Refusal}
+use Rattle.org_act.specs.TakingBack.{ActsAreTakenBack, Made, goes_back, made, made_in, stands_at, text_before}
 use Rattle.org_act.specs.declared.act.Refusal.TheVariants as refusal
-use Rattle.org_act.specs.declared.taking_back.TakingBack.{TakingBack}
 use Rattle.org_store.specs.declared.change.OwnedChange.{OwnedChange}
 use Rattle.org_text.specs.Replace.{replace}
 

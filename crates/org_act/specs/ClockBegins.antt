@@ -6,7 +6,6 @@ use Rattle.org_act.specs.Clocking.{clocked_text}
 use Rattle.org_act.specs.declared.clock_act.ClockStep.TheVariants.{In}
 use Rattle.org_amend.specs.Clocks.{minute_at, running_in}
 use Rattle.org_amend.specs.Places.{is_logbook}
-use Rattle.org_base.specs.declared.span.Span.{Span}
 use Rattle.org_cal.specs.Days.{IsDay}
 use Rattle.org_cal.specs.declared.moment.Moment.{Moment}
 use Rattle.org_cal.specs.declared.time_of_day.TheConstants.{MINUTES_PER_DAY}

@@ -1,6 +1,6 @@
 -- Acts on the clock of a heading (Org manual 9.6, "Clocking Work Time"; where lines go and how they look: profile, as Org
 -- does it).
-use Rattle.std.specs.Prelude.{◌≡◌, ◌≢◌, ℕ, ◌+◌, ◌-◌, Bool, ◌&&◌, ◌==◌, not, nat_le, nat_lt, if◌then◌else◌, List, [], length, slice_index, string_bytes, Option, Some, None, Result, Ok, Err, IfOk}
+use Rattle.std.specs.Prelude.{◌≡◌, ◌≢◌, ℕ, ◌+◌, ◌-◌, Bool, ◌&&◌, ◌==◌, not, nat_le, nat_lt, if◌then◌else◌, List, [], length, slice_index, Option, Some, None, Result, Ok, Err, IfOk}
 use Rattle.org_act.specs.Changes.{LiesIn, no_memory}
 use Rattle.org_act.specs.Completing.{no_heading}
 use Rattle.org_act.specs.Laws.{answered}

@@ -1,9 +1,8 @@
 -- The first line of a text, and the lines behind it.
-use Rattle.std.proofs.Common.{◌≡◌, ◌∙◌, ℕ, suc, ◌+◌, ◌<◌, ◌≤◌, Bool, true, false, inl, inr, List, [], ◌∷◌, length, take, drop, get_or, ◌==◌, refl, sym, ap, arith, add-one, cond}
-use Rattle.std.specs.Prelude.{Option, Some, None, if◌then◌else◌, position, nat_lt}
+use Rattle.std.proofs.Common.{◌≡◌, ◌∙◌, ℕ, suc, ◌+◌, ◌≤◌, Bool, true, false, inl, inr, List, [], ◌∷◌, length, take, drop, get_or, ◌==◌, refl, sym, ap, arith, cond}
+use Rattle.std.specs.Prelude.{Option, Some, None, position, nat_lt}
 use Rattle.std.specs.List.{onto_first, position_or_len}
 use Rattle.std.proofs.lemmas.Bool.{cases_Bool, cases_lt, lt-ltb}
-use Rattle.std.proofs.lemmas.Bool.Decides.{nat_tests}
 use Rattle.std.proofs.lemmas.List.{take_all}
 use Rattle.org_lines.specs.Cuts.{lines}
 use Rattle.org_amend.specs.FoundDrawers.{first_of}

@@ -1,11 +1,10 @@
 -- A heading line with a change, as it is read.
-use Rattle.std.proofs.Common.{◌≡◌, ◌∙◌, ℕ, ◌+◌, ◌≤◌, ◌<◌, Bool, true, false, ◌==◌, ◌&&◌, not, inl, inr, List, [], ◌∷◌, length, map, refl, sym, ap, subst, arith}
+use Rattle.std.proofs.Common.{◌≡◌, ◌∙◌, ℕ, ◌≤◌, Bool, true, false, ◌==◌, ◌&&◌, inl, inr, List, length, refl, sym, ap, subst, arith}
 use Rattle.std.specs.Prelude.{Option, Some, None, Result, Ok, Err, if◌then◌else◌, nat_lt, bytes_eq}
-use Rattle.std.specs.Option.{option_map}
 use Rattle.std.proofs.lemmas.Bool.{and_parts, cases_Bool, eqb-true, ltb-true}
 use Rattle.std.proofs.lemmas.Slice.Eq.{bytes_eq-Decides}
 use Rattle.org_amend.specs.HeadChangeLaws.{HeadsAreChanged, IsChanged, SaysChanged}
-use Rattle.org_amend.specs.HeadChanges.{aligned_draft, blamed_of, changed_head, cookie_in, finished, head_draft, is_changed, keyword_by, or_blamed, priority_by, read_changed, same_answer, says_changed, says_words, wanted_keyword, wanted_priority}
+use Rattle.org_amend.specs.HeadChanges.{aligned_draft, blamed_of, changed_head, finished, head_draft, is_changed, or_blamed, read_changed, same_answer, says_changed, says_words, wanted_keyword, wanted_priority}
 use Rattle.org_amend.specs.Heads.{same_cookie, same_part, same_parts}
 use Rattle.org_amend.specs.Planning.{ends_like, text_if}
 use Rattle.org_amend.specs.WantedTags.{parts_in, tags_by}

@@ -1,14 +1,14 @@
 -- The node lines of a property drawer that is changed.
-use Rattle.std.proofs.Common.{◌≡◌, ◌∙◌, ℕ, ◌+◌, ◌≤◌, Bool, true, false, not, ◌&&◌, inl, inr, List, [], ◌∷◌, ◌++◌, length, drop, slice_get, refl, sym, ap, append_assoc, append-nil, cond}
+use Rattle.std.proofs.Common.{◌≡◌, ◌∙◌, ℕ, ◌+◌, ◌≤◌, Bool, true, false, not, ◌&&◌, inl, inr, List, [], ◌∷◌, ◌++◌, length, drop, slice_get, refl, sym, ap, append_assoc, append-nil}
 use Rattle.std.specs.Prelude.{◌||◌, Option, Some, None, if◌then◌else◌}
 use Rattle.std.specs.List.{concat, filter, list_all, list_any}
 use Rattle.std.specs.Option.{option_map}
 use Rattle.std.proofs.lemmas.Bool.{and_parts, cases_Bool}
 use Rattle.std.proofs.lemmas.List.{drop_all}
-use Rattle.org_amend.specs.PropertyChanges.{all_give, behind_opening, changed_from, drawer_at, gives, gives_value, is_given, nodes_from, says_once, unless_put}
+use Rattle.org_amend.specs.PropertyChanges.{all_give, behind_opening, changed_from, gives, gives_value, is_given, nodes_from, says_once, unless_put}
 use Rattle.org_amend.specs.PropertyLaws.{given_by, others_of}
 use Rattle.org_amend.proofs.TagLemmas.{cut_at}
-use Rattle.org_class.specs.Drawers.{is_drawer_end, is_drawer_open}
+use Rattle.org_class.specs.Drawers.{is_drawer_end}
 use Rattle.org_drawer.specs.Node.{is_node}
 
 -- lines that are passed through one by one

@@ -1,5 +1,5 @@
 -- The property drawer under a heading that is changed.
-use Rattle.std.proofs.Common.{◌≡◌, ◌⊎◌, ◌∙◌, ℕ, ◌+◌, ◌≤◌, Bool, true, false, not, ◌&&◌, ◌==◌, inl, inr, List, [], ◌∷◌, ◌++◌, length, map, take, drop, get_or, refl, sym, ap, subst, append_assoc, append-nil}
+use Rattle.std.proofs.Common.{◌≡◌, ◌∙◌, ℕ, Bool, true, false, not, ◌&&◌, ◌==◌, inl, inr, List, [], ◌∷◌, ◌++◌, length, map, take, drop, get_or, refl, sym, ap, append_assoc, append-nil}
 use Rattle.std.specs.Prelude.{Option, Some, None, if◌then◌else◌, codes, bytes_eq}
 use Rattle.std.specs.List.{concat, list_all, list_any}
 use Rattle.std.specs.Char.{to_ascii_lowercase}
@@ -7,18 +7,18 @@ use Rattle.std.specs.Option.{option_map}
 use Rattle.std.specs.Str.{is_utf8}
 use Rattle.std.proofs.lemmas.Bool.{and_parts, cases_Bool}
 use Rattle.std.proofs.lemmas.Slice.Eq.{bytes_eq-Decides}
-use Rattle.org_amend.specs.DrawerPuts.{Put, changed_by, changed_drawer, changed_found, ended_drawer, is_line, made_drawer, may_go, put_text, unended_drawer, value_by, with_node, with_property, without_property}
+use Rattle.org_amend.specs.DrawerPuts.{Put, changed_by, changed_drawer, changed_found, ended_drawer, is_line, made_drawer, may_go, put_text, unended_drawer, value_by, with_node}
 use Rattle.org_amend.specs.Planning.{ends_like}
 use Rattle.org_amend.specs.PropertyChanges.{all_give, behind_opening, changed_nodes, drawer_at, drawer_of, gives, gives_value, is_node_of, node_line, node_of, nodes_from, says_once}
-use Rattle.org_amend.specs.PropertyLaws.{IsBreak, IsDrawer, IsGapOrNone, IsGiven, PropertiesAreGiven, SaysAlone, given_by, others_of}
+use Rattle.org_amend.specs.PropertyLaws.{IsBreak, IsDrawer, IsGapOrNone, IsGiven, PropertiesAreGiven, SaysAlone}
 use Rattle.org_amend.specs.declared.property_change.PropertyChange.{PropertyChange}
-use Rattle.org_amend.proofs.NodeLemmas.{Alone, Nodes, concat_put, from_map, all_any, all_gone, any_all, listed, listed_all, listed_bytes, listed_given, listed_others, nodes_there, said_alone}
+use Rattle.org_amend.proofs.NodeLemmas.{Alone, concat_put, from_map, all_any, all_gone, any_all, listed, listed_all, listed_bytes, listed_given, listed_others, nodes_there, said_alone}
 use Rattle.org_base.specs.Words.{same_word}
 use Rattle.org_class.specs.Drawers.{is_drawer_end, is_drawer_open}
 use Rattle.org_drawer.specs.Node.{is_node}
 use Rattle.org_lines.specs.Cuts.{lines}
 use Rattle.org_lines.proofs.LineLemmas.{concat-lines}
-use Rattle.org_stamp.proofs.SpacedLemmas.{drop_front, take_front}
+use Rattle.org_stamp.proofs.SpacedLemmas.{take_front}
 
 -- a put that is text
 

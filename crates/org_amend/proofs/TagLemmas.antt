@@ -1,6 +1,6 @@
 -- Tags that are passed through one by one.
 use Rattle.std.proofs.Common.{◌≡◌, ◌∙◌, ℕ, zero, suc, ◌+◌, ◌≤◌, Bool, true, false, inl, inr, List, [], ◌∷◌, ◌++◌, length, drop, slice_get, add-one, append_assoc, append-nil, refl, sym, ap, map, true≢false}
-use Rattle.std.specs.Prelude.{◌||◌, not, if◌then◌else◌, Some, bytes_eq, codes, IsTrue, ◌↔◌}
+use Rattle.std.specs.Prelude.{not, Some, bytes_eq, codes, IsTrue, ◌↔◌}
 use Rattle.std.proofs.lemmas.List.{drop_all}
 use Rattle.std.proofs.lemmas.Bool.{cases_Bool}
 use Rattle.std.proofs.lemmas.Slice.Eq.{bytes_eq-Decides}

@@ -1,5 +1,5 @@
 -- Laws of a heading line that is changed (Org Syntax, "Headings").
-use Rattle.std.specs.Prelude.{◌≡◌, ℕ, true, List, map, Option, Ok}
+use Rattle.std.specs.Prelude.{◌≡◌, ℕ, true, List, Ok}
 use Rattle.std.specs.Option.{option_map}
 use Rattle.org_amend.specs.HeadChanges.{changed_head, cookie_in, keyword_by, priority_by}
 use Rattle.org_amend.specs.Planning.{ends_like}

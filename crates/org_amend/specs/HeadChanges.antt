@@ -2,9 +2,9 @@
 -- "Priorities"; where each part goes: profile, as Org writes it). What is written is read back: a line that would say something
 -- else is none.
 -- Characters by their codes: 9 tab, 32 space.
-use Rattle.std.specs.Prelude.{ℕ, ◌+◌, Bool, true, false, ◌&&◌, ◌||◌, not, ◌==◌, nat_lt, if◌then◌else◌, List, [], ◌∷◌, ◌++◌, length, take, drop, replicate, slice_index, Option, Some, None, is_some, Result, Ok, Err, bytes_eq, codes}
+use Rattle.std.specs.Prelude.{ℕ, ◌+◌, Bool, true, false, ◌&&◌, ◌||◌, not, ◌==◌, nat_lt, if◌then◌else◌, List, ◌++◌, length, take, drop, replicate, slice_index, Option, Some, None, is_some, Result, Ok, Err, bytes_eq, codes}
 use Rattle.std.specs.List.{prefix_len}
-use Rattle.std.specs.Option.{option_copied, option_map}
+use Rattle.std.specs.Option.{option_map}
 use Rattle.org_amend.specs.Heads.{all_tags_text, blamed, has_tags, same_cookie, same_part, same_parts}
 use Rattle.org_amend.specs.Planning.{ends_like, text_if}
 use Rattle.org_amend.specs.TagsColumn.{spaces_before}

@@ -2,11 +2,10 @@
 use Rattle.std.specs.Prelude.{◌≡◌, Some, None, true, false, codes}
 use Rattle.org_log.specs.Decisions.{decide}
 use Rattle.org_log.specs.Marks.{marks_of, no_marks}
-use Rattle.org_log.specs.declared.decision.Decision.{Decision}
-use Rattle.org_log.specs.declared.decision.LineKind.TheVariants.{Closing, Nothing, Reopened, Repeated, State}
+use Rattle.org_log.specs.declared.decision.LineKind.TheVariants.{Closing, Nothing, Repeated, State}
 use Rattle.org_log.specs.declared.decision.Step.{Step}
 use Rattle.org_log.specs.declared.decision.Wanted.{Wanted}
-use Rattle.org_log.specs.declared.entry.Repeats.TheVariants.{Always, Not, WithClock}
+use Rattle.org_log.specs.declared.entry.Repeats.TheVariants.{Always, Not}
 use Rattle.org_log.specs.declared.how.How.TheVariants.{Note, Time}
 
 -- an open heading is done

@@ -1,5 +1,5 @@
 -- Which lane a bar takes: the first one that is free on its days.
-use Rattle.std.specs.Prelude.{◌≡◌, ℕ, ◌+◌, if◌then◌else◌, nat_le, nat_lt, List, [], ◌∷◌, ◌++◌, length, slice_set}
+use Rattle.std.specs.Prelude.{ℕ, ◌+◌, if◌then◌else◌, nat_le, nat_lt, List, [], ◌∷◌, ◌++◌, length, slice_set}
 use Rattle.org_look.specs.declared.span.Span.{Span}
 
 -- lanes are told by their first free days; the place of the first one that is free from a day on, their number where none is

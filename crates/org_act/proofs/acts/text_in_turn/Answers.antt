@@ -1,5 +1,5 @@
 -- What is refused on a line is refused on all.
-use Rattle.std.proofs.Common.{◌≡◌, ◌∙◌, ap, drop, drop-cons, get_or, suc, sym}
+use Rattle.std.proofs.Common.{◌∙◌, ap, drop, drop-cons, get_or, suc, sym}
 use Rattle.std.specs.Prelude.{string_bytes}
 use Rattle.org_act.specs.Several.{amended_in_turn, if_text, on_text}
 use Rattle.org_act.proofs.acts.text_in_turn.Goals as goal

@@ -1,4 +1,4 @@
-use Rattle.std.proofs.Common.{◌≡◌, ◌∙◌, sym}
+use Rattle.std.proofs.Common.{◌∙◌, sym}
 use Rattle.org_act.specs.TakingBack.{made}
 use Rattle.org_act.proofs.TakingBackLemmas.{goes_if, goes_not}
 use Rattle.org_act.proofs.taking_back.goes_back.Goals as goal

@@ -1,4 +1,4 @@
-use Rattle.std.proofs.Common.{◌∙◌, ◌≡◌, ◌≤◌, ◌+◌, List, ℕ, [], ◌∷◌, ◌++◌, length, sym, ap}
+use Rattle.std.proofs.Common.{◌∙◌, ◌≡◌, [], ◌∷◌, ◌++◌, sym, ap}
 use Rattle.org_amend.proofs.FoundLemmas.{end_found, first_goes, first_long, from_place, longer, node_goes, none_found, stays_within}
 use Rattle.org_amend.proofs.found_drawer.drawer_in.Goals as goal
 

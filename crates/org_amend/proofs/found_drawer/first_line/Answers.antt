@@ -1,4 +1,4 @@
-use Rattle.std.proofs.Common.{◌∙◌, sym}
+use Rattle.std.proofs.Common.{sym}
 use Rattle.org_amend.proofs.FirstLineLemmas.{first_to, first_whole}
 use Rattle.org_amend.proofs.found_drawer.first_line.Goals as goal
 

@@ -1,4 +1,4 @@
-use Rattle.std.proofs.Common.{◌≡◌, ◌∙◌, ℕ, List, Ok, length, sym, ap}
+use Rattle.std.proofs.Common.{◌∙◌, ℕ, List, Ok, length, sym, ap}
 use Rattle.org_act.specs.TakingBack.{made}
 use Rattle.org_act.proofs.TakingBackLemmas.{goes_within, text_goes, text_stays}
 use Rattle.org_text.specs.Replace.{replace}
