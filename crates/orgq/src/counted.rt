@@ -54,29 +54,42 @@ fn with_settings(
     }
 }
 
-// Which options are named by the command line, or by the environment, which names files.
+// Which options are named by the command line, or by the environment, which names files and columns.
 fn named_choices(
     rt: &HostRuntime,
     matches: &ArgMatches<'_>,
     config: &Config,
 ) -> Result<NamedChoices, Problem> {
     let is_named = names_file(matches) || value_of(rt, Variable::Files)?.is_some();
-    Ok(NamedChoices {
-        background: matches.get_str("background").is_some(),
-        columns: !takes_columns(rt, matches),
-        color: matches.get_str("color").is_some(),
-        file: is_named || !takes_files(rt, matches, config),
-        inbox: matches.get_str("inbox").is_some(),
+    let mut named = named_words(matches);
+    named.columns = !takes_columns(rt, matches);
+    named.file = is_named || !takes_files(rt, matches, config);
+    Ok(named)
+}
+
+// Which options the command line names, but for columns and files.
+fn named_words(matches: &ArgMatches<'_>) -> NamedChoices {
+    NamedChoices {
+        background: names(matches, "background"),
+        columns: false,
+        color: names(matches, "color"),
+        file: false,
+        inbox: names(matches, "inbox"),
         inherit: matches.get_strs("inherit").is_some(),
-        keywords: matches.get_str("keywords").is_some(),
-        log_done: matches.get_str("log-done").is_some(),
-        log_into_drawer: matches.get_str("log-into-drawer").is_some(),
-        log_repeat: matches.get_str("log-repeat").is_some(),
-        next_action: matches.get_str("next-action").is_some(),
+        keywords: names(matches, "keywords"),
+        log_done: names(matches, "log-done"),
+        log_into_drawer: names(matches, "log-into-drawer"),
+        log_repeat: names(matches, "log-repeat"),
+        next_action: names(matches, "next-action"),
         profile: matches.get_one::<u32>("profile").is_some(),
-        project: matches.get_str("project").is_some(),
-        words: matches.get_str("words").is_some(),
-    })
+        project: names(matches, "project"),
+        words: names(matches, "words"),
+    }
+}
+
+// Whether an option with a word stands among the arguments.
+fn names(matches: &ArgMatches<'_>, option: &str) -> bool {
+    matches.get_str(option).is_some()
 }
 
 // Whether a command takes the columns that the settings name: one that shows a day or draws a picture, where neither the command line nor the
