@@ -131,7 +131,11 @@ pub(crate) fn label_of(
         return Ok(label);
     };
     push_start(&mut label, row, wording.time)?;
-    push_sign(&mut label, sign_of(row.kind, heading.is_done(), wording.signs), wording.is_tight)?;
+    push_sign(
+        &mut label,
+        sign_of(row.kind, heading.is_done(), wording.signs),
+        wording.is_tight,
+    )?;
     if wording.has_keyword {
         push_word(&mut label, heading.keyword())?;
     }
