@@ -25,7 +25,7 @@ LABELS = {
     "unchanged", "untouched", "refused", "returned", "uncounted",  # what a call leaves as it was, or refuses
     "ordered", "bounded", "covered", "spread", "joined", "cut",  # how a list lies
     "changed", "left", "taken", "gone", "lent", "found", "known", "seen", "counted", "said", "built",  # what a step has done
-    "dated", "headed", "tagged", "hidden", "met",  # what an entry or a table has
+    "dated", "headed", "tagged", "unmarked", "hidden", "met",  # what an entry, a section or a table has, or has not
     "flushed", "unflushed", "stopped", "failed", "spoken", "done", "folded",  # in which state a device, a run or a name is
 }
 

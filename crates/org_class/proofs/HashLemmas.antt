@@ -18,7 +18,7 @@ or_none true b e = absurd (true≢false e)
 or_none false b e = (refl, e)
 
 -- nor in what is left of bytes without one
-none_dropped : (n : ℕ) (xs : List ℕ) → has_mark xs ≡ false → has_mark (drop n xs) ≡ false
+pub none_dropped : (n : ℕ) (xs : List ℕ) → has_mark xs ≡ false → has_mark (drop n xs) ≡ false
 none_dropped zero xs e = e
 none_dropped (suc n) [] e = refl
 none_dropped (suc n) (x ∷ xs) e = none_dropped n xs (or_none ((x == 35) && completes_mark xs) (has_mark xs) e).1
@@ -76,7 +76,7 @@ pub before_end : (a b : ℕ) → a ≤ b → (a ≡ b → ⊥) → a < b
 before_end a b most other = elim (cases_lt a b) [ inl lt ↦ lt | inr past ↦ absurd (other (omega (arith, past, most))) ]
 
 -- lines without one
-abbrev HaveNone : List (List ℕ) → Type 0
+abbrev pub HaveNone : List (List ℕ) → Type 0
 HaveNone [] = Unit {0}
 HaveNone (l ∷ ls) = (has_mark l ≡ false) × HaveNone ls
 
@@ -103,7 +103,7 @@ onto_none b (l ∷ ls) e all = (rw e all.0, all.1)
 feed_is_none : (b : ℕ) → (b == 10) ≡ true → (b == 35) ≡ false
 feed_is_none b e = grind (arith, nat_tests)
 
-lines_none : (bs : List ℕ) → has_mark bs ≡ false → HaveNone (lines bs)
+pub lines_none : (bs : List ℕ) → has_mark bs ≡ false → HaveNone (lines bs)
 lines_none [] e = tt
 lines_none (b ∷ bs) e =
     let both = or_none ((b == 35) && completes_mark bs) (has_mark bs) e in
@@ -146,7 +146,7 @@ no_mark (suc n) (x ∷ t) e =
       | inr other ↦ let first = small_other x 35 (omega arith) other in rw first refl
     ]
 
-ends_none : (name l : List ℕ) → has_mark l ≡ false → ends_block name l ≡ false
+pub ends_none : (name l : List ℕ) → has_mark l ≡ false → ends_block name l ≡ false
 ends_none name l e =
     let mark : begins_with (trimmed l) (codes "#+END_") ≡ false = no_mark (length (trim_start l) - suffix_len is_gap (trim_start l)) (trim_start l) (none_dropped (prefix_len is_gap l) l e) in
     rw mark refl

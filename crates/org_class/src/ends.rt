@@ -69,7 +69,7 @@ impl EndPlaces {
         ensures value { IfOk result (λ places. AreLastEnds places (lines_in (T.content text.now) part)) }
         ensures memory { IsOkUnless result memory_fault }
     {
-        if !has_mark(text, part) {
+        if !part_has_mark(text, part) {
             return Ok(EndPlaces::new(alloc));
         }
         EndPlaces::note_lines(alloc, text, part)
@@ -100,7 +100,7 @@ impl EndPlaces {
 }
 
 // Whether `#+` stands in a part of the text, as it does where a block ends; or a piece that the text lends ends with `#`.
-fn has_mark<T: Text>(text: &T, part: Span) -> bool
+fn part_has_mark<T: Text>(text: &T, part: Span) -> bool
     requires within { part.at + part.len ≤ length (T.content text.now) }
     ensures none { result ≡ false → has_mark (bytes_in (T.content text.now) part) ≡ false }
 {
@@ -111,7 +111,7 @@ fn has_mark<T: Text>(text: &T, part: Span) -> bool
     while here < end {
         let piece = text.piece_at(here);
         let piece = &piece[..piece.len().min(end - here)];
-        if is_marked(piece) {
+        if has_mark(piece) {
             return true;
         }
         here += piece.len();
@@ -119,8 +119,9 @@ fn has_mark<T: Text>(text: &T, part: Span) -> bool
     false
 }
 
-// Whether `#+` stands in the bytes, or `#` at their end.
-fn is_marked(bytes: &[u8]) -> bool
+// Whether `#+` stands in the bytes, or `#` at their end. Where neither does, they have no setting line, and no line that
+// begins or ends a block.
+pub(crate) fn has_mark(bytes: &[u8]) -> bool
     ensures value { result ≡ has_mark bytes.now }
 {
     let mut here = 0;

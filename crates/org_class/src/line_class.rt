@@ -59,8 +59,8 @@ fn is_setting(line: &[u8]) -> bool
     is_setting_word(first_word(line))
 }
 
-// The class of a line that belongs to no heading, drawer or block. Most lines are plain by their first byte.
-pub(crate) fn line_class(line: &[u8]) -> Class
+/// The class of a line that belongs to no heading, drawer or block. Most lines are plain by their first byte.
+pub fn class_of_line(line: &[u8]) -> Class
     ensures value { result ≡ line_class line.now }
 {
     let first = first_byte(line);

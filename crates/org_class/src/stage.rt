@@ -11,7 +11,7 @@ use crate::blocks::{block_name, ends_block};
 use crate::class::Class;
 use crate::drawers::{is_drawer_end, is_drawer_open};
 use crate::heading::begins_heading;
-use crate::line_class::{is_comment, line_class};
+use crate::line_class::{class_of_line, is_comment};
 use org_base::words::is_blank;
 use org_base::{Bytes, Fault};
 use org_stamp::is_planning;
@@ -94,7 +94,7 @@ impl Stage {
     {
         if is_leading(line) {
             *self = Stage::Front;
-            Ok(line_class(line))
+            Ok(class_of_line(line))
         } else {
             self.below(alloc, line, ahead)
         }
@@ -160,7 +160,7 @@ impl Stage {
             Ok(Class::BlockOpen)
         } else {
             *self = Stage::Body;
-            Ok(line_class(line))
+            Ok(class_of_line(line))
         }
     }
 }

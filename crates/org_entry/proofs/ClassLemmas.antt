@@ -1,10 +1,9 @@
 -- Each line of a section has a class, which it fits.
-use Rattle.std.proofs.Common.{◌≡◌, ℕ, suc, ◌&&◌, Bool, true, false, Some, None, Option, List, [], ◌∷◌, length, refl, ap, inl, inr}
+use Rattle.std.proofs.Common.{◌≡◌, ℕ, ◌&&◌, Bool, true, false, Some, None, Option, List, [], ◌∷◌, refl, inl, inr}
 use Rattle.std.proofs.lemmas.Bool.{cases_Bool, and_parts}
 use Rattle.org_class.specs.Blocks.{body_classes, block_name, opens_block, ends_block}
-use Rattle.org_class.specs.Classes.{classes, classes_under_heading, front_classes, is_leading}
+use Rattle.org_class.specs.Classes.{classes_under_heading, front_classes, is_leading}
 use Rattle.org_class.specs.Drawers.{classes_below, drawer_classes, closes_drawer, is_drawer_end, is_drawer_open}
-use Rattle.org_class.specs.Heading.{begins_heading}
 use Rattle.org_class.specs.LineClass.{is_comment, is_setting, line_class}
 use Rattle.org_class.specs.declared.class.Class.{Class}
 use Rattle.org_class.specs.declared.class.Class.TheVariants.{Heading, Planning, Node, Clock}
@@ -75,18 +74,4 @@ fit-front [] = tt
 fit-front (l ∷ ls) = elim (cases_Bool (is_leading l)) [
   | inl e ↦ rw e (fits-line l, fit-front ls)
   | inr e ↦ rw e (fit-below (l ∷ ls))
-]
-
-length-fit : (ls : List (List ℕ)) (cs : List Class) → AllFit ls cs → length cs ≡ length ls
-length-fit [] [] h = refl
-length-fit [] (c ∷ cs) h = absurd h
-length-fit (l ∷ ls) [] h = absurd h
-length-fit (l ∷ ls) (c ∷ cs) h = ap suc (length-fit ls cs h.1)
-
--- there are as many classes as lines
-pub length-classes : (ls : List (List ℕ)) → length (classes ls) ≡ length ls
-length-classes [] = refl
-length-classes (l ∷ ls) = elim (cases_Bool (begins_heading l)) [
-  | inl e ↦ rw e (ap suc (length-fit ls (classes_under_heading ls) (fit-under ls)))
-  | inr e ↦ rw e (length-fit (l ∷ ls) (front_classes (l ∷ ls)) (fit-front (l ∷ ls)))
 ]

@@ -12,7 +12,7 @@ use Rattle.org_drawer.proofs.DrawerLemmas.{line_in_front}
 use Rattle.org_entry.specs.Draft.{EntrySoFar, drawer_after, nothing_said, with_line, with_lines, into_entry}
 use Rattle.org_entry.specs.Entry.{PlacedLine, text_of, nodes_of, clocks_of, stamps_of, placed, entry_of_lines}
 use Rattle.org_entry.proofs.EntryWords.{head_from}
-use Rattle.org_entry.proofs.ClassLemmas.{length-classes}
+use Rattle.org_class.proofs.UnmarkedLemmas.{classes_counted}
 use Rattle.org_lines.specs.Cuts.{Cut, lines}
 
 -- what a line gives to the drawer, and then those after it
@@ -78,7 +78,7 @@ text_behind settings so_far new at c line known made =
 -- at first as many lines are left as there are classes
 pub classes_left : (section : List ℕ) (cs : List Class) (left : List Cut) → map (λ c. c.bytes) left ≡ lines section → cs ≡ section_classes section → 0 + length left ≡ length cs
 classes_left section cs left are all =
-    omega (arith, length-map left (λ (c : Cut). c.bytes), ap length are, ap length all, length-classes (lines section))
+    omega (arith, length-map left (λ (c : Cut). c.bytes), ap length are, ap length all, classes_counted section)
 
 -- and as many bytes as the section has
 pub bytes_left : (section : List ℕ) (n : ℕ) (left : List Cut) → concat (map (λ c. c.bytes) left) ≡ section → length section ≡ n → 0 + length (concat (map (λ (c : Cut). c.bytes) left)) ≡ n

@@ -1,4 +1,3 @@
-pub mod AloneLemmas
 pub mod ClassLemmas
 pub mod DetailLemmas
 pub mod DraftLemmas
@@ -10,6 +9,8 @@ pub mod ReadLemmas
 pub mod QuietLemmas
 pub mod ActiveLemmas
 pub mod CutLemmas
+pub mod CutByLemmas
+pub mod UnmarkedLemmas
 pub mod RiseLemmas
 pub mod ActiveWords
 pub mod EntryWords

@@ -34,7 +34,7 @@ pub unclosed : (bytes : List ℕ) (found : Option ℕ) → IsFirstByte (is_byte2
 unclosed bytes None h none = none_closes bytes (omega (arith, none_is bytes h))
 unclosed bytes (Some i) h none = absurd cc
 
-none_before : (bytes : List ℕ) → list_any is_close bytes ≡ false → length bytes ≤ position_or_len is_close bytes
+pub none_before : (bytes : List ℕ) → list_any is_close bytes ≡ false → length bytes ≤ position_or_len is_close bytes
 none_before [] h = omega arith
 none_before (b ∷ bytes) h =
     let both = or_none (is_close b) (list_any is_close bytes) h in
@@ -47,7 +47,7 @@ no_stamps : (at : ℕ) (line : List ℕ) → list_any is_close line ≡ false �
 no_stamps at line h = ap (flat_map (if_active at)) (none_unclosed line 0 (none_before line h))
 
 -- such a line says nothing
-quiet_line : (settings : FileSettings) (so_far : EntrySoFar) (at : ℕ) (c : Class) (line : List ℕ) → is_quiet c ≡ true → list_any is_close line ≡ false → with_line settings so_far (record { at = at; class = c; bytes = line }) ≡ so_far
+pub quiet_line : (settings : FileSettings) (so_far : EntrySoFar) (at : ℕ) (c : Class) (line : List ℕ) → is_quiet c ≡ true → list_any is_close line ≡ false → with_line settings so_far (record { at = at; class = c; bytes = line }) ≡ so_far
 quiet_line settings so_far at class.Heading line quiet none = absurd cc
 quiet_line settings so_far at class.Planning line quiet none = absurd cc
 quiet_line settings so_far at class.Node line quiet none = absurd cc

@@ -80,10 +80,6 @@ into_entry so_far = record {
   details = record { drawer = so_far.drawer; stamps = so_far.stamps; clocks = so_far.clocks };
 }
 
--- the entry of a section that is its heading line alone
-abbrev pub heading_alone : FileSettings → List ℕ → Entry
-heading_alone settings line = into_entry (with_line settings nothing_said (line_at 0 Heading line))
-
 -- a bracket closes from a place of a text on
 abbrev pub has_close : ℕ → List ℕ → Bool
 has_close at text = list_any is_close (drop at text)

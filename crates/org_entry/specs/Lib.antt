@@ -1,10 +1,10 @@
 pub mod Entry
 pub mod Planning
 pub mod Details
-pub mod Alone
 pub mod Draft
 pub mod Examples
 pub mod Laws
 pub mod Keyword
 pub mod Active
 pub mod Context
+pub mod Unmarked

@@ -7,9 +7,8 @@
 //!
 //! ```
 //! let mut meter = Meter::new();
-//! let classes = classify(alloc, &mut meter, text, span)?;
 //! let context = ReadContext { text, settings };
-//! read_entry(alloc, &mut meter, &context, span, classes.as_slice())
+//! read_entry(alloc, &mut meter, &context, span)
 //! // ..
 //! for stamp in entry.details.stamps() {
 //!     out.push(stamp.at)?;
@@ -20,9 +19,10 @@
 #![tactic(auto)]
 
 mod active;
-mod alone;
+mod cut;
 mod details;
 mod draft;
+mod drawer;
 mod entry;
 mod keyword;
 pub mod laws;
@@ -33,6 +33,7 @@ mod read;
 mod read_context;
 mod stamps;
 mod text;
+mod unmarked;
 
 pub use active::{EntryStamp, Role, write_active, write_under};
 pub use details::Details;

@@ -2,7 +2,7 @@
 
 use org_base::{Bytes, Code, Fault, Meter, Span, Texts};
 use org_cal::Moment;
-use org_class::{classify, read_settings};
+use org_class::read_settings;
 use org_entry::{Entry, ReadContext, read_entry};
 use org_inherit::{Inherit, Inherits};
 use org_match::{Facts, Match};
@@ -23,12 +23,11 @@ fn entry_of<T: Text>(alloc: Global, text: &T) -> Result<Entry, Fault> {
         at: 0,
         len: text.len() as u32,
     };
-    let classes = classify(alloc, &mut Meter::new(), text, span)?;
     let context = ReadContext {
         text,
         settings: &settings,
     };
-    read_entry(alloc, &mut Meter::new(), &context, span, classes.as_slice())
+    read_entry(alloc, &mut Meter::new(), &context, span)
 }
 
 fn section_entry(alloc: Global) -> Result<Entry, Fault> {

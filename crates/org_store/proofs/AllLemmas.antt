@@ -9,11 +9,10 @@ use Rattle.org_base.specs.Counts.{Counts, ticked}
 use Rattle.org_base.specs.Spans.{bytes_in}
 use Rattle.org_base.specs.declared.meter.Tick.TheVariants.{Read}
 use Rattle.org_class.specs.Changes.{start_of}
-use Rattle.org_class.specs.Classes.{section_classes}
 use Rattle.org_class.specs.Sections.{sections}
 use Rattle.org_store.specs.Counts.{SomeRead, have_read}
-use Rattle.org_store.specs.File.{AreOf, Says, pending_one, read_section}
-use Rattle.org_store.specs.Sections.{SectionView, is_pending}
+use Rattle.org_store.specs.File.{AreOf, Says, bare, pending_one, read_section}
+use Rattle.org_store.specs.Sections.{SectionView, fresh_section, is_pending}
 use Rattle.org_store.proofs.KeptLemmas.{count_of, kept_there, stands_at, zip_get}
 use Rattle.org_settings.specs.Settings.{FileSettings}
 
@@ -72,11 +71,8 @@ module _ (t : List ℕ) (list : List SectionView) (settings : FileSettings) (n :
   pub bytes : bytes_in t (record { at = at; len = len }) ≡ here
   bytes = (λ i. slice_range t (place i) (place i + length_is i)) ∙ (stands_at t n inside).is
 
-  pub kept_len : k.len ≡ length (bytes_in t (record { at = at; len = len }))
-  kept_len = ap (λ (x : SectionView). x.len) (kept_there t list n k kept next.within next.is) ∙ ap length (sym bytes)
-
-  pub kept_classes : k.classes ≡ section_classes (bytes_in t (record { at = at; len = len }))
-  kept_classes = ap (λ (x : SectionView). x.classes) (kept_there t list n k kept next.within next.is) ∙ ap section_classes (sym bytes)
+  pub kept_bare : bare k ≡ fresh_section (bytes_in t (record { at = at; len = len }))
+  kept_bare = kept_there t list n k kept next.within next.is ∙ ap fresh_section (sym bytes)
 
   pub kept_says : Says settings (bytes_in t (record { at = at; len = len })) k
   kept_says =

@@ -4,7 +4,6 @@ use Rattle.std.specs.List.{flat_map, sum_by}
 use Rattle.std.proofs.lemmas.List.{take_all}
 use Rattle.std.proofs.lemmas.List.Sums.{sum_by-cons}
 use Rattle.org_class.specs.Sections.{sections}
-use Rattle.org_entry.proofs.ClassLemmas.{length-classes}
 use Rattle.org_store.specs.Begun.{IsBegunBy, has_heading, lines_before}
 use Rattle.org_store.specs.File.{AreOf, bare}
 use Rattle.org_store.specs.Sections.{SectionView, fresh_section, line_count}
@@ -24,7 +23,7 @@ count_before (s ∷ ss) (x ∷ list) (suc k) e =
     let sum = sum_by-cons line_count x (take k list) in
     let here : line_count x ≡ line_count (fresh_section s) = ap line_count (head_is (bare x) (fresh_section s) (map bare list) (map fresh_section ss) e) in
     let rest = count_before ss list k (tail_is (bare x) (fresh_section s) (map bare list) (map fresh_section ss) e) in
-    omega (arith, sum, here, length-classes (lines s), rest, length-append (lines s) (flat_map lines (take k ss)))
+    omega (arith, sum, here, rest, length-append (lines s) (flat_map lines (take k ss)))
 
 pub lines_until : (t : List ℕ) (list : List SectionView) (k : ℕ) → AreOf t list → sum_by line_count (take k list) ≡ lines_before t k
 lines_until t list k e = count_before (sections t) list k e

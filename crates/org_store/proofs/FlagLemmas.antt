@@ -1,9 +1,9 @@
 -- The setting lines of sections, by those that have any.
 use Rattle.std.proofs.Common.{◌≡◌, ◌∙◌, ℕ, zero, suc, ◌+◌, ◌≤◌, false, List, [], ◌∷◌, ◌++◌, map, take, drop, get_or, refl, sym, ap, arith, inl, inr}
-use Rattle.std.specs.List.{flat_map, list_any, position_or_len}
+use Rattle.std.specs.List.{flat_map, position_or_len}
 use Rattle.std.proofs.lemmas.Bool.{cases_Bool}
 use Rattle.std.proofs.lemmas.List.{drop-map}
-use Rattle.org_class.specs.Classes.{is_setting_class, section_classes, section_settings}
+use Rattle.org_class.specs.Classes.{section_classes, section_settings}
 use Rattle.org_class.specs.Sections.{sections}
 use Rattle.org_class.proofs.SettingLemmas.{no_settings}
 use Rattle.org_store.specs.File.{AreOf, bare}
@@ -12,7 +12,7 @@ use Rattle.org_lines.specs.Cuts.{lines}
 
 -- one section without a setting line
 quiet_one : (s : List ℕ) (k : SectionView) → bare k ≡ fresh_section s → has_setting k ≡ false → section_settings s ≡ []
-quiet_one s k e none = no_settings (lines s) (section_classes s) (ap (λ (x : SectionView). list_any is_setting_class x.classes) (sym e) ∙ none)
+quiet_one s k e none = no_settings (lines s) (section_classes s) (ap has_setting (sym e) ∙ none)
 
 pub head_is : (x y : SectionView) (xs ys : List SectionView) → x ∷ xs ≡ y ∷ ys → x ≡ y
 head_is x y xs ys e = ap (λ zs. get_or zs 0 x) e

@@ -221,7 +221,7 @@ pub read_there : (t : List ℕ) (list : List SectionView) (i : ℕ) (k : Section
     record k { entry = Some (entry_of settings b) } ≡ read_section settings (get_or (sections t) i [])
 read_there t list i k settings b e lt is same =
     let there = kept_there t list i k e lt is in
-    λ j. record { len = (there j).len; classes = (there j).classes; entry = Some (entry_of settings (same j)) }
+    λ j. record { len = (there j).len; lines = (there j).lines; sets = (there j).sets; entry = Some (entry_of settings (same j)) }
 
 -- no section is longer than the text
 pub section_fits : (t : List ℕ) (list : List SectionView) (i : ℕ) → AreOf t list → i < length list → sum_by section_len list + length (get_or (sections t) i []) ≤ length t + length t

@@ -1,7 +1,9 @@
 -- Sections that are read one by one.
-use Rattle.std.proofs.Common.{◌≡◌, ◌∙◌, inl, inr, ℕ, zero, suc, ◌+◌, ◌-◌, ◌<◌, ◌≤◌, false, cond, List, [], ◌∷◌, ◌++◌, map, length, take, drop, refl, sym, ap, arith}
-use Rattle.std.specs.Prelude.{Option, None, Some, IfSome, Result, OnErr, is_none}
+use Rattle.std.proofs.Common.{◌≡◌, ◌∙◌, inl, inr, ℕ, zero, suc, ◌+◌, ◌-◌, ◌<◌, ◌≤◌, true, false, cond, List, [], ◌∷◌, ◌++◌, map, length, take, drop, refl, sym, ap, arith}
+use Rattle.std.specs.Prelude.{Option, None, Some, IfSome, Result, OnErr, is_none, is_some}
+use Rattle.std.specs.Borrow.{Bor}
 use Rattle.std.specs.List.{AllZip, count_by, position_or_len, splice}
+use Rattle.std.specs.Option.{option_copied}
 use Rattle.std.proofs.lemmas.Bool.{cases_Bool}
 use Rattle.std.proofs.lemmas.List.Sums.{sum_by-cons}
 use Rattle.org_base.specs.Counts.{Counts, ticked}
@@ -46,10 +48,19 @@ said_is None x says some = absurd cc
 said_is (Some y) x says some = ap (λ e. Some e) says
 
 -- a section that isn't pending was read
-was_said : (settings : FileSettings) (s : List ℕ) (k : SectionView) → bare k ≡ fresh_section s → Says settings s k → is_pending k ≡ false → k ≡ read_section settings s
+pub was_said : (settings : FileSettings) (s : List ℕ) (k : SectionView) → bare k ≡ fresh_section s → Says settings s k → is_pending k ≡ false → k ≡ read_section settings s
 was_said settings s k e says read =
     let entry = said_is k.entry (entry_of settings s) says read in
-    λ i. record { len = (e i).len; classes = (e i).classes; entry = entry i }
+    λ i. record { len = (e i).len; lines = (e i).lines; sets = (e i).sets; entry = entry i }
+
+-- an entry that is lent is kept
+pub is_lent : (r : Option (Bor Entry)) (o : Option Entry) → option_copied r ≡ o → is_some r ≡ true → is_none o ≡ false
+is_lent None o is some = absurd cc
+is_lent (Some e) o is some = ap is_none (sym is)
+
+-- a section with what it says is read
+pub now_said : (settings : FileSettings) (s : List ℕ) (k : SectionView) → bare k ≡ fresh_section s → record k { entry = Some (entry_of settings s) } ≡ read_section settings s
+now_said settings s k e = ap (λ (x : SectionView). record x { entry = Some (entry_of settings s) }) e
 
 -- where none is pending, all were
 none_left : (settings : FileSettings) (ss : List (List ℕ)) (list : List SectionView) → map bare list ≡ map fresh_section ss → AllZip (Says settings) ss list → count_by is_pending list ≡ 0 → list ≡ map (read_section settings) ss

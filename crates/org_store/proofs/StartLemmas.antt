@@ -1,10 +1,10 @@
 -- Where the sections of a text begin, and which of its lines are heading lines.
 use Rattle.std.proofs.Common.{◌≡◌, ◌≢◌, ℕ, zero, suc, ◌+◌, ◌-◌, ◌<◌, ◌≤◌, Bool, true, false, ◌&&◌, ◌==◌, inl, inr, List, [], ◌∷◌, ◌++◌, map, length, take, get_or, refl, sym, ap, ◌∙◌, arith, length-append, append-nil}
 use Rattle.std.specs.Prelude.{slice_get, nat_lt}
-use Rattle.std.specs.List.{concat, flat_map, onto_first}
+use Rattle.std.specs.List.{concat, flat_map}
 use Rattle.std.proofs.lemmas.Grind.{flat_map-append}
 use Rattle.std.proofs.lemmas.Bool.Decides.{nat_tests}
-use Rattle.std.proofs.lemmas.Bool.{and_parts, cases_Bool, eqb-true}
+use Rattle.std.proofs.lemmas.Bool.{and_parts, cases_Bool}
 use Rattle.std.proofs.lemmas.List.{take_all, take_more, length-map}
 use Rattle.std.proofs.lemmas.Option.{slice_get_past}
 use Rattle.org_lines.specs.Cuts.{lines}
@@ -13,6 +13,7 @@ use Rattle.org_class.specs.Heading.{begins_heading}
 use Rattle.org_class.specs.Sections.{ends_line, sections, is_cut, is_headed, runs}
 use Rattle.org_class.proofs.Cuts.{concat-sections}
 use Rattle.org_class.proofs.HeadingLemmas.{heading_front}
+use Rattle.org_class.proofs.LineLemmas.{lines_joined, some_lines}
 use Rattle.org_class.proofs.Runs.{sections_are_runs}
 use Rattle.org_store.specs.Begun.{has_heading, is_heading_line, lines_before, section_of}
 
@@ -54,27 +55,6 @@ are_cut [] = tt
 are_cut (b ∷ t) = extended ((b == 10) && begins_heading t) b (sections t) (ap (λ bs. (b == 10) && begins_heading bs) (concat-sections t)) (are_cut t)
 
 -- the lines of two texts that may be cut
-onto_append : (b : ℕ) (ls ms : List (List ℕ)) → ls ≢ [] → onto_first b (ls ++ ms) ≡ onto_first b ls ++ ms
-onto_append b [] ms n = absurd (n refl)
-onto_append b (l ∷ ls) ms n = refl
-
-onto_some : (b : ℕ) (ls : List (List ℕ)) → onto_first b ls ≢ []
-onto_some b [] e = cc
-onto_some b (l ∷ ls) e = cc
-
-some_lines : (b : ℕ) (bs : List ℕ) → lines (b ∷ bs) ≢ []
-some_lines b bs e = elim (cases_Bool (b == 10)) [
-  | inl f ↦ (let h : (b ∷ []) ∷ lines bs ≡ [] = rw f at e in cc)
-  | inr f ↦ (let h : onto_first b (lines bs) ≡ [] = rw f at e in onto_some b (lines bs) h)
-]
-
-lines_joined : (a b : List ℕ) (x : ℕ) → ends_line (x ∷ a) ≡ true → lines (x ∷ a ++ b) ≡ lines (x ∷ a) ++ lines b
-lines_joined [] b x h = rw (eqb-true x 10 h) refl
-lines_joined (y ∷ a) b x h = elim (cases_Bool (x == 10)) [
-  | inl e ↦ rw e (ap (λ ls. (x ∷ []) ∷ ls) (lines_joined a b y h))
-  | inr e ↦ rw e (ap (onto_first x) (lines_joined a b y h) ∙ onto_append x (lines (y ∷ a)) (lines b) (some_lines y a))
-]
-
 lines_cut : (a b : List ℕ) → is_cut a b ≡ true → lines (a ++ b) ≡ lines a ++ lines b
 lines_cut [] b h = refl
 lines_cut (x ∷ a) [] h = ap lines (append-nil (x ∷ a)) ∙ sym (append-nil (lines (x ∷ a)))

@@ -4,8 +4,12 @@ use Rattle.org_base.specs.declared.span.Span.{Span}
 use Rattle.org_entry.specs.Context.{part_of}
 use Rattle.org_entry.specs.declared.read_context.ReadContext.{ReadContext}
 use Rattle.org_store.specs.Begun.{section_of}
-use Rattle.org_store.specs.File.{Says, read_part, read_section, read_sections, with_read}
-use Rattle.org_store.specs.Sections.{SectionView}
+use Rattle.org_store.specs.File.{Says, bare, read_part, read_section, read_sections, with_read}
+use Rattle.org_store.specs.Sections.{SectionView, fresh_section}
+
+-- what is kept of a section, but for what it says, is of a part of the text
+abbrev pub IsOfPart : {T : Type 0} → (T → List ℕ) → ReadContext T → Span → SectionView → Type 0
+IsOfPart content context part kept = bare kept ≡ fresh_section (part_of content context part)
 
 -- what is kept of a section, if it was read, is what a part of the text says
 abbrev pub SaysPart : {T : Type 0} → (T → List ℕ) → ReadContext T → Span → SectionView → Type 0

@@ -4,7 +4,7 @@ use Rattle.std.specs.List.{AllZip, flat_map, splice, position_or_len}
 use Rattle.org_base.specs.Spans.{bytes_in}
 use Rattle.org_base.specs.declared.span.Span.{Span}
 use Rattle.org_class.specs.Changes.{first_touched, touched_end, new_sections}
-use Rattle.org_class.specs.Classes.{section_classes, section_settings}
+use Rattle.org_class.specs.Classes.{section_settings}
 use Rattle.org_class.specs.Sections.{sections}
 use Rattle.org_entry.specs.Entry.{entry_of}
 use Rattle.org_store.specs.Outline.{file_settings}
@@ -67,7 +67,7 @@ pub record IsChanged (old : FileView) (at del : ℕ) (ins : List ℕ) (serial : 
 
 -- a section without what it says
 abbrev pub bare : SectionView → SectionView
-bare s = record { len = s.len; classes = s.classes; entry = None }
+bare s = record s { entry = None }
 
 -- these are the sections of a text, read or not
 abbrev pub AreOf : List ℕ → List SectionView → Type 0
@@ -89,7 +89,7 @@ pub record IsKept (text : List ℕ) (list : List SectionView) (settings : FileSe
 
 -- a section that was read
 abbrev pub read_section : FileSettings → List ℕ → SectionView
-read_section settings s = record { len = length s; classes = section_classes s; entry = Some (entry_of settings s) }
+read_section settings s = record (fresh_section s) { entry = Some (entry_of settings s) }
 
 -- all sections of a text, read
 abbrev pub read_sections : FileSettings → List ℕ → List SectionView

@@ -1,15 +1,16 @@
 -- What is kept of a section (profile).
 use Rattle.std.specs.Prelude.{◌≡◌, ◌<◌, ◌≤◌, ℕ, Bool, List, [], ◌∷◌, ◌++◌, length, map, drop, Option, None, Some, IfSome, is_none, is_some, slice_set, ◌+◌, ◌-◌}
-use Rattle.std.specs.List.{list_any, position_or_len}
-use Rattle.org_class.specs.Classes.{section_classes, is_setting_class}
+use Rattle.std.specs.List.{position_or_len}
+use Rattle.org_class.specs.LineCounts.{line_counts}
 use Rattle.org_class.specs.Sections.{sections}
-use Rattle.org_class.specs.declared.class.Class.{Class}
+use Rattle.org_class.specs.declared.counts.LineCounts.{LineCounts}
 use Rattle.org_entry.specs.declared.entry.Entry.{Entry}
 
--- how long it is, the classes of its lines, and what it says, where it was read
+-- how long it is, how many lines it has, whether one of them is a setting line, and what it says, where it was read
 pub record SectionView : Type 0 where
   pub len : ℕ
-  pub classes : List Class
+  pub lines : ℕ
+  pub sets : Bool
   pub entry : Option Entry
 
 -- how long it is
@@ -18,7 +19,7 @@ section_len s = s.len
 
 -- how many lines it has
 abbrev pub line_count : SectionView → ℕ
-line_count s = length s.classes
+line_count s = s.lines
 
 -- it is still to be read
 abbrev pub is_pending : SectionView → Bool
@@ -30,23 +31,25 @@ is_read s = is_some s.entry
 
 -- one of its lines is a setting line
 abbrev pub has_setting : SectionView → Bool
-has_setting s = list_any is_setting_class s.classes
+has_setting s = s.sets
 
 -- the first section from one place up to another that has a setting line, or none where none has
 abbrev pub IsFirstSetting : List SectionView → ℕ → ℕ → Option ℕ → Type 0
 IsFirstSetting list from to None = to - from ≤ position_or_len has_setting (drop from list)
 IsFirstSetting list from to (Some i) = (i ≡ from + position_or_len has_setting (drop from list)) × (i < to)
 
--- these numbers are those of the classes of some bytes
-pub record AreCounts (len lines : ℕ) (sets : Bool) (classes : List Class) : Type 0 where
+-- a section has so many bytes and lines: no fewer bytes than lines, and some
+pub record AreCounts (len lines : ℕ) : Type 0 where
   pub some : 0 < len
-  pub lines_are : lines ≡ length classes
   pub covered : lines ≤ len
-  pub sets_is : sets ≡ list_any is_setting_class classes
+
+-- a section of this length and with these counts of lines that wasn't read
+abbrev pub pending_section : ℕ → LineCounts → SectionView
+pending_section len counts = record { len = len; lines = counts.lines; sets = counts.has_setting; entry = None }
 
 -- a section of these bytes that wasn't read
 abbrev pub fresh_section : List ℕ → SectionView
-fresh_section s = record { len = length s; classes = section_classes s; entry = None }
+fresh_section s = pending_section (length s) (line_counts s)
 
 -- all sections of a text, none of them read
 abbrev pub fresh_sections : List ℕ → List SectionView

@@ -12,7 +12,7 @@ ghost use Rattle.org_store.specs.Sections.{fresh_section, fresh_sections};
 
 use crate::section::Section;
 use org_base::{Fault, Meter, Span};
-use org_class::{classify, sections_in};
+use org_class::{count_lines, sections_in};
 use org_sequence::Sequence;
 use org_text::Text;
 use std::alloc::{AllocError, Global};
@@ -61,7 +61,6 @@ pub(crate) fn classify_part<T: Text>(
 }
 
 // A section of a text, classified.
-#[tactic(auto, using(crate::proofs::FreshLemmas::lines_covered))]
 fn classify_section<T: Text>(
     alloc: Global,
     meter: &mut Meter,
@@ -74,11 +73,11 @@ fn classify_section<T: Text>(
     ensures counts { meter.new ≡ ticked Classify meter.old }
     ensures memory { IsOkUnless result memory_fault }
 {
-    let classes = classify(alloc, meter, text, section)?;
-    Ok(Section::pending(alloc, section.len, classes)?)
+    let counts = count_lines(alloc, meter, text, section)?;
+    Ok(Section::pending(section.len, counts))
 }
 
-// The same sections, none of them read: their classes are shared.
+// The same sections, none of them read.
 #[tactic(auto, using(crate::proofs::KeptLemmas::size_bare))]
 pub(crate) fn all_pending(
     alloc: Global,
@@ -97,7 +96,7 @@ fn pending_items(alloc: Global, list: &Sequence<Section>) -> Result<Vec<Section>
 {
     let mut all = Vec::with_capacity(alloc, list.len() as usize)?;
     for section in list {
-        all.push(section.without_entry()?)?;
+        all.push(section.without_entry())?;
     }
     Ok(all)
 }

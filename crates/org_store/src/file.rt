@@ -25,8 +25,8 @@ use std::alloc::{AllocError, Global};
 use std::marker::Model;
 use std::rc::Rc;
 
-/// A file: its text, the serial of its last change, and what is kept of its sections: the classes of their lines, and what
-/// those that were read say. Contracts see the text, the serial and one mark for each section, true where it was read.
+/// A file: its text, the serial of its last change, and what is kept of its sections: how long they are, and what those
+/// that were read say. Contracts see the text, the serial and one mark for each section, true where it was read.
 ///
 /// A clone shares all of it by one count each, and no later change of one file reaches the other.
 #[derive(Debug, Drop)]

@@ -2,11 +2,11 @@
 //!
 //! Every call that allocates may be refused memory. Where it names no other refusal, that is its only one.
 //!
-//! Of each section it keeps how long it is, the classes of its lines and, once it was read, its entry. An edit
-//! classifies the sections that it touches, along one path, and they alone are pending then; all others stay as they
-//! are. An edit looks back by one section at most. Only where the setting lines of the touched sections differ, and the
-//! settings that come of all of them do, is everything pending. Contracts see text, serial and one mark for each
-//! section, true where it was read.
+//! Of each section it keeps how long it is, how many lines it has, whether one of them is a setting line and, once it was
+//! read, its entry. An edit classifies the sections that it touches, along one path, and they alone are pending then; all
+//! others stay as they are. An edit looks back by one section at most. Only where the setting lines of the touched
+//! sections differ, and the settings that come of all of them do, is everything pending. Contracts see text, serial and
+//! one mark for each section, true where it was read.
 //!
 //! What all entries say is one outline, shared with those who ask. It is kept as long as the settings stay: what is
 //! read anew is put into it. If a heading's level changed, sections came or went, or a pin shares the outline, it isn't

@@ -5,9 +5,7 @@ ghost use Rattle.org_base.specs.Codes.{memory_fault};
 ghost use Rattle.org_base.specs.Counts.{ticked};
 ghost use Rattle.org_base.specs.Results.{Gives, GivesItems};
 ghost use Rattle.org_base.specs.declared.meter.Tick.TheVariants.{Read};
-ghost use Rattle.org_class.specs.Classes.{section_classes};
-ghost use Rattle.org_entry.specs.Context.{part_of};
-ghost use Rattle.org_store.specs.Context.{HasReadAt, SaysPart, all_sections, kept_with, read_of, read_there};
+ghost use Rattle.org_store.specs.Context.{HasReadAt, IsOfPart, SaysPart, all_sections, kept_with, read_of, read_there};
 ghost use Rattle.org_store.specs.Counts.{SomeRead, have_read};
 ghost use Rattle.org_store.specs.File.{AllSay, AreOf, pending_one};
 ghost use Rattle.org_store.specs.Sections.{is_pending};
@@ -33,12 +31,11 @@ fn read_one<T: Text>(
     section: &Section,
 ) -> Result<Section, Fault>
     requires within { span.at + span.len ≤ length (T.content context.now.text.now) }
-    requires belongs { section.now.classes ≡ section_classes (part_of T.content context.now span) }
     ensures value { Gives result (kept_with T.content context.now span section.now) }
     ensures counts { meter.new ≡ ticked Read meter.old }
     ensures memory { IsOkUnless result memory_fault }
 {
-    let entry = read_entry(alloc, meter, context, span, section.classes())?;
+    let entry = read_entry(alloc, meter, context, span)?;
     Ok(section.read(alloc, entry)?)
 }
 
@@ -168,8 +165,7 @@ fn read_or_shared<T: Text>(
     section: &Section,
 ) -> Result<Section, Fault>
     requires within { span.at + span.len ≤ length (T.content context.now.text.now) }
-    requires len { section.now.len ≡ length (part_of T.content context.now span) }
-    requires belongs { section.now.classes ≡ section_classes (part_of T.content context.now span) }
+    requires own { IsOfPart T.content context.now span section.now }
     requires says { SaysPart T.content context.now span section.now }
     ensures value { Gives result (read_of T.content context.now span) }
     ensures counts { meter.new ≡ have_read (pending_one section.now) meter.old }

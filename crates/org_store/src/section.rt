@@ -3,11 +3,11 @@ ghost use Rattle.std.specs.Option.{option_copied};
 ghost use Rattle.std.specs.Prelude.{◌≡◌, ◌<◌, ◌≤◌, ◌++◌, Some, None, length, IfOk, OnOk, OnErr, IsOkUnless};
 ghost use Rattle.org_base.specs.Codes.{memory_fault};
 ghost use Rattle.org_base.specs.Results.{Gives};
-ghost use Rattle.org_store.specs.Held.{classes_held, held};
-ghost use Rattle.org_store.specs.Sections.{has_setting, is_pending, line_count, said, section_len, with_said};
+ghost use Rattle.org_store.specs.Held.{held};
+ghost use Rattle.org_store.specs.Sections.{has_setting, is_pending, line_count, pending_section, said, section_len, with_said};
 
 use org_base::Fault;
-use org_class::{Class, Classes};
+use org_class::LineCounts;
 use org_entry::Entry;
 use org_outline::Entries;
 use org_sequence::Measured;
@@ -16,26 +16,25 @@ use std::alloc::{AllocError, Global};
 use std::marker::Model;
 use std::rc::Rc;
 
-// How long a section is, how many lines it has, whether one of them is a setting line, the classes of its lines, and what
-// it says, where it was read. Classes and entry are shared by all copies; a heading alone keeps no classes.
+// How long a section is, how many lines it has, whether one of them is a setting line, and what it says, where it was read.
+// The entry is shared by all copies.
 #[derive(Debug, Drop)]
 pub(crate) struct Section {
     len: u32,
     lines: u32,
     sets: bool,
-    classes: Option<Rc<Classes>>,
     entry: Option<Rc<Entry>>,
 }
 
 impl Model for Section {
-    ghost use Rattle.org_store.specs.Held.{classes_held, held};
+    ghost use Rattle.org_store.specs.Held.{held};
     ghost use Rattle.org_store.specs.Sections.{AreCounts, SectionView};
 
     ghost Value = { SectionView };
 
-    ghost view = { λ s. record { len = s.len; classes = classes_held s.classes; entry = held s.entry } };
+    ghost view = { λ s. record { len = s.len; lines = s.lines; sets = s.sets; entry = held s.entry } };
 
-    ghost invariant = { λ s. AreCounts s.len s.lines s.sets (classes_held s.classes) };
+    ghost invariant = { λ s. AreCounts s.len s.lines };
 }
 
 impl Measured for Section {
@@ -68,44 +67,35 @@ impl Measured for Section {
             None => None,
             Some(entry) => Some(entry.clone()?),
         };
-        self.with(entry)
+        Ok(self.with(entry))
     }
 }
 
 impl Section {
     // A section that is still to be read.
-    pub(crate) fn pending(alloc: Global, len: u32, classes: Classes) -> Result<Section, AllocError>
+    pub(crate) fn pending(len: u32, counts: LineCounts) -> Section
         requires some { 0 < len }
-        requires covered { length classes ≤ len }
-        ensures value { Gives result (record { len = len; classes = classes; entry = None }) }
+        requires covered { counts.lines ≤ len }
+        ensures value { result ≡ pending_section len counts }
     {
-        let lines = classes.count() as u32;
-        let sets = classes.has_setting();
-        let classes = share_classes(alloc, classes)?;
-        Ok(Section {
+        Section {
             len,
-            lines,
-            sets,
-            classes,
+            lines: counts.lines,
+            sets: counts.has_setting,
             entry: None,
-        })
+        }
     }
 
     // The same section with this entry, or without one.
-    fn with(&self, entry: Option<Rc<Entry>>) -> Result<Section, AllocError>
-        ensures value { Gives result (record self.now { entry = held entry }) }
+    fn with(&self, entry: Option<Rc<Entry>>) -> Section
+        ensures value { result ≡ record self.now { entry = held entry } }
     {
-        let classes = match &self.classes {
-            None => None,
-            Some(classes) => Some(classes.clone()?),
-        };
-        Ok(Section {
+        Section {
             len: self.len,
             lines: self.lines,
             sets: self.sets,
-            classes,
             entry,
-        })
+        }
     }
 
     // The section, read.
@@ -113,12 +103,12 @@ impl Section {
         ensures value { Gives result (record self.now { entry = Some entry }) }
     {
         let entry = Rc::new(alloc, entry)?;
-        self.with(Some(entry))
+        Ok(self.with(Some(entry)))
     }
 
     // The section, still to be read.
-    pub(crate) fn without_entry(&self) -> Result<Section, AllocError>
-        ensures value { Gives result (record self.now { entry = None }) }
+    pub(crate) fn without_entry(&self) -> Section
+        ensures value { result ≡ record self.now { entry = None } }
     {
         self.with(None)
     }
@@ -128,15 +118,6 @@ impl Section {
         ensures some { 0 < result }
     {
         self.len
-    }
-
-    pub(crate) fn classes(&self) -> &[Class]
-        ensures value { result.now ≡ self.now.classes }
-    {
-        match &self.classes {
-            None => &[Class::Heading],
-            Some(classes) => classes.as_slice(),
-        }
     }
 
     // What it says, where it was read.
@@ -190,15 +171,4 @@ impl Section {
             Some(entry) => outline.set(alloc, place, entry),
         }
     }
-}
-
-// The classes of a section's lines, to be shared.
-fn share_classes(alloc: Global, classes: Classes) -> Result<Option<Rc<Classes>>, AllocError>
-    ensures value { IfOk result (λ shared. classes_held shared ≡ classes) }
-{
-    if let [Class::Heading] = classes.as_slice() {
-        return Ok(None);
-    }
-    let classes = Rc::new(alloc, classes)?;
-    Ok(Some(classes))
 }

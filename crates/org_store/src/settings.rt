@@ -9,8 +9,8 @@ ghost use Rattle.org_store.specs.Outline.{file_settings};
 ghost use Rattle.org_store.specs.Sections.{IsFirstSetting};
 
 use crate::section::Section;
-use org_base::{Fault, Span, Texts};
-use org_class::{Settings, push_setting_lines};
+use org_base::{Fault, Meter, Span, Texts};
+use org_class::{Settings, classify, push_setting_lines};
 use org_sequence::Sequence;
 use org_text::Text;
 use std::alloc::Global;
@@ -59,7 +59,8 @@ fn push_lines<T: Text>(
     ensures memory { IsOkUnless result memory_fault }
 {
     let span = span_at(text, list, place);
-    push_setting_lines(alloc, lines, text, span, list.get(place).classes())
+    let classes = classify(alloc, &mut Meter::new(), text, span)?;
+    push_setting_lines(alloc, lines, text, span, classes.as_slice())
 }
 
 // The setting lines of the sections from one place up to another, in order: no section without any is looked at.

@@ -6,17 +6,14 @@ use Rattle.org_class.specs.Sections.{sections}
 use Rattle.org_store.specs.Counts.{have_read}
 use Rattle.org_store.specs.File.{read_section}
 use Rattle.org_store.specs.Sections.{is_pending}
-use Rattle.org_store.proofs.AllLemmas.{kept_classes, kept_len, kept_says, next, next_item, next_place, one_more, some_more, within}
+use Rattle.org_store.proofs.AllLemmas.{kept_bare, kept_says, next, next_item, next_place, one_more, some_more, within}
 use Rattle.org_store.proofs.read.read_in_order.Goals as goal
 
 pub read_or_shared-requires-clause-within : goal.read_or_shared-requires-clause-within
 read_or_shared-requires-clause-within g c = within (g.T.Text.content c.args.context.now.text.now) c.args.list.now c.args.context.now.settings.now (length c.loop-section.all.items) c.in-Some.section.now c.next.new.self c.loop-section.at c.len-in-loop-section.result c.args.meter.now c.loop-section.meter c.requires.sections_of_text c.requires.says (sym c.loop-section.invariant.left ∙ c.in-Some.ensures.steps) c.loop-section.invariant.place c.len-in-loop-section.ensures.value c.loop-section.invariant.counts
 
-pub read_or_shared-requires-clause-len : goal.read_or_shared-requires-clause-len
-read_or_shared-requires-clause-len g c = kept_len (g.T.Text.content c.args.context.now.text.now) c.args.list.now c.args.context.now.settings.now (length c.loop-section.all.items) c.in-Some.section.now c.next.new.self c.loop-section.at c.len-in-loop-section.result c.args.meter.now c.loop-section.meter c.requires.sections_of_text c.requires.says (sym c.loop-section.invariant.left ∙ c.in-Some.ensures.steps) c.loop-section.invariant.place c.len-in-loop-section.ensures.value c.loop-section.invariant.counts
-
-pub read_or_shared-requires-clause-belongs : goal.read_or_shared-requires-clause-belongs
-read_or_shared-requires-clause-belongs g c = kept_classes (g.T.Text.content c.args.context.now.text.now) c.args.list.now c.args.context.now.settings.now (length c.loop-section.all.items) c.in-Some.section.now c.next.new.self c.loop-section.at c.len-in-loop-section.result c.args.meter.now c.loop-section.meter c.requires.sections_of_text c.requires.says (sym c.loop-section.invariant.left ∙ c.in-Some.ensures.steps) c.loop-section.invariant.place c.len-in-loop-section.ensures.value c.loop-section.invariant.counts
+pub read_or_shared-requires-clause-own : goal.read_or_shared-requires-clause-own
+read_or_shared-requires-clause-own g c = kept_bare (g.T.Text.content c.args.context.now.text.now) c.args.list.now c.args.context.now.settings.now (length c.loop-section.all.items) c.in-Some.section.now c.next.new.self c.loop-section.at c.len-in-loop-section.result c.args.meter.now c.loop-section.meter c.requires.sections_of_text c.requires.says (sym c.loop-section.invariant.left ∙ c.in-Some.ensures.steps) c.loop-section.invariant.place c.len-in-loop-section.ensures.value c.loop-section.invariant.counts
 
 pub read_or_shared-requires-clause-says : goal.read_or_shared-requires-clause-says
 read_or_shared-requires-clause-says g c = kept_says (g.T.Text.content c.args.context.now.text.now) c.args.list.now c.args.context.now.settings.now (length c.loop-section.all.items) c.in-Some.section.now c.next.new.self c.loop-section.at c.len-in-loop-section.result c.args.meter.now c.loop-section.meter c.requires.sections_of_text c.requires.says (sym c.loop-section.invariant.left ∙ c.in-Some.ensures.steps) c.loop-section.invariant.place c.len-in-loop-section.ensures.value c.loop-section.invariant.counts
