@@ -197,7 +197,7 @@ def check_manual(checks, table):
         checks.each(f"the manual's row of {command}", set(), named - own - table.of_all)
         named |= table.shared(re.findall(r"\[([A-Z]+)\]", text))
         # What is followed is a command, with all that may stand in front of one.
-        named |= table.lists["OF_TODAY"] | table.shared(words) if command == "follow" else set()
+        named |= table.lists["OF_TODAY"] | table.lists["OF_TEXT"] | table.shared(words) if command == "follow" else set()
         checks.each(f"the manual, of {command},", own - named - said[command], set())
 
 

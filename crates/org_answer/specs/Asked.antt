@@ -26,7 +26,7 @@ use Rattle.org_answer.specs.declared.view.Days.{Days}
 
 -- which stamps the agendas of a question look at
 abbrev pub chosen_of : Question → Chosen
-chosen_of q = record { as_of = record { profile = q.profile; today = q.moment.day }; expressions = q.expressions; efforts = q.efforts; moment = q.moment }
+chosen_of q = record { as_of = record { profile = q.profile; today = q.moment.day }; expressions = q.expressions; searches = q.searches; efforts = q.efforts; moment = q.moment }
 
 -- of the headings that are chosen those of which the expression holds that a text spells
 abbrev pub AnswersMatch : Result Answer Fault → List Scope → List ℕ → Chosen → Type 0

@@ -14,7 +14,7 @@ use crate::view::{Answer, Chosen, Days, agenda_days, agenda_over, chosen_matches
 use org_agenda::AsOf;
 use org_base::{Code, Fault, Profile, Texts};
 use org_cal::{Day, Moment, Period};
-use org_client::{Efforts, Window};
+use org_client::{Efforts, FoundHeadings, Window};
 use org_clocktable::TableSpec;
 use org_inherit::Inherits;
 use org_match::Match;
@@ -102,6 +102,7 @@ pub struct Question<'a, 'b> {
     pub profile: Profile,
     pub moment: Moment,
     pub expressions: &'a [Match],
+    pub searches: &'a [FoundHeadings],
     pub efforts: Option<Efforts>,
     pub arrangement: Arrangement<'a>,
 }
@@ -117,6 +118,7 @@ impl<'a> Question<'a, '_> {
                 today: self.moment.day,
             },
             expressions: self.expressions,
+            searches: self.searches,
             efforts: self.efforts,
             moment: self.moment,
         }

@@ -13,7 +13,10 @@ use crate::limits::is_row;
 use org_agenda::{Agenda, AsOf, HeadingStamp, Row, match_rows, sources_of, todo_rows};
 use org_base::{Fault, Texts};
 use org_cal::{Day, LAST_DAY, Moment, Period};
-use org_client::{Efforts, matching_rows, matching_stamps, rows_of_efforts, stamps_of_efforts};
+use org_client::{
+    Efforts, FoundHeadings, matching_rows, matching_stamps, rows_of_efforts, rows_sought,
+    stamps_of_efforts, stamps_sought,
+};
 use org_inherit::Inherits;
 use org_layout::{Line, agenda_lines, list_lines};
 use org_match::Match;
@@ -73,6 +76,7 @@ fn chosen_list(
     ensures value { ShowsList result (chosen_rows chosen.now inherits.now rows.items) }
 {
     let some = matching_rows(alloc, inherits, rows, chosen.expressions, &chosen.moment)?;
+    let some = rows_sought(alloc, some, chosen.searches)?;
     let some = rows_of_efforts(alloc, inherits, some, chosen.efforts)?;
     Ok(list_answer(alloc, some.as_slice())?)
 }
@@ -127,12 +131,13 @@ impl Days {
     }
 }
 
-/// Which headings an answer is of: those that meet these expressions at a moment, and have one of these efforts where any are
-/// asked for; and how agendas look at stamps.
+/// Which headings an answer is of: those that meet these expressions at a moment, were found by each of these searches, and have one
+/// of these efforts where any are asked for; and how agendas look at stamps.
 #[derive(Clone, Copy, Debug)]
 pub struct Chosen<'a> {
     pub as_of: AsOf,
     pub expressions: &'a [Match],
+    pub searches: &'a [FoundHeadings],
     pub efforts: Option<Efforts>,
     pub moment: Moment,
 }
@@ -180,5 +185,6 @@ pub(crate) fn chosen_sources(
 {
     let sources = sources_of(alloc, inherits)?;
     let some = matching_stamps(alloc, inherits, sources, chosen.expressions, &chosen.moment)?;
+    let some = stamps_sought(alloc, some, chosen.searches)?;
     Ok(stamps_of_efforts(alloc, inherits, some, chosen.efforts)?)
 }

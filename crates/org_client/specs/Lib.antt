@@ -18,6 +18,7 @@ pub mod LogMembers
 pub mod LogRows
 pub mod LinePlaces
 pub mod Matching
+pub mod Searched
 pub mod MatchingLaws
 pub mod Members
 pub mod Next

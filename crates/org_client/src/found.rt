@@ -65,7 +65,7 @@ fn file_rows<T: Text>(
 }
 
 // Whether an entry has a heading that isn't hidden, and its section holds what is looked for.
-fn is_found<T: Text>(
+pub(crate) fn is_found<T: Text>(
     alloc: Global,
     file: &ReadFile<T>,
     inherit: &Inherit<'_>,

@@ -50,9 +50,9 @@ fn stamps_meeting(
 }
 
 // Of each entry of a file whether an expression holds.
-#[derive(Drop)]
+#[derive(Debug, Drop)]
 pub(crate) struct HeldFile {
-    held: Vec<bool>,
+    pub(crate) held: Vec<bool>,
 }
 
 impl Model for HeldFile {
@@ -132,7 +132,7 @@ fn is_held(held: &[HeldFile], stamp: &HeadingStamp) -> bool
 }
 
 // Whether it holds of the entry at a place of the file at a place.
-fn heading_holds_at(held: &[HeldFile], file: usize, heading: usize) -> bool
+pub(crate) fn heading_holds_at(held: &[HeldFile], file: usize, heading: usize) -> bool
     ensures value { result ≡ heading_holds_at held.now file heading }
 {
     match held.get(file) {

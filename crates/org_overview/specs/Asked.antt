@@ -1,9 +1,9 @@
 -- What a page is asked for, and its days.
 use Rattle.std.specs.Prelude.{◌≡◌, ℕ, ◌+◌, ◌-◌, ◌*◌, ◌<◌, ◌≤◌, List, max}
 use Rattle.org_agenda.specs.Days.{AgendaView, agenda_of}
-use Rattle.org_agenda.specs.Sources.{sources_of}
 use Rattle.org_cal.specs.Weeks.{monday_of}
 use Rattle.org_inherit.specs.Scope.{Scope}
+use Rattle.org_overview.specs.Chosen.{page_stamps}
 use Rattle.org_overview.specs.declared.clocked.TheConstants.{CHART_DAYS}
 use Rattle.org_overview.specs.declared.asked.Look.{Look}
 use Rattle.org_overview.specs.declared.asked.Wish.{Wish}
@@ -13,6 +13,7 @@ pub record IsWished (look : Look) (ahead : ℕ) (wish : Wish) : Type 0 where
   pub moment : wish.moment ≡ look.moment
   pub profile : wish.profile ≡ look.profile
   pub template : wish.template ≡ look.template
+  pub expression : wish.expression ≡ look.expression
   pub days : wish.ahead ≡ ahead
   pub from : wish.month.first ≤ look.moment.day
   pub to : look.moment.day ≤ wish.month.last
@@ -24,9 +25,10 @@ pub record IsWished (look : Look) (ahead : ℕ) (wish : Wish) : Type 0 where
 abbrev pub days_shown : Wish → ℕ
 days_shown wish = max (wish.moment.day - wish.first + wish.ahead + 1) (7 * wish.weeks)
 
--- the agenda of these days
+-- the agenda of these days, over the stamps of the headings that a page is of
 abbrev pub agenda_asked : List Scope → Wish → AgendaView
-agenda_asked scopes wish = agenda_of wish.profile (sources_of 0 scopes) wish.moment.day wish.first (days_shown wish)
+agenda_asked scopes wish =
+    agenda_of wish.profile (page_stamps wish scopes) wish.moment.day wish.first (days_shown wish)
 
 -- an agenda has all days that a page shows, from its first one on
 pub record IsAgendaFor (wish : Wish) (agenda : AgendaView) : Type 0 where

@@ -1,11 +1,12 @@
 -- Tables of tasks.
 use Rattle.std.specs.Prelude.{◌≡◌, ℕ, List, [], ◌∷◌, ◌++◌, IfOk, OnOk, Result, Vec, map}
-use Rattle.org_agenda.specs.Lists.{list_rows, Open}
 use Rattle.org_agenda.specs.declared.row.Row.{Row}
 use Rattle.org_client.specs.Files.{NamedText}
 use Rattle.org_inherit.specs.Scope.{Scope}
+use Rattle.org_overview.specs.Chosen.{page_tasks}
 use Rattle.org_overview.specs.Marks.{Mark, mark_of, marks_of, shown_mark}
 use Rattle.org_overview.specs.Tasks.{names_of, rows_beside, rows_with}
+use Rattle.org_overview.specs.declared.asked.Wish.{Wish}
 use Rattle.org_page.specs.declared.task.Task.{Task}
 use Rattle.org_page.specs.declared.task.TaskGroup.{TaskGroup}
 
@@ -51,6 +52,6 @@ AddsOthers result old new files rows = OnOk result (groups_marks new.items ≡ g
 abbrev pub GivesGroups : {A E : Type 0} → Result (Vec TaskGroup A) E → List NamedText → List Scope → List Row → Type 0
 GivesGroups result files scopes rows = IfOk result (λ groups. ShowsGroups groups.items files scopes rows)
 
--- those of the list of open headings
-abbrev pub GivesTasks : {A E : Type 0} → Result (Vec TaskGroup A) E → List NamedText → List Scope → Type 0
-GivesTasks result files scopes = GivesGroups result files scopes (list_rows Open scopes)
+-- those of the open headings that a page is of
+abbrev pub GivesTasks : {A E : Type 0} → Result (Vec TaskGroup A) E → List NamedText → List Scope → Wish → Type 0
+GivesTasks result files scopes wish = GivesGroups result files scopes (page_tasks wish scopes)

@@ -1,5 +1,6 @@
 pub mod Parts
 pub mod Marks
+pub mod Chosen
 pub mod Asked
 pub mod Days
 pub mod Cells

@@ -1,6 +1,6 @@
 -- What clocks have on days.
-use Rattle.std.specs.Prelude.{ℕ, ◌+◌, ◌-◌, Bool, nat_lt, if◌then◌else◌, is_some, List, [], filter, map}
-use Rattle.std.specs.List.{flat_map, range_with_len}
+use Rattle.std.specs.Prelude.{ℕ, ◌+◌, ◌-◌, Bool, ◌&&◌, nat_lt, if◌then◌else◌, is_some, List, [], ◌∷◌, ◌++◌, filter, map}
+use Rattle.std.specs.List.{range_with_len}
 use Rattle.org_drawer.specs.Clock.{minutes_in}
 use Rattle.org_drawer.specs.declared.clock.ClockLine.{ClockLine}
 use Rattle.org_entry.specs.declared.entry.Entry.{Entry}
@@ -15,12 +15,15 @@ has_minutes days clock = nat_lt 0 (minutes_in clock days)
 abbrev pub touching : ℕ × ℕ → List ClockLine → List ClockLine
 touching days clocks = filter (has_minutes days) clocks
 
--- those of an entry, if it is a heading
-abbrev pub entry_clocks : ℕ × ℕ → Entry → List ClockLine
-entry_clocks days e = if is_some (level_of e) then touching days e.details.clocks else []
+-- those of an entry, if it is a heading that is told
+abbrev pub entry_clocks : ℕ × ℕ → Entry → Bool → List ClockLine
+entry_clocks days e told = if is_some (level_of e) && told then touching days e.details.clocks else []
 
-abbrev pub clocks_in : ℕ × ℕ → List Entry → List ClockLine
-clocks_in days es = flat_map (entry_clocks days) es
+-- those of entries, with for each whether it is told
+abbrev pub clocks_in : ℕ × ℕ → List Entry → List Bool → List ClockLine
+clocks_in days [] told = []
+clocks_in days (e ∷ es) [] = []
+clocks_in days (e ∷ es) (t ∷ ts) = entry_clocks days e t ++ clocks_in days es ts
 
 -- what clocks have on a day
 abbrev pub day_sum : List ClockLine → ℕ → ℕ
@@ -30,6 +33,6 @@ day_sum clocks day = told (minutes_of (day, day) clocks)
 abbrev pub day_sums : List ClockLine → ℕ × ℕ → List ℕ
 day_sums clocks days = map (day_sum clocks) (range_with_len days.0 (days.1 + 1 - days.0))
 
--- what the headings of a file have on each of these days
-abbrev pub sums_of : ℕ × ℕ → List Entry → List ℕ
-sums_of days es = day_sums (clocks_in days es) days
+-- what those headings of a file that are told have on each of these days
+abbrev pub sums_of : ℕ × ℕ → List Entry → List Bool → List ℕ
+sums_of days es told = day_sums (clocks_in days es told) days

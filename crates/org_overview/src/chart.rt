@@ -1,14 +1,20 @@
 //! What was clocked by days.
-ghost use Rattle.std.specs.Prelude.{◌≡◌, ◌+◌, ◌≤◌, IfOk};
+ghost use Rattle.std.specs.Prelude.{◌≡◌, ◌+◌, ◌≤◌, IfOk, IsOkUnless};
+ghost use Rattle.org_base.specs.Codes.{memory_fault};
 ghost use Rattle.org_base.specs.Results.{GivesItems};
 ghost use Rattle.org_cal.specs.Periods.{days_of};
-ghost use Rattle.org_overview.specs.Charts.{AddsFile, GivesChart, GivesDays, GivesFiles, GivesWeek, GivesWeeks, day_numbers, has_any, minutes_at, numbers_at, total_at};
+ghost use Rattle.org_overview.specs.Charts.{AddsFile, GivesChart, GivesDays, GivesFileSums, GivesFiles, GivesMet, GivesMetSums, GivesWeek, GivesWeeks, day_numbers, has_any, minutes_at, numbers_at, total_at};
+ghost use Rattle.org_overview.specs.Chosen.{all_told, told_in};
 
+use crate::asked::Wish;
 use crate::sums::file_sums;
 use crate::words::{chart_day_words, short_name, span_words, week_label, week_name};
-use org_cal::{Day, Period};
+use org_agenda::holds_of;
+use org_base::Fault;
+use org_cal::{Day, Moment, Period};
 use org_client::FileSet;
 use org_inherit::{Inherit, Inherits};
+use org_match::{Match, Matcher};
 use org_page::{Chart, ChartDay, ChartFile, ChartWeek};
 use org_text::Text;
 use std::alloc::{AllocError, Global};
@@ -20,32 +26,97 @@ pub struct FileSums {
     pub sums: Vec<u64>,
 }
 
-/// The files that have minutes in some days, with what they have on each.
+/// The files that have minutes in some days, with what they have on each, of the headings that a page is of.
 pub(crate) fn clocked_files(
     alloc: Global,
     inherits: &Inherits<'_>,
     period: &Period,
+    wish: &Wish<'_>,
+) -> Result<Vec<FileSums>, Fault>
+    ensures value { GivesFiles result (told_in wish.now) (days_of period.now) inherits.now }
+    ensures memory { IsOkUnless result memory_fault }
+{
+    match wish.expression {
+        Some(expression) => matching_files(alloc, inherits, period, expression, &wish.moment),
+        None => Ok(whole_files(alloc, inherits, period)?),
+    }
+}
+
+// Those with what all their headings have.
+fn whole_files(
+    alloc: Global,
+    inherits: &Inherits<'_>,
+    period: &Period,
 ) -> Result<Vec<FileSums>, AllocError>
-    ensures value { GivesFiles result (days_of period.now) inherits.now }
+    ensures value { GivesFiles result all_told (days_of period.now) inherits.now }
 {
     let mut files = Vec::new(alloc);
     for file in 0..inherits.count() {
-        push_file(alloc, &mut files, file, inherits.get(file), period)?;
+        let sums = whole_sums(alloc, inherits.get(file), period)?;
+        push_file(&mut files, file, sums)?;
     }
     Ok(files)
 }
 
-// Puts a file after others, if it has minutes.
-fn push_file(
+fn whole_sums(alloc: Global, inherit: &Inherit<'_>, period: &Period) -> Result<Vec<u64>, AllocError>
+    ensures value { GivesFileSums result all_told (days_of period.now) inherit.now }
+{
+    let told = vec![in alloc; true; inherit.outline().count()]?;
+    file_sums(alloc, inherit.outline(), told.as_slice(), period)
+}
+
+// Those with what the headings have of which an expression holds.
+fn matching_files(
     alloc: Global,
-    files: &mut Vec<FileSums>,
-    file: usize,
+    inherits: &Inherits<'_>,
+    period: &Period,
+    expression: &Match,
+    moment: &Moment,
+) -> Result<Vec<FileSums>, Fault>
+    ensures value { GivesMet result expression.now moment.now period.now inherits.now }
+    ensures memory { IsOkUnless result memory_fault }
+{
+    let mut matcher = Matcher::new(alloc, expression)?;
+    met_files(alloc, inherits, period, &mut matcher, moment)
+}
+
+fn met_files(
+    alloc: Global,
+    inherits: &Inherits<'_>,
+    period: &Period,
+    matcher: &mut Matcher<'_>,
+    moment: &Moment,
+) -> Result<Vec<FileSums>, Fault>
+    ensures value { GivesMet result matcher.old moment.now period.now inherits.now }
+    ensures memory { IsOkUnless result memory_fault }
+{
+    let mut files = Vec::new(alloc);
+    for file in 0..inherits.count() {
+        let sums = met_sums(alloc, inherits.get(file), period, matcher, moment)?;
+        push_file(&mut files, file, sums)?;
+    }
+    Ok(files)
+}
+
+fn met_sums(
+    alloc: Global,
     inherit: &Inherit<'_>,
     period: &Period,
-) -> Result<(), AllocError>
-    ensures ok { AddsFile result files.old files.new (days_of period.now) file inherit.now }
+    matcher: &mut Matcher<'_>,
+    moment: &Moment,
+) -> Result<Vec<u64>, Fault>
+    ensures value { GivesMetSums result matcher.old moment.now period.now inherit.now }
+    ensures unchanged { matcher.new ≡ matcher.old }
+    ensures memory { IsOkUnless result memory_fault }
 {
-    let sums = file_sums(alloc, inherit.outline(), period)?;
+    let told = holds_of(alloc, matcher, moment, inherit)?;
+    Ok(file_sums(alloc, inherit.outline(), told.as_slice(), period)?)
+}
+
+// Puts a file with its sums after others, if it has minutes.
+fn push_file(files: &mut Vec<FileSums>, file: usize, sums: Vec<u64>) -> Result<(), AllocError>
+    ensures ok { AddsFile result files.old files.new file sums.items }
+{
     if !has_any(sums.as_slice()) {
         return Ok(());
     }

@@ -13,7 +13,7 @@ use org_base::Fault;
 use org_cal::{Day, Period};
 use org_page::{Chart, Sums};
 use org_text::Text;
-use std::alloc::{AllocError, Global};
+use std::alloc::Global;
 
 /// A chart of days, the minutes of today, and the sums of the month by headings.
 #[derive(Drop)]
@@ -23,7 +23,7 @@ pub(crate) struct Clocked {
     pub(crate) sums: Sums,
 }
 
-/// What a page shows of clocks.
+/// What a page shows of the clocks of the headings that it is of.
 pub(crate) fn clocked_of<T: Text>(alloc: Global, seen: &Linked<'_, '_, T>) -> Result<Clocked, Fault>
     requires read { AreRead seen.now.scopes.now }
     ensures value { GivesClocked result seen.now.scopes.now seen.now.wish.now }
@@ -45,11 +45,12 @@ pub(crate) struct Charted {
     pub(crate) today: u64,
 }
 
-fn charted_of<T: Text>(alloc: Global, seen: &Linked<'_, '_, T>) -> Result<Charted, AllocError>
-    ensures value { GivesCharted result seen.now.scopes.now seen.now.wish.now.moment.day }
+fn charted_of<T: Text>(alloc: Global, seen: &Linked<'_, '_, T>) -> Result<Charted, Fault>
+    ensures value { GivesCharted result seen.now.scopes.now seen.now.wish.now }
+    ensures memory { IsOkUnless result memory_fault }
 {
     let period = chart_period(seen.wish.moment.day);
-    let files = clocked_files(alloc, seen.scopes, &period)?;
+    let files = clocked_files(alloc, seen.scopes, &period, seen.wish)?;
     let chart = chart_of(alloc, seen.files, files.as_slice(), &period)?;
     let last = period.last.number() - period.first.number();
     let today = total_at(files.as_slice(), last as usize);

@@ -7,11 +7,12 @@ ghost use Rattle.org_overview.specs.Asked.{IsAgendaFor, agenda_asked};
 ghost use Rattle.org_overview.specs.Dated.{GivesDated, GivesDays, GivesHereOf, rows_today};
 
 use crate::asked::Wish;
+use crate::chosen::page_stamps;
 use crate::coming::coming_days;
 use crate::here::{Here, here_of};
 use crate::month::shown_month;
 use crate::rows::Linked;
-use org_agenda::{Agenda, Row, sources_of};
+use org_agenda::{Agenda, Row};
 use org_base::Fault;
 use org_inherit::Inherits;
 use org_page::{Day as PageDay, Month};
@@ -36,13 +37,13 @@ pub(crate) fn dated_of<T: Text>(alloc: Global, seen: &Linked<'_, '_, T>) -> Resu
     shown_days(alloc, seen, &agenda)
 }
 
-// The agenda of all days that a page shows.
+// The agenda of all days that a page shows, over the stamps of the headings that it is of.
 fn agenda_of(alloc: Global, inherits: &Inherits<'_>, wish: &Wish<'_>) -> Result<Agenda, Fault>
     requires read { AreRead inherits.now }
     ensures value { Gives result (agenda_asked inherits.now wish.now) }
     ensures memory { IsOkUnless result memory_fault }
 {
-    let sources = sources_of(alloc, inherits)?;
+    let sources = page_stamps(alloc, inherits, wish)?;
     Agenda::new(alloc, sources, &wish.as_of(), wish.first, wish.count())
 }
 

@@ -2,6 +2,7 @@
 //!
 //! Every call that allocates may be refused memory, and that is its only refusal.
 //!
+//! A page is of all headings, or of those of which an expression holds: its rows, its tasks and its clocks are of these alone.
 //! All days of a page are of one agenda, which is asked once. A row of a page is known by how it stands, when, and of which
 //! stamp; contracts say that each part of the page has the rows of the agenda or of the list that belong there, each once and
 //! in their order. What a chart has on a day is the total of the clock table of that day, by the law
@@ -20,6 +21,7 @@
 
 mod asked;
 mod chart;
+mod chosen;
 mod clocked;
 mod coming;
 mod dated;

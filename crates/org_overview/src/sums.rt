@@ -1,5 +1,5 @@
 //! What clocks have on days.
-ghost use Rattle.std.specs.Prelude.{◌≡◌};
+ghost use Rattle.std.specs.Prelude.{◌≡◌, length};
 ghost use Rattle.org_base.specs.Results.{Adds, GivesItems};
 ghost use Rattle.org_cal.specs.Periods.{days_of};
 ghost use Rattle.org_cal.specs.Days.{IsDay};
@@ -13,38 +13,47 @@ use org_entry::Entry;
 use org_outline::Outline;
 use std::alloc::{AllocError, Global};
 
-/// What the clocks of a file's headings have on each of so many days, in one pass over them and one over those that have minutes
-/// in these days for each day.
+/// What the clocks of those of a file's headings that are taken have on each of so many days, in one pass over them and one over those
+/// that have minutes in these days for each day.
 pub(crate) fn file_sums(
     alloc: Global,
     outline: &Outline,
+    taken: &[bool],
     period: &Period,
 ) -> Result<Vec<u64>, AllocError>
-    ensures value { GivesItems result (sums_of (days_of period.now) outline.now) }
+    requires count { length taken.now ≡ length outline.now }
+    ensures value { GivesItems result (sums_of (days_of period.now) outline.now taken.now) }
 {
-    let clocks = clocks_in(alloc, outline, period)?;
+    let clocks = clocks_in(alloc, outline, taken, period)?;
     day_sums(alloc, clocks.as_slice(), period)
 }
 
-// The clocks of headings that have minutes in some days.
+// The clocks of headings that are taken, and have minutes in some days.
 fn clocks_in(
     alloc: Global,
     outline: &Outline,
+    taken: &[bool],
     period: &Period,
 ) -> Result<Vec<ClockLine>, AllocError>
-    ensures value { GivesItems result (clocks_in (days_of period.now) outline.now) }
+    requires count { length taken.now ≡ length outline.now }
+    ensures value { GivesItems result (clocks_in (days_of period.now) outline.now taken.now) }
 {
     let mut clocks = Vec::new(alloc);
     for place in 0..outline.count() {
-        push_entry(&mut clocks, outline.entry(place), period)?;
+        push_entry(&mut clocks, outline.entry(place), taken[place], period)?;
     }
     Ok(clocks)
 }
 
-fn push_entry(clocks: &mut Vec<ClockLine>, entry: &Entry, period: &Period) -> Result<(), AllocError>
-    ensures ok { Adds result clocks.old clocks.new (entry_clocks (days_of period.now) entry.now) }
+fn push_entry(
+    clocks: &mut Vec<ClockLine>,
+    entry: &Entry,
+    taken: bool,
+    period: &Period,
+) -> Result<(), AllocError>
+    ensures ok { Adds result clocks.old clocks.new (entry_clocks (days_of period.now) entry.now taken) }
 {
-    if entry.head.is_none() {
+    if !taken || entry.head.is_none() {
         return Ok(());
     }
     push_touching(clocks, entry.details.clocks(), period)

@@ -18,7 +18,7 @@ use std::alloc::{AllocError, Global};
 /// The deepest level of a page's sums.
 pub const MOST_LEVEL: u32 = 2;
 
-/// The clock table of the month, as a page shows it.
+/// The clock table of the month with the headings that a page is of, as it shows it.
 pub(crate) fn month_sums<T: Text>(alloc: Global, seen: &Linked<'_, '_, T>) -> Result<Sums, Fault>
     requires read { AreRead seen.now.scopes.now }
     ensures value { GivesSums result (wish_rows seen.now.wish.now seen.now.scopes.now) }
@@ -41,7 +41,7 @@ fn table_rows<T: Text>(alloc: Global, seen: &Linked<'_, '_, T>) -> Result<Vec<Ta
     ensures value { GivesItems result (wish_rows seen.now.wish.now seen.now.scopes.now) }
     ensures memory { IsOkUnless result memory_fault }
 {
-    let files = counted_files(alloc, seen.scopes, None, &seen.wish.moment)?;
+    let files = counted_files(alloc, seen.scopes, seen.wish.expression, &seen.wish.moment)?;
     step_rows(alloc, &seen.wish.month, MOST_LEVEL, files.as_slice())
 }
 

@@ -6,9 +6,10 @@ ghost use Rattle.org_client.specs.Files.{AreRead};
 ghost use Rattle.org_overview.specs.Groups.{AddsOthers, GivesGroup, GivesGroups, GivesNamed, GivesTasks, ShowsTask, ShowsTasks};
 ghost use Rattle.org_overview.specs.Tasks.{adds_word, has_word, keyword_at, names_of, rows_beside, rows_with};
 
+use crate::chosen::page_tasks;
 use crate::rows::{Linked, page_row};
 use crate::words::{date_of, due_words};
-use org_agenda::{Row, todo_rows};
+use org_agenda::Row;
 use org_base::{Fault, Span, Texts};
 use org_cal::Day;
 use org_entry::Entry;
@@ -22,16 +23,16 @@ use std::str;
 /// How many keywords have tables of their own at most; the headings of others are in one table after these.
 pub const MOST_KEYWORDS: usize = 32;
 
-/// The open headings, in a table for each keyword, in the order in which the list has them first.
+/// The open headings that a page is of, in a table for each keyword, in the order in which the list has them first.
 pub(crate) fn open_groups<T: Text>(
     alloc: Global,
     seen: &Linked<'_, '_, T>,
 ) -> Result<Vec<TaskGroup>, Fault>
     requires read { AreRead seen.now.scopes.now }
-    ensures value { GivesTasks result seen.now.files.now.files seen.now.scopes.now }
+    ensures value { GivesTasks result seen.now.files.now.files seen.now.scopes.now seen.now.wish.now }
     ensures memory { IsOkUnless result memory_fault }
 {
-    let rows = todo_rows(alloc, seen.scopes, &Texts::new(alloc))?;
+    let rows = page_tasks(alloc, seen.scopes, seen.wish)?;
     groups_of(alloc, seen, rows.as_slice())
 }
 

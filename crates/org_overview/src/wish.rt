@@ -27,6 +27,7 @@ impl<'a> Wish<'a> {
             moment: look.moment,
             profile: look.profile,
             template: look.template,
+            expression: look.expression,
             ahead,
             month,
             first,

@@ -104,7 +104,7 @@ fn answer_rows(
     match matches.subcommand() {
         Some(("clocks", _)) => print_clocks(rt, matches, call, options, look),
         Some(("log", _)) => print_log(rt, matches, call, options, look),
-        Some(("page", own)) => print_page(rt, matches, own, options.moment, look),
+        Some(("page", own)) => print_page(rt, matches, own, options, look),
         Some(("clock", own)) if own.subcommand().is_some() => {
             print_status(rt, matches, call, options.moment, look)
         }

@@ -2,16 +2,18 @@
 
 use crate::call::Call;
 use crate::options::{RowOptions, without_days};
+use crate::sought::found_headings;
 use clap::ArgMatches;
 use org_answer::{PrintOptions, clock_lines};
 use org_base::Fault;
 use org_cal::{Moment, Period};
 use org_client::{
-    ClockRow, Efforts, FileSet, HeadingAt, LoadReport, RowIds, ShownClock, clock_rows, has_effort,
-    matching_clocks, shown_clocks,
+    ClockRow, Efforts, FileSet, FoundHeadings, HeadingAt, LoadReport, RowIds, ShownClock,
+    clock_rows, has_effort, is_sought, matching_clocks, shown_clocks,
 };
 use org_inherit::Inherits;
 use org_match::Match;
+use org_search::Search;
 use org_text::Whole;
 use orgq_args::{asked_period, property_names};
 use orgq_messages::Problem;
@@ -35,9 +37,11 @@ pub fn print_clocks(
         Ok(expressions) => expressions,
         Err(status) => return Ok(status),
     };
+    let searches = options.filters.searches(rt.alloc())?;
     let choice = ClockChoice {
         period,
         expressions: expressions.as_slice(),
+        searches: searches.as_slice(),
         efforts,
         moment: options.moment,
     };
@@ -52,6 +56,7 @@ pub fn print_clocks(
 struct ClockChoice<'a> {
     period: Period,
     expressions: &'a [Match],
+    searches: &'a [Search],
     efforts: Option<Efforts>,
     moment: Moment,
 }
@@ -59,17 +64,35 @@ struct ClockChoice<'a> {
 // The clock lines that are chosen, as many as may be shown.
 fn chosen_clocks(
     alloc: Global,
+    file_set: &FileSet<Whole>,
     inherits: &Inherits<'_>,
     choice: &ClockChoice<'_>,
     limit: Option<u32>,
 ) -> Result<Vec<ClockRow>, Fault> {
+    let found = found_headings(alloc, file_set, inherits, choice.searches)?;
     let rows = clock_rows(alloc, inherits, &choice.period)?;
+    let rows = of_found(alloc, rows, found.as_slice())?;
     let rows = matching_clocks(alloc, inherits, rows, choice.expressions, &choice.moment)?;
     let mut rows = of_efforts(alloc, inherits, rows, choice.efforts)?;
     if let Some(limit) = limit {
         rows.truncate(limit as usize);
     }
     Ok(rows)
+}
+
+// Those of some clock lines whose headings each search found.
+fn of_found(
+    alloc: Global,
+    rows: Vec<ClockRow>,
+    found: &[FoundHeadings],
+) -> Result<Vec<ClockRow>, AllocError> {
+    let mut some = Vec::new(alloc);
+    for row in &rows {
+        if is_sought(found, row.file, row.heading) {
+            some.push(*row)?;
+        }
+    }
+    Ok(some)
 }
 
 // Those of some clock lines whose headings have the efforts, if any are asked for.
@@ -99,7 +122,7 @@ fn clock_bytes(
     look: &PrintOptions<'_, '_>,
 ) -> Result<Vec<u8>, Fault> {
     let inherits = file_set.inherits()?;
-    let rows = chosen_clocks(alloc, &inherits, choice, look.limit)?;
+    let rows = chosen_clocks(alloc, file_set, &inherits, choice, look.limit)?;
     let clocks = shown_clocks(alloc, file_set, rows.as_slice())?;
     let properties = property_names(alloc, look.properties)?;
     let files = LoadReport::new(alloc, file_set, &inherits, properties, false)?;

@@ -22,6 +22,7 @@ mod projects;
 mod question;
 mod review;
 mod search;
+mod sought;
 mod text;
 mod words;
 

@@ -2,13 +2,16 @@
 
 use crate::call::Call;
 use crate::options::{RowOptions, without_days};
+use crate::sought::found_headings;
 use clap::ArgMatches;
 use org_answer::{Form, PrintOptions, log_lines};
 use org_base::Fault;
 use org_client::{
-    Efforts, FileSet, HeadingAt, LoadReport, LogChoice, RowIds, has_effort, log_rows,
+    Efforts, FileSet, FoundHeadings, HeadingAt, LoadReport, LogChoice, RowIds, has_effort,
+    is_sought, log_rows,
 };
 use org_inherit::Inherits;
+use org_search::Search;
 use org_text::Whole;
 use org_trace::LogRow;
 use orgq_args::{asked_log, property_names};
@@ -38,23 +41,38 @@ pub fn print_log(
         moment: options.moment,
     };
     let efforts = options.efforts()?;
+    let searches = options.filters.searches(rt.alloc())?;
+    let picked = Picked {
+        choice: &choice,
+        searches: searches.as_slice(),
+        efforts,
+    };
     let asked = call.files(rt, matches)?;
-    let lines = log_bytes(rt.alloc(), &asked.file_set, &choice, efforts, look)?;
+    let lines = log_bytes(rt.alloc(), &asked.file_set, &picked, look)?;
     let left_out = asked.left_out;
     Ok(call.print_lines(rt, matches, lines.as_slice(), left_out))
+}
+
+// Which rows are shown, and which headings they are of.
+#[derive(Clone, Copy)]
+struct Picked<'a, 'b, 'c> {
+    choice: &'c LogChoice<'a>,
+    searches: &'b [Search],
+    efforts: Option<Efforts>,
 }
 
 // What is printed of a log: as many rows as there may be at most.
 fn log_bytes(
     alloc: Global,
     file_set: &FileSet<Whole>,
-    choice: &LogChoice<'_>,
-    efforts: Option<Efforts>,
+    picked: &Picked<'_, '_, '_>,
     look: &PrintOptions<'_, '_>,
 ) -> Result<Vec<u8>, Fault> {
     let inherits = file_set.inherits()?;
-    let rows = log_rows(alloc, file_set, &inherits, choice)?;
-    let rows = of_efforts(alloc, &inherits, rows, efforts)?;
+    let found = found_headings(alloc, file_set, &inherits, picked.searches)?;
+    let rows = log_rows(alloc, file_set, &inherits, picked.choice)?;
+    let rows = of_found(alloc, rows, found.as_slice())?;
+    let rows = of_efforts(alloc, &inherits, rows, picked.efforts)?;
     let all = rows.as_slice();
     let count = match look.limit {
         Some(limit) => all.len().min(limit as usize),
@@ -65,6 +83,21 @@ fn log_bytes(
     let files = LoadReport::new(alloc, file_set, &inherits, properties, has_lines)?;
     let files = files.with_ids(log_ids(alloc, file_set, &inherits, &all[..count], look)?);
     log_lines(alloc, &files, &all[..count], look)
+}
+
+// Those of some rows whose headings each search found.
+fn of_found(
+    alloc: Global,
+    rows: Vec<LogRow>,
+    found: &[FoundHeadings],
+) -> Result<Vec<LogRow>, AllocError> {
+    let mut some = Vec::new(alloc);
+    for row in &rows {
+        if is_sought(found, row.file, row.heading) {
+            some.push(*row)?;
+        }
+    }
+    Ok(some)
 }
 
 // Those of some rows whose headings have the efforts, if any are asked for.

@@ -1,19 +1,20 @@
 //! The command that writes a page.
 ghost use Rattle.org_client.specs.Files.{AreRead};
 
+use crate::options::RowOptions;
 use clap::ArgMatches;
-use org_answer::{Form, PrintOptions};
+use org_answer::{Form, PrintOptions, read_expression};
 use org_base::Fault;
-use org_cal::Moment;
 use org_client::{FileSet, RowIds, all_headings};
 use org_inherit::Inherits;
+use org_match::Match;
 use org_overview::{Look, Wish, overview_text};
 use org_page::{LinkTemplate, PLAIN_LINK, is_page};
 use org_save::{
     Access, Cause, Disk, Meanwhile, Name, Saved, Store, Unfit, make_file, open, replace,
 };
 use org_text::Whole;
-use orgq_args::{has_ids, profile};
+use orgq_args::{Filters, has_ids, profile};
 use orgq_files::{Asked, INPUT, asked_files};
 use orgq_messages::{
     Problem, UNWRITTEN, out_of_memory, print_all, report_unfit, report_unmade, say_of, say_saved,
@@ -29,29 +30,55 @@ const DAYS: u32 = 7;
 // What names standard output in place of a file.
 const STANDARD_OUTPUT: &str = "-";
 
-/// Prints the page that a command's own words ask for, or writes it into a file, and gives the exit status.
+/// Prints the page that a command's own words ask for, of the headings that are chosen, or writes it into a file, and gives the exit
+/// status.
 pub fn print_page(
     rt: &HostRuntime,
     matches: &ArgMatches<'_>,
     own: &ArgMatches<'_>,
-    moment: Moment,
-    options: &PrintOptions<'_, '_>,
+    options: &RowOptions<'_, '_, '_>,
+    print: &PrintOptions<'_, '_>,
 ) -> Result<u8, Problem> {
-    if options.form != Form::Plain {
+    if print.form != Form::Plain {
         return Err(Problem::Page);
     }
     let Some(template) = LinkTemplate::read(own.get_str("link").unwrap_or(PLAIN_LINK)) else {
         return Err(Problem::Link);
     };
+    // Each of the words that choose is read alone, so that what is said of one that is refused is said of that.
+    if let Err(status) = options.expressions(rt) {
+        return Ok(status);
+    }
+    let expression = one_expression(rt.alloc(), options.filters)?;
     let look = Look {
-        moment,
+        moment: options.moment,
         profile: profile(matches.get_one::<u32>("profile").unwrap_or(1)),
         template,
+        expression: expression.as_ref(),
     };
-    match Wish::of(&look, days_ahead(matches, own)) {
+    print_wish(rt, matches, own, &look)
+}
+
+// Prints the page with the days that are asked for, if the calendar has them, and gives the exit status.
+fn print_wish(
+    rt: &HostRuntime,
+    matches: &ArgMatches<'_>,
+    own: &ArgMatches<'_>,
+    look: &Look<'_>,
+) -> Result<u8, Problem> {
+    match Wish::of(look, days_ahead(matches, own)) {
         Some(wish) => print_files(rt, matches, own, &wish),
         None => Err(Problem::Days),
     }
+}
+
+// All that chooses headings as one expression, if anything does.
+fn one_expression(alloc: Global, filters: &Filters<'_, '_>) -> Result<Option<Match>, Problem> {
+    let text = filters.one_expression(alloc)?;
+    if text.is_empty() {
+        return Ok(None);
+    }
+    Ok(Some(read_expression(alloc, text.as_str())?))
 }
 
 // How many days after today are asked for, by the command's own words or by those in front of it.

@@ -2,7 +2,7 @@
 
 use crate::call::Call;
 use crate::options::{RowOptions, look_of};
-use crate::text::text_of;
+use crate::text::{Posed, text_of};
 use clap::ArgMatches;
 use org_answer::{Arrangement, Form, PrintOptions, Query, Question, check};
 use org_cal::Moment;
@@ -38,11 +38,13 @@ pub fn print_rows(
         Err(status) => return Ok(status),
     };
     let efforts = options.efforts()?;
+    let searches = options.filters.searches(rt.alloc())?;
     let question = Question {
         asked: &asked,
         profile: profile(matches.get_one::<u32>("profile").unwrap_or(1)),
         moment,
         expressions: expressions.as_slice(),
+        searches: &[],
         efforts,
         arrangement: Arrangement {
             keys: options.ordering.keys.as_slice(),
@@ -50,8 +52,13 @@ pub fn print_rows(
             today: moment.day,
         },
     };
+    let posed = Posed {
+        question: &question,
+        searches: searches.as_slice(),
+        is_quiet: matches.get_flag("quiet"),
+    };
     let look = look_of(look, asked.list(), canvas);
-    match over_files(rt, matches, call, &question, &look) {
+    match over_files(rt, matches, call, &posed, &look) {
         Err(problem) => Ok(report_of(rt, problem, &asked, options.filter())),
         Ok(status) => Ok(status),
     }
@@ -79,13 +86,12 @@ fn over_files(
     rt: &HostRuntime,
     matches: &ArgMatches<'_>,
     call: &mut Call,
-    question: &Question<'_, '_>,
+    posed: &Posed<'_, '_, '_>,
     look: &PrintOptions<'_, '_>,
 ) -> Result<u8, Problem> {
-    check(rt.alloc(), question)?;
-    let is_quiet = matches.get_flag("quiet");
+    check(rt.alloc(), posed.question)?;
     let asked = call.files(rt, matches)?;
-    let (has_row, text) = text_of(rt, &asked.file_set, question, look, is_quiet)?;
+    let (has_row, text) = text_of(rt, &asked.file_set, posed, look)?;
     let status = status_of(has_row, asked.left_out);
     match text {
         Some(text) => Ok(call.print(rt, text.as_slice(), status)),

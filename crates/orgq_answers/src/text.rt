@@ -1,37 +1,60 @@
 //! What is printed of files for a question.
 ghost use Rattle.org_client.specs.Files.{AreRead};
 
+use crate::sought::found_headings;
 use org_answer::{
-    Answer, Form, Picture, PrintOptions, Query, Question, answer, answer_bytes, arrange,
-    calendar_picture, clock_picture, day_picture, day_text, grouped_bytes, has_row, has_stamp,
-    headings_of_lines, ical_of, lines_within, picture_bytes,
+    Answer, Arrangement, Form, Picture, PrintOptions, Query, Question, answer, answer_bytes,
+    arrange, calendar_picture, clock_picture, day_picture, day_text, grouped_bytes, has_row,
+    has_stamp, headings_of_lines, ical_of, lines_within, picture_bytes,
 };
 use org_base::Fault;
 use org_client::{FileSet, LoadReport, RowIds};
 use org_inherit::Inherits;
 use org_layout::Line;
+use org_search::Search;
 use org_text::Whole;
 use orgq_args::property_names;
 use orgq_files::say_unknown;
 use std::alloc::Global;
 use std::mem::forget;
 
+/// A question of the headings that each of these searches finds, and whether no more is wanted than whether there is a row.
+#[derive(Clone, Copy)]
+pub(crate) struct Posed<'a, 'b, 'c> {
+    pub(crate) question: &'c Question<'a, 'b>,
+    pub(crate) searches: &'c [Search],
+    pub(crate) is_quiet: bool,
+}
+
 /// Whether there is a row, and what is printed, if anything is to be.
-pub fn text_of(
+pub(crate) fn text_of(
     rt: &HostRuntime,
     file_set: &FileSet<Whole>,
-    question: &Question<'_, '_>,
+    posed: &Posed<'_, '_, '_>,
     look: &PrintOptions<'_, '_>,
-    is_quiet: bool,
 ) -> Result<(bool, Option<Vec<u8>>), Fault> {
     let inherits = file_set.inherits()?;
-    if let Query::Todo(words) = question.asked {
+    if let Query::Todo(words) = posed.question.asked {
         say_unknown(rt, &inherits, words);
     }
-    let printed = if is_quiet {
-        (finds_row(rt.alloc(), &inherits, question, look)?, None)
+    let found = found_headings(rt.alloc(), file_set, &inherits, posed.searches)?;
+    let question = Question {
+        asked: posed.question.asked,
+        profile: posed.question.profile,
+        moment: posed.question.moment,
+        expressions: posed.question.expressions,
+        searches: found.as_slice(),
+        efforts: posed.question.efforts,
+        arrangement: Arrangement {
+            keys: posed.question.arrangement.keys,
+            by: posed.question.arrangement.by,
+            today: posed.question.arrangement.today,
+        },
+    };
+    let printed = if posed.is_quiet {
+        (finds_row(rt.alloc(), &inherits, &question, look)?, None)
     } else {
-        let (has_row, text) = printed_of(rt.alloc(), file_set, &inherits, question, look)?;
+        let (has_row, text) = printed_of(rt.alloc(), file_set, &inherits, &question, look)?;
         (has_row, Some(text))
     };
     // Nothing is needed but the text.

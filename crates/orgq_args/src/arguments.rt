@@ -55,6 +55,10 @@ const OF_ROWS: &str = "\
 ;effort;RANGE;Only rows of headings with so much effort: -0:30, 0:30-2:00, 1:00-
 ;limit;N;At most so many rows, the first ones";
 
+// What chooses among them by their text.
+const OF_TEXT: &str = "\
+;search;WORDS;Only rows of headings in whose text these words stand, as of search";
+
 // How the rows of lists and of each day stand.
 const OF_ORDER: &str = "\
 ;sort;KEY,..;The order of the rows, as deadline,-effort, where a minus turns a key round
@@ -106,7 +110,10 @@ d;days;N;How many days from today on, 1 to 366; without it 30
 const OF_PAGE: &str = "\
 d;days;N;How many days after today, 1 to 366; without it 7
 ;link;TEXT;Where links lead, with {file}, {name}, {line} and {before}
-o;output;FILE;The file that it is written into, in place of an older page";
+o;output;FILE;The file that it is written into, in place of an older page
+;match;EXPR;Only of headings of which the expression holds
+;tag;TAG;Only of headings with the tag; of several, with all of them
+;category;NAME;Only of headings of that category";
 
 const OF_NEXT: &str = "\
 d;days;N;How many days from today on, 1 to 366; without it 30
@@ -141,6 +148,7 @@ pub fn takes_value(name: &str) -> bool {
     is_valued(OF_ALL, name)
         || is_valued(OF_TODAY, name)
         || is_valued(OF_ROWS, name)
+        || is_valued(OF_TEXT, name)
         || is_valued(OF_ORDER, name)
         || is_valued(OF_FOLLOW, name)
 }
@@ -198,6 +206,7 @@ fn with_front<'a>(alloc: Global, command: Command<'a>) -> Result<Command<'a>, Al
     );
     let command = command.subcommand_precedence_over_arg(true).arg(path)?;
     let command = with_options(alloc, command, OF_TODAY, false)?;
+    let command = with_options(alloc, command, OF_TEXT, false)?;
     with_options(
         alloc,
         with_options(alloc, command, OF_ROWS, false)?,
@@ -223,6 +232,7 @@ fn agenda<'a>(alloc: Global) -> Result<Command<'a>, AllocError> {
     let agenda = Command::new(alloc, "agenda").about("Some days, by default today");
     let agenda = agenda.arg(day.allow_hyphen_values(true))?;
     let agenda = with_options(alloc, agenda, OF_AGENDA, false)?;
+    let agenda = with_options(alloc, agenda, OF_TEXT, false)?;
     with_options(
         alloc,
         with_options(alloc, agenda, OF_ROWS, false)?,
@@ -241,13 +251,15 @@ fn calendar<'a>(alloc: Global) -> Result<Command<'a>, AllocError> {
     let calendar = Command::new(alloc, "calendar").about("A month, a week or a year as a picture");
     let calendar = calendar.arg(view.allow_hyphen_values(true))?;
     let calendar = calendar.arg(date.allow_hyphen_values(true))?;
-    with_options(alloc, calendar, OF_CALENDAR, false)
+    let calendar = with_options(alloc, calendar, OF_CALENDAR, false)?;
+    with_options(alloc, calendar, OF_TEXT, false)
 }
 
 fn todo<'a>(alloc: Global) -> Result<Command<'a>, AllocError> {
     let keywords = words(alloc, "KEYWORD", "Keywords; without them the open ones");
     let todo = Command::new(alloc, "todo").about("The open entries, or those with some keyword");
     let todo = with_options(alloc, todo.arg(keywords)?, OF_ROWS, false)?;
+    let todo = with_options(alloc, todo, OF_TEXT, false)?;
     with_options(alloc, todo, OF_ORDER, false)
 }
 
@@ -259,6 +271,7 @@ fn match_list<'a>(alloc: Global) -> Result<Command<'a>, AllocError> {
     );
     let list = Command::new(alloc, "match").about("The entries of which an expression holds");
     let list = with_options(alloc, list.arg(expression.required(true))?, OF_ROWS, false)?;
+    let list = with_options(alloc, list, OF_TEXT, false)?;
     with_options(alloc, list, OF_ORDER, false)
 }
 
@@ -317,12 +330,9 @@ fn clocks<'a>(alloc: Global) -> Result<Command<'a>, AllocError> {
     );
     let clocks = Command::new(alloc, "clocks").about("The clock lines of some days");
     let clocks = clocks.arg(block.allow_hyphen_values(true))?;
-    with_options(
-        alloc,
-        with_options(alloc, clocks, OF_CLOCKS, false)?,
-        OF_ROWS,
-        false,
-    )
+    let clocks = with_options(alloc, clocks, OF_CLOCKS, false)?;
+    let clocks = with_options(alloc, clocks, OF_TEXT, false)?;
+    with_options(alloc, clocks, OF_ROWS, false)
 }
 
 fn log<'a>(alloc: Global) -> Result<Command<'a>, AllocError> {
@@ -336,12 +346,14 @@ fn log<'a>(alloc: Global) -> Result<Command<'a>, AllocError> {
     );
     let log = log.arg(block.allow_hyphen_values(true))?;
     let log = with_options(alloc, log, OF_LOG, false)?;
+    let log = with_options(alloc, log, OF_TEXT, false)?;
     with_options(alloc, log, OF_ROWS, false)
 }
 
 fn next<'a>(alloc: Global) -> Result<Command<'a>, AllocError> {
     let next = Command::new(alloc, "next").about("What comes next of each stamp, by time");
     let next = with_options(alloc, next, OF_NEXT, false)?;
+    let next = with_options(alloc, next, OF_TEXT, false)?;
     with_options(
         alloc,
         with_options(alloc, next, OF_ROWS, false)?,
@@ -353,6 +365,7 @@ fn next<'a>(alloc: Global) -> Result<Command<'a>, AllocError> {
 fn ical<'a>(alloc: Global) -> Result<Command<'a>, AllocError> {
     let ical = Command::new(alloc, "ical").about("Some days and all deadlines as iCalendar");
     let ical = with_options(alloc, ical, OF_ICAL, false)?;
+    let ical = with_options(alloc, ical, OF_TEXT, false)?;
     with_options(alloc, ical, OF_ROWS, false)
 }
 

@@ -287,15 +287,36 @@ fn of_table<'a, 'b>(filters: Filters<'a, 'b>, is_chart: bool) -> Result<Filters<
     Ok(filters)
 }
 
+// What chooses among the headings that a page is of.
+fn of_page<'a, 'b>(filters: Filters<'a, 'b>) -> Result<Filters<'a, 'b>, Problem> {
+    if filters.efforts.is_some() {
+        return Err(Problem::EffortOf);
+    }
+    if filters.limit.is_some() {
+        return Err(Problem::LimitOf);
+    }
+    Ok(filters)
+}
+
+// Whether a command's rows are chosen by the text of their headings.
+fn takes_words(name: &str) -> bool {
+    matches!(
+        name,
+        "agenda" | "calendar" | "clocks" | "ical" | "log" | "match" | "next" | "todo"
+    )
+}
+
 /// What chooses among the rows: words of the command itself, and words in front of it.
 pub fn read_filters<'a, 'b>(matches: &'b ArgMatches<'a>) -> Result<Filters<'a, 'b>, Problem> {
     let front = Filters::of(matches);
     match matches.subcommand() {
         None => Ok(front),
+        Some((name, _)) if front.words.is_some() && !takes_words(name) => Err(Problem::SearchOf),
         Some(("calendar", _)) if front.limit.is_some() => Err(Problem::LimitOf),
         Some(("clock", own)) if own.subcommand().is_none() => {
             of_table(Filters::of_table(own).or(&front), own.get_flag("chart"))
         }
+        Some(("page", own)) => of_page(Filters::of_table(own).or(&front)),
         Some((name, own)) if takes_filters(name) => Ok(Filters::of(own).or(&front)),
         Some(_) if front.chooses() => Err(Problem::FilterOf),
         Some(_) if front.limit.is_some() => Err(Problem::LimitOf),

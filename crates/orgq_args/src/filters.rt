@@ -1,23 +1,26 @@
 //! Which headings' rows commands show, and how many rows.
 
 use crate::efforts::read_efforts;
+use crate::search::search_of;
 use crate::terms::with_terms;
 use clap::ArgMatches;
 use org_answer::read_expression;
 use org_base::Fault;
 use org_client::Efforts;
 use org_match::Match;
+use org_search::Search;
 use orgq_messages::Problem;
 use std::alloc::{AllocError, Global};
 
-/// What rows are shown: those of headings that meet the expression, have the tags and the effort and are of the category, as many as
-/// the limit says; what isn't named leaves out none.
+/// What rows are shown: those of headings that meet the expression, have the tags and the effort, are of the category and hold the
+/// words, as many as the limit says; what isn't named leaves out none.
 #[derive(Clone, Copy, Debug)]
 pub struct Filters<'a, 'b> {
     pub expression: Option<&'a str>,
     pub tags: Option<&'b [&'a str]>,
     pub category: Option<&'a str>,
     pub efforts: Option<&'a str>,
+    pub words: Option<&'a str>,
     pub limit: Option<u32>,
 }
 
@@ -29,6 +32,7 @@ impl<'a, 'b> Filters<'a, 'b> {
             tags: None,
             category: None,
             efforts: None,
+            words: None,
             limit,
         }
     }
@@ -37,6 +41,7 @@ impl<'a, 'b> Filters<'a, 'b> {
     pub fn of(matches: &'b ArgMatches<'a>) -> Filters<'a, 'b> {
         let mut filters = Filters::of_table(matches);
         filters.efforts = matches.get_str("effort");
+        filters.words = matches.get_str("search");
         filters
     }
 
@@ -47,6 +52,7 @@ impl<'a, 'b> Filters<'a, 'b> {
             tags: matches.get_strs("tag"),
             category: matches.get_str("category"),
             efforts: None,
+            words: None,
             limit: matches.get_one::<u32>("limit"),
         }
     }
@@ -58,6 +64,7 @@ impl<'a, 'b> Filters<'a, 'b> {
             tags: self.tags.or(others.tags),
             category: self.category.or(others.category),
             efforts: self.efforts.or(others.efforts),
+            words: self.words.or(others.words),
             limit: self.limit.or(others.limit),
         }
     }
@@ -70,13 +77,22 @@ impl<'a, 'b> Filters<'a, 'b> {
             || self.efforts.is_some()
     }
 
+    /// What the words look for, if there are some: as those of the command that searches, with blanks between them.
+    pub fn searches(&self, alloc: Global) -> Result<Vec<Search>, Problem> {
+        let mut searches = Vec::new(alloc);
+        if let Some(text) = self.words {
+            add_search(&mut searches, search_of(alloc, text)?)?;
+        }
+        Ok(searches)
+    }
+
     /// The efforts, which are read.
     pub fn efforts(&self) -> Result<Option<Efforts>, Problem> {
         read_efforts(self.efforts)
     }
 
     /// All of them but efforts as one expression, which isn't read; empty where there are none.
-    pub(crate) fn one_expression(&self, alloc: Global) -> Result<String, AllocError> {
+    pub fn one_expression(&self, alloc: Global) -> Result<String, AllocError> {
         let mut terms = String::new(alloc);
         for tag in self.tags.unwrap_or(&[]) {
             write!(terms, "+{tag}")?;
@@ -102,6 +118,11 @@ impl<'a, 'b> Filters<'a, 'b> {
         }
         Ok(expressions)
     }
+}
+
+fn add_search(searches: &mut Vec<Search>, search: Search) -> Result<(), Fault> {
+    searches.push(search)?;
+    Ok(())
 }
 
 fn add(expressions: &mut Vec<Match>, expression: Match) -> Result<(), Fault> {

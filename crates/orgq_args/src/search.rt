@@ -4,11 +4,28 @@ use clap::ArgMatches;
 use org_base::Code;
 use org_search::{Refusal, Search, refusal_of};
 use orgq_messages::Problem;
-use std::alloc::Global;
+use std::alloc::{AllocError, Global};
 
 /// What the words of the command look for.
 pub fn read_search(alloc: Global, own: &ArgMatches<'_>) -> Result<Search, Problem> {
-    let words = own.get_strs("WORD").unwrap_or(&[]);
+    search_words(alloc, own.get_strs("WORD").unwrap_or(&[]))
+}
+
+/// What the words of a text look for, between which are blanks.
+pub(crate) fn search_of(alloc: Global, text: &str) -> Result<Search, Problem> {
+    let words = words_of(alloc, text)?;
+    search_words(alloc, words.as_slice())
+}
+
+fn words_of<'a>(alloc: Global, text: &'a str) -> Result<Vec<&'a str>, AllocError> {
+    let mut words = Vec::new(alloc);
+    for word in text.split_whitespace() {
+        words.push(word)?;
+    }
+    Ok(words)
+}
+
+fn search_words(alloc: Global, words: &[&str]) -> Result<Search, Problem> {
     if let Some(refusal) = refusal_of(words) {
         return Err(problem_of(refusal));
     }

@@ -134,6 +134,7 @@ pub enum Problem {
     Properties,
     /// What is for rows, of a command that has none.
     RowsAlone,
+    SearchOf,
     Severity,
     Since,
     SinceBeside,
@@ -214,7 +215,7 @@ impl Problem {
             Problem::DaysOf => "-d is an option of agenda, ical, next and page",
             Problem::DaysToo => "--days-too is for --json",
             Problem::EffortOf =>
-                "of a clock table efforts are sums: --effort before it chooses none",
+                "of a clock table and a page efforts are sums: --effort before them chooses none",
             Problem::Efforts =>
                 "--effort takes a range of efforts, as -0:30, 0:30-2:00, 1:00- or 0:45",
             Problem::EmptyWord => "search looks for no empty word",
@@ -226,7 +227,7 @@ impl Problem {
             Problem::Files =>
                 "no files: name them by -f, ORGQ_FILES, ~/.config/orgq/config or ~/.config/orgq/files",
             Problem::FilterOf =>
-                "--match, --tag, --category and --effort are options of agenda, calendar, clocks, habits, ical, log, match, next, projects, search and todo, and but for --effort of clock",
+                "--match, --tag, --category and --effort are options of agenda, calendar, clocks, habits, ical, log, match, next, projects, search and todo, and but for --effort of clock and page",
             Problem::FollowFront => "files without -f and options of rows stand after follow",
             Problem::FollowInput =>
                 "follow reads files again and again, and standard input only once",
@@ -292,6 +293,8 @@ impl Problem {
             }
             Problem::RowsAlone =>
                 "--format and --properties are for rows, which this command has none of",
+            Problem::SearchOf =>
+                "--search is an option of agenda, calendar, clocks, ical, log, match, next and todo",
             Problem::Severity => "--severity is error, warning or note",
             Problem::Since => "--since names a moment after the one that is now",
             Problem::SinceBeside => "--since goes neither with -d nor with --within",

@@ -1,7 +1,7 @@
 use Rattle.std.proofs.Common.{◌∙◌, ◌*◌, ap, map, subst, sym}
-use Rattle.org_agenda.specs.Lists.{list_rows, Open}
 use Rattle.org_overview.specs.Asked.{chart_days}
 use Rattle.org_overview.specs.Cells.{weeks_cells}
+use Rattle.org_overview.specs.Chosen.{page_tasks, told_in}
 use Rattle.org_overview.specs.Days.{day_marks}
 use Rattle.org_overview.specs.Groups.{ShowsGroups}
 use Rattle.org_overview.specs.Here.{ShowsSoon, ShowsToday}
@@ -30,8 +30,8 @@ returns-clause-value g c =
       soon = subst (λ v. ShowsSoon v.items files (rows_on scopes wish wish.moment.day)) (sym p.soon) here.soon;
       coming = ap (λ v. map day_marks v.items) p.coming ∙ dated.coming ∙ coming_at files scopes wish wish.days.0;
       month = ap (λ (m : Month). weeks_cells m.weeks.items) p.month ∙ dated.month ∙ month_at files scopes wish (7 * wish.weeks);
-      tasks = subst (λ v. ShowsGroups v.items files scopes (list_rows Open scopes)) (sym p.groups) c.in_ok-groups.ensures.value;
-      chart = subst (λ (m : Chart). ShowsChart m c.put_together.result.clocked (chart_days wish.moment.day) scopes) (sym p.chart)
-          (subst (λ n. ShowsChart c.in_ok-clocked.clocked.chart n (chart_days wish.moment.day) scopes) (sym p.minutes) clocked.chart);
+      tasks = subst (λ v. ShowsGroups v.items files scopes (page_tasks wish scopes)) (sym p.groups) c.in_ok-groups.ensures.value;
+      chart = subst (λ (m : Chart). ShowsChart m c.put_together.result.clocked (chart_days wish.moment.day) (told_in wish) scopes) (sym p.chart)
+          (subst (λ n. ShowsChart c.in_ok-clocked.clocked.chart n (chart_days wish.moment.day) (told_in wish) scopes) (sym p.minutes) clocked.chart);
       sums = ap (λ (s : Sums). sums_minutes s.rows.items) p.sums ∙ clocked.sums;
     }
