@@ -209,7 +209,8 @@ impl Problem {
             Problem::Date => {
                 "no such date; there are today, tomorrow, yesterday, mon to sun, eow, eom, eoy, such as +3d, -1w, dec 24, 24.12., 2024-02-28, and the blocks week, nextweek, lastweek, month and so on, 2024-W09, 2024-02"
             }
-            Problem::DayOf => "--plain, --columns, --lines and --ascii in front are for the agenda",
+            Problem::DayOf =>
+                "--plain, --lines and --ascii in front are for the agenda, --columns for a calendar too",
             Problem::Days => "days past 9999-12-31",
             Problem::DaysOf => "-d is an option of agenda, ical, next and page",
             Problem::DaysToo => "--days-too is for --json",
